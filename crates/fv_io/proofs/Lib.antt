@@ -1,0 +1,4 @@
+mod BufferLemmas
+mod ShelfLemmas
+mod TapeLemmas
+mod TripLemmas

@@ -1,0 +1,9 @@
+pub mod Causes
+pub mod Told
+pub mod Reading
+pub mod World
+pub mod Shared
+pub mod Trips
+pub mod Tape
+pub mod Shelf
+pub mod Sheet

@@ -1,0 +1,53 @@
+// Files by name.
+ghost use Rattle.std.specs.Prelude.{◌≡◌, ◌≤◌, ◌+◌, ◌-◌, ◌^◌, min, ℕ, Option, Some, None, IfOk, OnOk, OnErr, IsErrOf};
+ghost use Rattle.std.specs.FinMap.{get};
+ghost use Rattle.fv_io.specs.Causes.{Rose};
+ghost use Rattle.fv_io.specs.World.{World, IsHonest};
+
+use crate::{Source, Text};
+
+/// Why a file can't be read.
+#[derive(Clone, Copy, Debug, PartialEq, Eq)]
+pub enum FetchFault {
+    /// There is no file of this name.
+    NotThere,
+    /// The outside failed: the files' count of faults rose.
+    Failed,
+    /// No memory was found.
+    Memory,
+}
+
+/// Files by name. A source that was fetched is given back by `close`.
+pub trait Files {
+    type Src: Source + Send;
+
+    /// What each name stands for, where they tell it.
+    ghost world: { Self → Option World };
+
+    /// How often they failed, with the faults of the sources that were closed.
+    ghost faults: { Self → ℕ };
+
+    /// How many sources are fetched and not closed.
+    ghost given: { Self → ℕ };
+
+    /// Opens the file of this name, at its first byte.
+    fn fetch(&mut self, name: &Text) -> Result<Self::Src, FetchFault>
+        ensures given { OnOk result (given self.new ≡ given self.old + 1) }
+        ensures not_given { OnErr result (given self.new ≡ given self.old) }
+        ensures start { IfOk result (λ source. Self.Src.place source ≡ 0) }
+        ensures fresh { IfOk result (λ source. Self.Src.faults source ≡ 0) }
+        ensures told { IfOk result (λ source. (told : World) → IsHonest (world self.old) told →
+            Self.Src.bytes source ≡ get told name.now) }
+        ensures there { OnOk result ((told : World) → IsHonest (world self.old) told → get told name.now ≡ None → ⊥) }
+        ensures not_there { IsErrOf result FetchFault.NotThere → (told : World) → IsHonest (world self.old) told → get told name.now ≡ None }
+        ensures failed { IsErrOf result FetchFault.Failed → Rose (faults self.old) (faults self.new) }
+        ensures later { faults self.old ≤ faults self.new }
+        ensures world { world self.new ≡ world self.old };
+
+    /// Closes a source. Its faults count among those of the files from then on.
+    fn close(&mut self, source: Self::Src)
+        ensures given { given self.new ≡ given self.old - 1 }
+        ensures faults { min (faults self.old + Self.Src.faults source) (2 ^ 64 - 1) ≤ faults self.new }
+        ensures later { faults self.old ≤ faults self.new }
+        ensures world { world self.new ≡ world self.old };
+}

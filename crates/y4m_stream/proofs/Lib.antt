@@ -1,0 +1,9 @@
+pub mod AheadLemmas
+pub mod DigitLemmas
+pub mod FrameLemmas
+pub mod HeadLemmas
+pub mod IndexLemmas
+pub mod LawLemmas
+pub mod LineLemmas
+pub mod PlaceLemmas
+pub mod PutLemmas
