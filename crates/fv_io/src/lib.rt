@@ -8,11 +8,13 @@ mod memory;
 mod reading;
 mod sink;
 mod source;
+#[cfg(test)]
+mod tests;
 mod text;
 
 pub use files::{FetchFault, Files};
 pub use memory::{MemFiles, MemSink, MemSource, Trip};
-pub use reading::read_full;
+pub use reading::{read_full, skip};
 pub use sink::Sink;
 pub use source::{Failed, Source};
 pub use text::Text;

@@ -161,6 +161,7 @@ impl Files for MemFiles {
         ensures stopped { fetch_fails self.old ≡ true → (result ≡ Err FetchFault.Failed) × (self.new ≡ failed self.old) }
         ensures not_stopped { fetch_fails self.old ≡ false → IsErrOf result FetchFault.Failed → ⊥ }
         ensures missing { fetch_fails self.old ≡ false → entry_of self.old name.now ≡ None → (result ≡ Err FetchFault.NotThere) × (self.new ≡ called self.old) }
+        ensures memory { IsErrOf result FetchFault.Memory → self.new ≡ called self.old }
         ensures opened { IfOk result (λ source. (fetch_fails self.old ≡ false) × (option_map opened (entry_of self.old name.now) ≡ Some source) × (self.new ≡ lent self.old)) }
     {
         if self.fetch_fails() {

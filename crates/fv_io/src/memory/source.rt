@@ -160,6 +160,7 @@ impl Source for MemSource {
         // A read fails exactly at a trip, and spends it.
         ensures trips { is_err result ≡ is_some (read_trip self.old) }
         ensures spent { OnErr result (MatchOption (read_trip self.old) (self.new ≡ self.old) (λ i. self.new ≡ tripped self.old i)) }
+        ensures kept { OnErr result (buf.new ≡ buf.old) }
         ensures amount { IfOk result (λ count. count ≡ read_amount self.old (length buf.old)) }
         ensures place { IfOk result (λ count. self.new ≡ read_on self.old count) }
         ensures given { IfOk result (λ count. buf.new ≡ take count (drop self.old.place (bytes_now self.old)) ++ drop count buf.old) }

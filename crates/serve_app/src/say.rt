@@ -1,0 +1,143 @@
+// The lines on standard error. They take no memory, and a fault while one is put is ignored.
+ghost use Rattle.std.specs.Prelude.{◌≡◌, ◌≤◌, ◌++◌, flat_map, codes, decimal};
+ghost use Rattle.serve_app.specs.Lines.{Says, usage_line, read_line, write_line, memory_line, script_line, y4m_kind, input_line};
+
+use crate::fault::{InputFault, ScriptFault};
+use fv_io::{Sink, Text};
+use itoa::Buffer;
+use y4m_stream::Y4mFault;
+
+const USAGE: &str =
+    "usage: avsserve render SCRIPT [--cache C] [--threads T] [--report] [--plain] | info SCRIPT | selftest NUMBER\n";
+
+// Puts the pieces one behind the other, as far as the sink takes them.
+fn say<E: Sink>(err: &mut E, pieces: &[&str])
+    ensures said { Says (E.bytes err.old) (E.bytes err.new) (E.faults err.old) (E.faults err.new) (flat_map (λ piece. piece.now) pieces.now) }
+    ensures later { E.faults err.old ≤ E.faults err.new }
+{
+    for piece in pieces {
+        if err.put(piece.as_bytes()).is_err() {
+            return;
+        }
+    }
+}
+
+/// Says how the program is used.
+pub(crate) fn say_usage<E: Sink>(err: &mut E)
+    ensures said { Says (E.bytes err.old) (E.bytes err.new) (E.faults err.old) (E.faults err.new) usage_line }
+    ensures later { E.faults err.old ≤ E.faults err.new }
+{
+    say(err, &[USAGE]);
+}
+
+/// Says that the outside failed when it was read.
+pub(crate) fn say_read<E: Sink>(err: &mut E)
+    ensures said { Says (E.bytes err.old) (E.bytes err.new) (E.faults err.old) (E.faults err.new) read_line }
+    ensures later { E.faults err.old ≤ E.faults err.new }
+{
+    say(err, &["read fault\n"]);
+}
+
+/// Says that the outside failed when it was written.
+pub(crate) fn say_write<E: Sink>(err: &mut E)
+    ensures said { Says (E.bytes err.old) (E.bytes err.new) (E.faults err.old) (E.faults err.new) write_line }
+    ensures later { E.faults err.old ≤ E.faults err.new }
+{
+    say(err, &["write fault\n"]);
+}
+
+/// Says that memory ran out.
+pub(crate) fn say_memory<E: Sink>(err: &mut E)
+    ensures said { Says (E.bytes err.old) (E.bytes err.new) (E.faults err.old) (E.faults err.new) memory_line }
+    ensures later { E.faults err.old ≤ E.faults err.new }
+{
+    say(err, &["no memory\n"]);
+}
+
+// The kind of a stream's fault, as a line names it.
+fn y4m_fault_kind(fault: Y4mFault) -> &'static str
+    ensures { result.now ≡ y4m_kind fault }
+{
+    match fault {
+        Y4mFault::Unbuilt => "Unbuilt",
+    }
+}
+
+// Says that the script has a fault of this kind at this line.
+fn say_script_kind<E: Sink>(err: &mut E, script: &Text, line: u64, kind: &str)
+    ensures said { Says (E.bytes err.old) (E.bytes err.new) (E.faults err.old) (E.faults err.new) (codes "script fault: " ++ (script.now ++ (codes " line " ++ (decimal line ++ (codes ": " ++ (kind.now ++ codes "\n")))))) }
+    ensures later { E.faults err.old ≤ E.faults err.new }
+{
+    let mut digits = Buffer::new();
+    let line = digits.format(line);
+    say(
+        err,
+        &[
+            "script fault: ",
+            script.as_str(),
+            " line ",
+            line,
+            ": ",
+            kind,
+            "\n",
+        ],
+    );
+}
+
+/// Says what is wrong with the script of this name.
+pub(crate) fn say_script<E: Sink>(err: &mut E, script: &Text, fault: ScriptFault)
+    ensures said { Says (E.bytes err.old) (E.bytes err.new) (E.faults err.old) (E.faults err.new) (script_line script.now fault) }
+    ensures later { E.faults err.old ≤ E.faults err.new }
+{
+    match fault {
+        ScriptFault::NotThere => say_script_kind(err, script, 0, "NotThere"),
+        ScriptFault::Unbuilt => say_script_kind(err, script, 1, "Unbuilt"),
+    }
+}
+
+// Says that the input has a fault of this kind.
+fn say_input_kind<E: Sink>(err: &mut E, name: &Text, kind: &str)
+    ensures said { Says (E.bytes err.old) (E.bytes err.new) (E.faults err.old) (E.faults err.new) (codes "input fault: " ++ (name.now ++ (codes ": " ++ (kind.now ++ codes "\n")))) }
+    ensures later { E.faults err.old ≤ E.faults err.new }
+{
+    say(err, &["input fault: ", name.as_str(), ": ", kind, "\n"]);
+}
+
+// Says that the input ended at `got` when the frame was read again.
+fn say_changed<E: Sink>(err: &mut E, name: &Text, frame: u32, want: u64, got: u64)
+    ensures said { Says (E.bytes err.old) (E.bytes err.new) (E.faults err.old) (E.faults err.new) (input_line name.now (InputFault.Changed frame want got)) }
+    ensures later { E.faults err.old ≤ E.faults err.new }
+{
+    let mut frame_digits = Buffer::new();
+    let mut want_digits = Buffer::new();
+    let mut got_digits = Buffer::new();
+    let frame = frame_digits.format(frame);
+    let want = want_digits.format(want);
+    let got = got_digits.format(got);
+    say(
+        err,
+        &[
+            "input fault: ",
+            name.as_str(),
+            ": Changed ",
+            frame,
+            " want ",
+            want,
+            " got ",
+            got,
+            "\n",
+        ],
+    );
+}
+
+/// Says what is wrong with the input of this name.
+pub(crate) fn say_input<E: Sink>(err: &mut E, name: &Text, fault: InputFault)
+    ensures said { Says (E.bytes err.old) (E.bytes err.new) (E.faults err.old) (E.faults err.new) (input_line name.now fault) }
+    ensures later { E.faults err.old ≤ E.faults err.new }
+{
+    match fault {
+        InputFault::NotThere => say_input_kind(err, name, "NotThere"),
+        InputFault::Y4m(fault) => say_input_kind(err, name, y4m_fault_kind(fault)),
+        InputFault::Changed { frame, want, got } => say_changed(err, name, frame, want, got),
+    }
+}
