@@ -21,3 +21,6 @@ pub use head::print_head;
 pub use places::Index;
 pub use samples::read_frame;
 pub use write::write_frame;
+
+#[cfg(test)]
+mod tests;

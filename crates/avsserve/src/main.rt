@@ -1,0 +1,36 @@
+//! The program: `run_plain` over the real files and streams.
+#![tactic(auto)]
+
+mod real;
+
+use fv_io::{Sink, Text};
+use real::{RealFiles, RealSink};
+use serve_app::run_plain;
+use std::alloc::{AllocError, Global};
+use std::env;
+use std::process::ExitCode;
+
+// The words behind the program's name. Where the system has none to give there are none.
+fn words_of(rt: &HostRuntime, alloc: Global) -> Result<Vec<Text>, AllocError> {
+    let mut words = Vec::new(alloc);
+    let Ok(args) = env::args(rt) else {
+        return Ok(words);
+    };
+    for arg in args.skip(1) {
+        words.push(Text::from_str(alloc, arg.as_str())?)?;
+    }
+    Ok(words)
+}
+
+fn main(rt: HostRuntime) -> ExitCode {
+    let alloc = rt.alloc();
+    let mut err = RealSink::new(rt.stderr());
+    let Ok(words) = words_of(&rt, alloc) else {
+        let _ = err.put(b"no memory\n");
+        return ExitCode::from(6);
+    };
+    let mut files = RealFiles::new(&rt);
+    let mut out = RealSink::new(rt.stdout());
+    let ending = run_plain(alloc, &words, &mut files, &mut out, &mut err);
+    ExitCode::from(ending.status)
+}
