@@ -34,11 +34,6 @@ pub none_left : (size : ℕ) (left : List ℕ) → left ≡ [] → IsFrames size
 unfolding IsFrames
 none_left size left is = is
 
-pub no_more : (size m : ℕ) (left : List ℕ) → IsFrames size m left → m ≡ 0 → left ≡ []
-unfolding IsFrames
-no_more size zero left frames is = frames
-no_more size (suc m) left frames is = absurd (omega arith)
-
 pub empty_has_none : (size n : ℕ) (left : List ℕ) → left ≡ [] → 0 < n → IsFrames size n left → ⊥
 unfolding IsFrames
 empty_has_none size zero left is some frames = omega arith

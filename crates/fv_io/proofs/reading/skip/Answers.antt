@@ -1,5 +1,5 @@
 -- A piece more is behind, whole unless the bytes end.
-use Rattle.std.proofs.Common.{◌≡◌, ◌<◌, ◌+◌, ◌-◌, ℕ, length, drop, ap, ◌∙◌, arith, rules}
+use Rattle.std.proofs.Common.{◌≡◌, ◌+◌, length, drop, ap, ◌∙◌, arith, rules}
 use Rattle.std.proofs.lemmas.List.{length-append, length-drop}
 use Rattle.fv_io.proofs.reading.skip.Goals as goal
 
