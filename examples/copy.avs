@@ -1,0 +1,1 @@
+Y4MSource("examples/tiny.y4m")
