@@ -1,11 +1,11 @@
 -- The frames of a stream that was indexed.
-use Rattle.std.proofs.Common.{◌≡◌, ℕ, zero, suc, ◌+◌, ◌-◌, ◌<◌, ◌≤◌, List, [], ◌∷◌, ◌++◌, length, take, drop, get_or, Result, Ok, Err, Option, OnOk, OnErr, refl, sym, ◌∙◌, ap, arith}
+use Rattle.std.proofs.Common.{◌≡◌, ℕ, zero, suc, ◌+◌, ◌<◌, ◌≤◌, List, [], ◌∷◌, ◌++◌, length, take, drop, get_or, Option, sym, ◌∙◌, ap, arith}
 use Rattle.std.proofs.lemmas.List.{length-drop, length-take, take-append-drop}
 use Rattle.std.proofs.lemmas.List.Concat.{flat_map-append}
 use Rattle.fv_io.specs.Told.{with_piece, GetsPrefix, gets_all, gets_more}
 use Rattle.y4m_stream.specs.Stream.{frame_text, frames_text}
 use Rattle.std.specs.List.{AllByRecursion}
-use Rattle.fv_plane.specs.Format.{frame_bytes, IsLegal}
+use Rattle.fv_plane.specs.Format.{frame_bytes}
 use Rattle.y4m_stream.specs.Index.{Indexed, Indexes}
 use Rattle.y4m_stream.proofs.LawLemmas.{sizes_of}
 

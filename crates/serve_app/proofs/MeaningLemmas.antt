@@ -1,8 +1,8 @@
 -- A script means one thing at most.
-use Rattle.std.proofs.Common.{◌≡◌, ◌⊎◌, ℕ, List, [], ◌∷◌, ◌++◌, Option, Some, None, refl, sym, ◌∙◌, ap, inl, inr}
+use Rattle.std.proofs.Common.{◌≡◌, ◌⊎◌, ℕ, List, [], ◌∷◌, ◌++◌, Some, None, refl, sym, ◌∙◌, ap, inl, inr}
 use Rattle.std.specs.Prelude.{codes}
 use Rattle.std.specs.FinMap.{get}
-use Rattle.std.proofs.lemmas.List.{append_assoc, append_cancel_left, append_cancel_right, same_from_push}
+use Rattle.std.proofs.lemmas.List.{append_assoc, same_from_push}
 use Rattle.fv_io.specs.World.{World}
 use Rattle.fv_plane.specs.declared.format.Info.{Info}
 use Rattle.y4m_stream.proofs.LawLemmas.{stream_determines}
@@ -13,7 +13,8 @@ use Rattle.serve_app.specs.declared.fault.ScriptFault.TheVariants as of_script
 use Rattle.serve_app.specs.declared.fault.InputFault.{InputFault}
 use Rattle.serve_app.specs.declared.fault.InputFault.TheVariants as of_input
 use Rattle.serve_app.specs.Script.{Calls, call_of}
-use Rattle.serve_app.specs.Meaning.{Meaning, Clip, Script, Input, CallsFor, MeansClip, IsUnbuilt, IsNoStream, IsScriptFault, IsInputFault, Means, MeansOneThing}
+use Rattle.serve_app.proofs.ScriptLemmas.{one_name}
+use Rattle.serve_app.specs.Meaning.{Clip, Script, Input, CallsFor, MeansClip, IsUnbuilt, IsScriptFault, IsInputFault, MeansOneThing}
 
 -- what stands before the last bracket of a call
 abbrev front_of : List ℕ → List ℕ
@@ -22,17 +23,14 @@ front_of name = codes "Y4MSource(\"" ++ name ++ codes "\""
 call_is : (name : List ℕ) → call_of name ≡ front_of name ++ 41 ∷ []
 call_is name = ap (λ (l : List ℕ). codes "Y4MSource(\"" ++ l) (sym (append_assoc name (codes "\"") (41 ∷ [])))
 
-same_call : (name other : List ℕ) → call_of name ≡ call_of other → name ≡ other
-same_call name other same = append_cancel_right name other (codes "\")") (append_cancel_left (codes "Y4MSource(\"") (name ++ codes "\")") (other ++ codes "\")") same)
-
 apart : (name other : List ℕ) → call_of name ≡ call_of other ++ 10 ∷ [] → ⊥
 apart name other same = let ends = (same_from_push (front_of name) (call_of other) 41 10 (sym (call_is name) ∙ same)).1 in let no : ⊥ = cc in no
 
 by_form : (text name other : List ℕ) → (text ≡ call_of name) ⊎ (text ≡ call_of name ++ 10 ∷ []) → (text ≡ call_of other) ⊎ (text ≡ call_of other ++ 10 ∷ []) → name ≡ other
-by_form text name other (inl one) (inl two) = same_call name other (sym one ∙ two)
+by_form text name other (inl one) (inl two) = one_name name other (sym one ∙ two)
 by_form text name other (inl one) (inr two) = absurd (apart name other (sym one ∙ two))
 by_form text name other (inr one) (inl two) = absurd (apart other name (sym two ∙ one))
-by_form text name other (inr one) (inr two) = same_call name other (same_from_push (call_of name) (call_of other) 10 10 (sym one ∙ two)).0
+by_form text name other (inr one) (inr two) = one_name name other (same_from_push (call_of name) (call_of other) 10 10 (sym one ∙ two)).0
 
 module _ (world : World) where
   same_bytes : (name one other : List ℕ) → get world name ≡ Some one → get world name ≡ Some other → one ≡ other

@@ -5,9 +5,9 @@ use Rattle.fv_io.specs.World.{World}
 use Rattle.serve_app.specs.declared.fault.InputFault.TheVariants.{NotThere, Y4m, Changed}
 use Rattle.serve_app.specs.declared.stop.CopyStop.{CopyStop}
 use Rattle.serve_app.specs.declared.stop.CopyStop.TheVariants.{Input, Read, Write, Memory}
-use Rattle.serve_app.specs.Meaning.{CallsFor, MeansClip}
+use Rattle.serve_app.specs.Meaning.{CallsFor}
 use Rattle.serve_app.specs.Rendered.{Renders, RendersPrefix}
-use Rattle.serve_app.specs.Stops.{ExplainsCopy, ExplainsFile, IsCopyStop, IsFileStop, IsFileStream, HasClip, PutsFile, PutsFilePrefix}
+use Rattle.serve_app.specs.Stops.{ExplainsCopy, ExplainsFile, IsFileStream, HasClip, PutsFile, PutsFilePrefix}
 
 -- a file that is there has bytes
 pub bytes_of : (world : World) (name : List ℕ) → (get world name ≡ None → ⊥) → (bytes : List ℕ) × (get world name ≡ Some bytes)
@@ -25,14 +25,6 @@ explains_file world name bytes is (Input (Changed frame want got)) none = none
 explains_file world name bytes is Read none = tt
 explains_file world name bytes is Write stream = record { bytes = bytes; bytes_are = is; stream = stream }
 explains_file world name bytes is Memory none = tt
-
-pub file_stop : (stop : CopyStop) → IsCopyStop stop → IsFileStop stop
-file_stop (Input NotThere) none = absurd none
-file_stop (Input (Y4m fault)) stop = tt
-file_stop (Input (Changed frame want got)) early = early
-file_stop Read stop = tt
-file_stop Write stop = tt
-file_stop Memory stop = tt
 
 module _ (world : World) (script name : List ℕ) (called : CallsFor world script name) where
   pub has_clip : IsFileStream world name → HasClip world script

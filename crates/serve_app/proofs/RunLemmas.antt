@@ -1,5 +1,5 @@
 -- What the words ask for, and what it means.
-use Rattle.std.proofs.Common.{◌≡◌, ◌⊎◌, ℕ, List, Option, inl, inr, ap, sym}
+use Rattle.std.proofs.Common.{◌≡◌, ◌⊎◌, ℕ, List, Option, inl, inr, ap}
 use Rattle.fv_io.specs.World.{World}
 use Rattle.serve_app.specs.Words.{IsRender}
 use Rattle.serve_app.specs.Meaning.{Meaning, Means, status_of}

@@ -1,5 +1,5 @@
 -- What a stop of a copy shows.
-use Rattle.std.proofs.Common.{◌≡◌, ◌⊎◌, ℕ, List, Option, Some, Result, Ok, Err, OnOk, OnErr, IfErr, inl, inr, refl, sym, ◌∙◌, ap}
+use Rattle.std.proofs.Common.{◌≡◌, ℕ, List, Option, Result, Ok, Err, OnOk, OnErr, IfErr, ◌∙◌, ap}
 use Rattle.fv_io.specs.Told.{with_piece, with_piece_twice, GetsPrefix, gets_after}
 use Rattle.fv_plane.specs.declared.format.Info.{Info}
 use Rattle.y4m_stream.specs.Head.{head}
@@ -7,7 +7,7 @@ use Rattle.y4m_stream.specs.Stream.{Stream, frames_text}
 use Rattle.serve_app.specs.declared.fault.InputFault.TheVariants.{NotThere, Y4m, Changed}
 use Rattle.serve_app.specs.declared.stop.CopyStop.{CopyStop}
 use Rattle.serve_app.specs.declared.stop.CopyStop.TheVariants.{Input, Read, Write, Memory}
-use Rattle.serve_app.specs.Stops.{IsStream, IsUnchanged, IsFrameStop, IsCopyStop, ExplainsCopy, PutsText, PutsPrefix}
+use Rattle.serve_app.specs.Stops.{IsStream, IsUnchanged, ExplainsCopy, PutsText, PutsPrefix}
 
 -- a fact for each value, under an outcome
 pub ok_all : {T E X : Type 0} (r : Result T E) (A Q : X → Type 0) → ((x : X) → A x → OnOk r (Q x)) → OnOk r ((x : X) → A x → Q x)
@@ -34,14 +34,6 @@ explains told stream (Input (Changed frame want got)) none = none
 explains told stream Read none = tt
 explains told stream Write none = stream
 explains told stream Memory none = tt
-
-pub copy_stop : (stop : CopyStop) → IsFrameStop stop → IsCopyStop stop
-copy_stop (Input NotThere) frame = frame
-copy_stop (Input (Y4m fault)) frame = tt
-copy_stop (Input (Changed frame want got)) early = early
-copy_stop Read frame = tt
-copy_stop Write frame = tt
-copy_stop Memory frame = tt
 
 module _ (told : List ℕ) (info : Info) (frames : List (List ℕ)) (stream : Stream told info frames) (old mid new : Option (List ℕ)) (before : mid ≡ with_piece old (head info)) where
   -- the head and the frames are the text

@@ -1,11 +1,10 @@
 -- Why a copy or a render ends early, where the bytes are told.
-use Rattle.std.specs.Prelude.{◌≡◌, ℕ, ◌<◌, List, Option, Some}
+use Rattle.std.specs.Prelude.{◌≡◌, ℕ, List, Option, Some}
 use Rattle.std.specs.FinMap.{get}
 use Rattle.fv_io.specs.Told.{with_piece, GetsPrefix}
 use Rattle.fv_io.specs.World.{World}
 use Rattle.fv_plane.specs.declared.format.Info.{Info}
 use Rattle.y4m_stream.specs.Stream.{Stream, stream}
-use Rattle.serve_app.specs.declared.fault.InputFault.{InputFault}
 use Rattle.serve_app.specs.declared.fault.InputFault.TheVariants as of_input
 use Rattle.serve_app.specs.declared.stop.CopyStop.{CopyStop}
 use Rattle.serve_app.specs.declared.stop.CopyStop.TheVariants as of_copy
@@ -42,29 +41,9 @@ ExplainsCopy told of_copy.Read = Unit {0}
 ExplainsCopy told of_copy.Write = IsStream told
 ExplainsCopy told of_copy.Memory = Unit {0}
 
--- reading a frame again stops for reading alone, or where the bytes ended early
-abbrev pub IsReadStop : CopyStop → Type 0
-IsReadStop (of_copy.Input of_input.NotThere) = ⊥
-IsReadStop (of_copy.Input (of_input.Y4m fault)) = ⊥
-IsReadStop (of_copy.Input (of_input.Changed frame want got)) = got < want
-IsReadStop of_copy.Read = Unit {0}
-IsReadStop of_copy.Write = ⊥
-IsReadStop of_copy.Memory = Unit {0}
-
--- the same, and writing
-abbrev pub IsFrameStop : CopyStop → Type 0
-IsFrameStop (of_copy.Input of_input.NotThere) = ⊥
-IsFrameStop (of_copy.Input (of_input.Y4m fault)) = ⊥
-IsFrameStop (of_copy.Input (of_input.Changed frame want got)) = got < want
-IsFrameStop of_copy.Read = Unit {0}
-IsFrameStop of_copy.Write = Unit {0}
-IsFrameStop of_copy.Memory = Unit {0}
-
--- a copy never stops for a file that is not there, and bytes that ended early did so before they were wanted to
+-- bytes that ended early did so before they were wanted to
 abbrev pub IsCopyStop : CopyStop → Type 0
-IsCopyStop (of_copy.Input of_input.NotThere) = ⊥
-IsCopyStop (of_copy.Input (of_input.Y4m fault)) = Unit {0}
-IsCopyStop (of_copy.Input (of_input.Changed frame want got)) = got < want
+IsCopyStop (of_copy.Input fault) = IsEarly fault
 IsCopyStop of_copy.Read = Unit {0}
 IsCopyStop of_copy.Write = Unit {0}
 IsCopyStop of_copy.Memory = Unit {0}
@@ -114,12 +93,7 @@ ExplainsFile world name of_copy.Read = Unit {0}
 ExplainsFile world name of_copy.Write = IsFileStream world name
 ExplainsFile world name of_copy.Memory = Unit {0}
 
-abbrev pub IsFileStop : CopyStop → Type 0
-IsFileStop (of_copy.Input fault) = IsEarly fault
-IsFileStop of_copy.Read = Unit {0}
-IsFileStop of_copy.Write = Unit {0}
-IsFileStop of_copy.Memory = Unit {0}
-
+-- the same of a render
 abbrev pub IsRenderStop : Stop → Type 0
 IsRenderStop (of_render.Script fault) = Unit {0}
 IsRenderStop (of_render.Input name fault) = IsEarly fault

@@ -6,7 +6,7 @@ ghost use Rattle.fv_io.specs.Reading.{KeepsSource};
 ghost use Rattle.fv_plane.specs.Format.{IsLegal, frame_bytes};
 ghost use Rattle.y4m_stream.specs.Index.{IsIndex, Indexes};
 ghost use Rattle.y4m_stream.specs.Stream.{frame_text, frames_text};
-ghost use Rattle.serve_app.specs.Stops.{IsReadStop, IsFrameStop, IsUnchanged, IsCopyStop, ExplainsCopy, PutsText, PutsPrefix};
+ghost use Rattle.serve_app.specs.Stops.{IsUnchanged, IsCopyStop, ExplainsCopy, PutsText, PutsPrefix};
 
 use crate::fault::InputFault;
 use crate::stop::CopyStop;
@@ -32,7 +32,8 @@ fn read_samples<S: Source>(
         S.place source.new ≡ start + length samples.old) }
     ensures unchanged { (told : List ℕ) → S.bytes source.old ≡ Some told → S.place source.old ≡ place →
         start + length samples.old ≤ length told → IfErr result IsUnchanged }
-    ensures stop { IfErr result IsReadStop }
+    ensures stop { IfErr result IsCopyStop }
+    ensures write { IsErrOf result CopyStop.Write → ⊥ }
     ensures keeps { KeepsSource S.bytes S.rewinds S.faults source.old source.new }
     ensures read { IsErrOf result CopyStop.Read → Rose (S.faults source.old) (S.faults source.new) }
 {
@@ -100,7 +101,7 @@ fn copy_frames<S: Source, K: Sink>(
         OnErr result (GetsPrefix (K.bytes out.old) (K.bytes out.new) (frames_text frames)) }
     ensures unchanged { (told : List ℕ) (frames : List (List ℕ)) → S.bytes source.old ≡ Some told → Indexes told index.now frames →
         IfErr result IsUnchanged }
-    ensures stop { IfErr result IsFrameStop }
+    ensures stop { IfErr result IsCopyStop }
     ensures keeps { KeepsSource S.bytes S.rewinds S.faults source.old source.new }
     ensures later { K.faults out.old ≤ K.faults out.new }
     ensures read { IsErrOf result CopyStop.Read → Rose (S.faults source.old) (S.faults source.new) }
@@ -137,7 +138,7 @@ fn copy_indexed<S: Source, K: Sink>(
         OnErr result (GetsPrefix (K.bytes out.old) (K.bytes out.new) (frames_text frames)) }
     ensures unchanged { (told : List ℕ) (frames : List (List ℕ)) → S.bytes source.old ≡ Some told → Indexes told index.now frames →
         IfErr result IsUnchanged }
-    ensures stop { IfErr result IsFrameStop }
+    ensures stop { IfErr result IsCopyStop }
     ensures told { S.bytes source.new ≡ S.bytes source.old }
     ensures later { S.faults source.old ≤ S.faults source.new }
     ensures later_out { K.faults out.old ≤ K.faults out.new }
@@ -167,7 +168,7 @@ pub(crate) fn copy_stream<S: Source, K: Sink>(
     ensures cut { OnErr result ((told : List ℕ) → S.bytes source.old ≡ Some told →
         (K.bytes out.new ≡ K.bytes out.old) ⊎ PutsPrefix told (K.bytes out.old) (K.bytes out.new)) }
     ensures explained { IfErr result (λ stop. (told : List ℕ) → S.bytes source.old ≡ Some told → ExplainsCopy told stop) }
-    ensures early { IfErr result IsCopyStop }
+    ensures stop { IfErr result IsCopyStop }
     ensures later { S.faults source.old ≤ S.faults source.new }
     ensures later_out { K.faults out.old ≤ K.faults out.new }
     ensures read { IsErrOf result CopyStop.Read → Rose (S.faults source.old) (S.faults source.new) }

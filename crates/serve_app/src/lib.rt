@@ -11,6 +11,8 @@ mod run;
 mod say;
 mod script;
 mod stop;
+#[cfg(test)]
+mod tests;
 mod words;
 
 pub use fault::{InputFault, ScriptFault};

@@ -4,7 +4,7 @@ ghost use Rattle.fv_io.specs.Causes.{Rose};
 ghost use Rattle.fv_io.specs.World.{World, IsHonest};
 ghost use Rattle.serve_app.specs.Meaning.{CallsFor};
 ghost use Rattle.serve_app.specs.Rendered.{Renders, RendersPrefix};
-ghost use Rattle.serve_app.specs.Stops.{Explains, ExplainsFile, IsFileStop, IsRenderStop, PutsFile, PutsFilePrefix};
+ghost use Rattle.serve_app.specs.Stops.{Explains, ExplainsFile, IsCopyStop, IsRenderStop, PutsFile, PutsFilePrefix};
 
 use crate::copy::copy_stream;
 use crate::fault::{InputFault, ScriptFault};
@@ -51,7 +51,7 @@ fn copy_file<F: Files, K: Sink>(
     ensures cut { OnErr result ((world : World) → IsHonest (F.world files.old) world →
         (K.bytes out.new ≡ K.bytes out.old) ⊎ PutsFilePrefix world name.now (K.bytes out.old) (K.bytes out.new)) }
     ensures explained { IfErr result (λ stop. (world : World) → IsHonest (F.world files.old) world → ExplainsFile world name.now stop) }
-    ensures stop { IfErr result IsFileStop }
+    ensures stop { IfErr result IsCopyStop }
     ensures given { F.given files.new ≡ F.given files.old }
     ensures world { F.world files.new ≡ F.world files.old }
     ensures later { F.faults files.old ≤ F.faults files.new }

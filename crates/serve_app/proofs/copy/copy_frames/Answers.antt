@@ -1,10 +1,9 @@
 -- A frame more is put.
-use Rattle.std.proofs.Common.{◌≡◌, ◌≤◌, ◌+◌, ◌<◌, ℕ, List, [], Some, length, take, drop, get_or, ◌∙◌, ap, arith, rules}
-use Rattle.fv_io.specs.Told.{with_piece}
+use Rattle.std.proofs.Common.{◌≡◌, ◌<◌, ℕ, List, [], Some, take, drop, get_or, ◌∙◌, ap, arith, rules}
 use Rattle.fv_plane.specs.Format.{frame_bytes}
 use Rattle.y4m_stream.specs.Index.{Indexes}
-use Rattle.y4m_stream.specs.Stream.{frame_text, frames_text}
-use Rattle.y4m_stream.proofs.PutLemmas.{put_more, put_cut, one_more}
+use Rattle.y4m_stream.specs.Stream.{frame_text}
+use Rattle.y4m_stream.proofs.PutLemmas.{put_cut, one_more}
 use Rattle.serve_app.proofs.CopyLemmas.{there, frame_at, frame_ends, so_far}
 use Rattle.serve_app.proofs.copy.copy_frames.Goals as goal
 use Rattle.serve_app.proofs.copy.copy_frames.Goals.{In-Ok}

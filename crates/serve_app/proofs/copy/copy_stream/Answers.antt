@@ -1,11 +1,11 @@
 -- The head, and then the frames.
-use Rattle.std.proofs.Common.{◌≡◌, ◌⊎◌, ℕ, List, Option, Some, inl, inr, ◌∙◌, ap}
+use Rattle.std.proofs.Common.{◌≡◌, ◌⊎◌, ℕ, List, Some, inr, ◌∙◌, ap}
 use Rattle.std.proofs.lemmas.Result.{on_ok_weaker, on_err_weaker}
 use Rattle.fv_io.specs.Told.{with_piece, gets_more}
 use Rattle.y4m_stream.specs.Head.{head}
 use Rattle.y4m_stream.specs.Stream.{frames_text}
-use Rattle.serve_app.specs.Stops.{PutsText, PutsPrefix, IsUnchanged, IsFrameStop, IsCopyStop, ExplainsCopy}
-use Rattle.serve_app.proofs.StopLemmas.{ok_all, err_all, each_err, each_err_all, explains, copy_stop, puts_text, puts_prefix}
+use Rattle.serve_app.specs.Stops.{PutsText, PutsPrefix, IsUnchanged, ExplainsCopy}
+use Rattle.serve_app.proofs.StopLemmas.{ok_all, err_all, each_err, each_err_all, explains, puts_text, puts_prefix}
 use Rattle.serve_app.proofs.copy.copy_stream.Goals as goal
 use Rattle.serve_app.proofs.copy.copy_stream.Goals.{After-put, After-copy_indexed}
 use Rattle.serve_app.proofs.copy.copy_stream.Given.{Over}
@@ -44,6 +44,3 @@ returns-clause-explained g c =
     each_err_all c.copy_indexed.result (λ (told : List ℕ). g.S.Source.bytes c.args.source.now ≡ Some told) ExplainsCopy
     (λ told is. let found = c.in-Ok.ensures.found told is in
     each_err c.copy_indexed.result IsUnchanged (ExplainsCopy told) (explains told (record { info = c.in-Ok.index.info; frames = found.0; stream = found.1.stream })) (c.copy_indexed.ensures.unchanged told found.0 (c.in-Ok.ensures.keeps.told ∙ is) found.1))
-
-pub returns-clause-early : goal.returns-clause-early
-returns-clause-early g c = each_err c.copy_indexed.result IsFrameStop IsCopyStop copy_stop c.copy_indexed.ensures.stop

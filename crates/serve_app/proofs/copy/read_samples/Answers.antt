@@ -1,5 +1,5 @@
 -- Bytes that are there are read whole.
-use Rattle.std.proofs.Common.{◌≡◌, ◌+◌, ◌-◌, ◌≤◌, ℕ, length, take, drop, sym, ◌∙◌, ap, arith, rules}
+use Rattle.std.proofs.Common.{◌≡◌, length, take, drop, sym, ◌∙◌, ap, arith, rules}
 use Rattle.std.proofs.lemmas.List.{length-drop, take_all}
 use Rattle.serve_app.proofs.copy.read_samples.Goals as goal
 

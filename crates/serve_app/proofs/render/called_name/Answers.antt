@@ -1,7 +1,5 @@
 -- The script is there, and its bytes call for the file, or for none.
-use Rattle.std.proofs.Common.{◌≡◌, ℕ, List, Some, Err, ◌∙◌, rules}
-use Rattle.std.specs.FinMap.{get}
-use Rattle.fv_io.specs.World.{World, IsHonest}
+use Rattle.std.proofs.Common.{◌≡◌, Err, ◌∙◌, rules}
 use Rattle.serve_app.specs.declared.script.ScriptStop.TheVariants.{Unbuilt}
 use Rattle.serve_app.proofs.RenderLemmas.{bytes_of}
 use Rattle.serve_app.proofs.render.called_name.Goals as goal

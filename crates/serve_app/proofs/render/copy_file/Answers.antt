@@ -3,9 +3,9 @@ use Rattle.std.proofs.Common.{◌≡◌, ◌⊎◌, ℕ, List, Option, Some, inl
 use Rattle.std.proofs.lemmas.Result.{on_ok_weaker, on_err_weaker}
 use Rattle.std.specs.FinMap.{get}
 use Rattle.fv_io.specs.World.{World, IsHonest}
-use Rattle.serve_app.specs.Stops.{PutsText, PutsPrefix, PutsFile, PutsFilePrefix, ExplainsCopy, ExplainsFile, IsCopyStop, IsFileStop}
+use Rattle.serve_app.specs.Stops.{PutsPrefix, PutsFile, PutsFilePrefix, ExplainsFile}
 use Rattle.serve_app.proofs.StopLemmas.{ok_all, err_all, each_err, each_err_all}
-use Rattle.serve_app.proofs.RenderLemmas.{bytes_of, explains_file, file_stop}
+use Rattle.serve_app.proofs.RenderLemmas.{bytes_of, explains_file}
 use Rattle.serve_app.proofs.render.copy_file.Goals as goal
 
 pub returns-clause-whole : goal.returns-clause-whole

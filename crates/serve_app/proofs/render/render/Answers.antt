@@ -1,6 +1,5 @@
 -- The file that the script calls for is copied.
-use Rattle.std.proofs.Common.{◌≡◌, ◌⊎◌, ◌∙◌}
-use Rattle.fv_io.specs.World.{World, IsHonest}
+use Rattle.std.proofs.Common.{◌∙◌}
 use Rattle.serve_app.proofs.RenderLemmas.{renders, renders_prefix, has_clip}
 use Rattle.serve_app.proofs.render.render.Goals as goal
 

@@ -1,6 +1,6 @@
 -- Each ending has its cause.
-use Rattle.std.proofs.Common.{◌≡◌, ◌⊎◌, ℕ, List, Some, inl, inr, refl, ◌∙◌}
-use Rattle.serve_app.specs.Meaning.{Clip, Script, Input}
+use Rattle.std.proofs.Common.{inl, refl}
+use Rattle.serve_app.specs.Meaning.{Clip, Input}
 use Rattle.serve_app.proofs.RunLemmas.{same_status, asked_prefix}
 use Rattle.serve_app.proofs.run.run_plain.Goals as goal
 
