@@ -111,14 +111,8 @@ fn copy_frames<S: Source, K: Sink>(
     let mut place = 0;
     for frame in 0..info.frames {
         let start = index.offset(frame);
-        match read_samples(source, frame, place, start, samples) {
-            Ok(()) => {}
-            Err(stop) => return Err(stop),
-        }
-        match put_frame(alloc, out, info.shape, samples) {
-            Ok(()) => {}
-            Err(stop) => return Err(stop),
-        }
+        read_samples(source, frame, place, start, samples)?;
+        put_frame(alloc, out, info.shape, samples)?;
         place = start + samples.len() as u64;
     }
     Ok(())

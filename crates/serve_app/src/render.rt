@@ -89,10 +89,7 @@ pub(crate) fn render<F: Files, K: Sink>(
     ensures read { IsErrOf result Stop.Read → Rose (F.faults files.old) (F.faults files.new) }
     ensures write { IsErrOf result Stop.Write → Rose (K.faults out.old) (K.faults out.new) }
 {
-    let name = match called_name(alloc, files, script) {
-        Ok(name) => name,
-        Err(stop) => return Err(stop),
-    };
+    let name = called_name(alloc, files, script)?;
     match copy_file(alloc, files, out, &name) {
         Ok(()) => Ok(()),
         Err(CopyStop::Input(fault)) => Err(Stop::Input(name, fault)),

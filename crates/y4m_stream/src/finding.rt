@@ -67,17 +67,10 @@ pub fn index<S: Source>(alloc: Global, source: &mut S) -> Result<Index, IndexFau
         Ok(()) => {}
         Err(Failed) => return Err(IndexFault::Read),
     }
-    let (info, start) = match find_head(alloc, ahead.bytes()) {
-        Ok(head) => head,
-        Err(fault) => return Err(fault),
-    };
+    let (info, start) = find_head(alloc, ahead.bytes())?;
     ahead.consume(start);
     let size = info.shape.bytes() as usize;
-    match find_frames(alloc, source, &mut ahead, size, start as u64) {
-        Ok(offsets) => {
-            let frames = offsets.len() as u32;
-            Ok(Index::new(Info { frames, ..info }, offsets))
-        }
-        Err(fault) => Err(fault),
-    }
+    let offsets = find_frames(alloc, source, &mut ahead, size, start as u64)?;
+    let frames = offsets.len() as u32;
+    Ok(Index::new(Info { frames, ..info }, offsets))
 }
