@@ -1,7 +1,8 @@
 -- Bytes that were read ahead, and what is left behind them.
-use Rattle.std.proofs.Common.{◌≡◌, ◌≢◌, ℕ, suc, get_or, ◌+◌, ◌-◌, ◌<◌, ◌≤◌, List, [], ◌∷◌, ◌++◌, length, take, drop, sym, ◌∙◌, ap, arith}
-use Rattle.std.proofs.lemmas.List.{drop-drop, drop-take, take-append-drop, drop-append-le, length-append, length-drop, length-take-le, nil_from_length, append_assoc, append_cancel_left}
-use Rattle.std.proofs.Math.Seq.{drop-cons}
+use Rattle.std.proofs.Common.{◌≡◌, ℕ, ◌+◌, ◌-◌, ◌<◌, ◌≤◌, List, [], ◌++◌, length, take, drop, sym, ◌∙◌, ap, arith}
+use Rattle.std.proofs.lemmas.List.{drop-drop, drop-take, take-append-drop, drop-append-le, length-append, length-drop, length-take, length-take-le, take_at, drop_at, take-append-le, nil_from_length, append_assoc}
+use Rattle.std.proofs.Math.Seq.{take-add, paste}
+use Rattle.std.proofs.lemmas.List.Edits.{length-paste, take-paste}
 use Rattle.fv_io.specs.Reading.{Fills}
 use Rattle.y4m_stream.specs.Ahead.{Skips}
 
@@ -11,16 +12,49 @@ consumed buf start end count inside =
     ap (λ (l : List ℕ). take (end - (start + count)) l) (ap (λ n. drop n buf) (omega arith) ∙ sym (drop-drop count start buf))
     ∙ sym (ap (λ n. drop count (take n (drop start buf))) (let e : end - start ≡ count + (end - (start + count)) = omega arith in e) ∙ drop-take count (end - (start + count)) (drop start buf))
 
-module _ (told buf : List ℕ) (place now count most : ℕ) (fills : Fills (drop place told) count buf) (moved : now ≡ place + count) where
-  -- a window with what was read, and what is left behind it
-  pub refilled : take count buf ++ drop now told ≡ drop place told
+-- bytes in the place of those from a place on
+abbrev pub put_from : ℕ → ℕ → List ℕ → List ℕ → List ℕ
+put_from at size buf piece = take at buf ++ (piece ++ drop size (drop at buf))
+
+-- bytes are moved to the front, and a piece is read behind them
+module _ (told buf moved piece : List ℕ) (start have place now count : ℕ) (is_moved : moved ≡ paste buf 0 (drop start buf) have) (few : have ≤ length (drop start buf)) (fills : Fills (drop place told) count piece) (bound : count ≤ length piece)
+    (here : now ≡ place + count) where
+  abbrev put : List ℕ
+  put = put_from have (length moved - have) moved piece
+
+  moved_size : length moved ≡ length buf
+  moved_size = ap length is_moved ∙ length-paste buf 0 (drop start buf) have (omega (arith, few, length-drop start buf)) few
+
+  front : take have moved ≡ take have (drop start buf)
+  front = ap (λ (l : List ℕ). take have l) is_moved ∙ ap (λ n. take n (paste buf 0 (drop start buf) have)) (let e : have ≡ 0 + have = omega arith in e) ∙ take-paste buf 0 (drop start buf) have (omega arith) few
+
+  inside : have ≤ length moved
+  inside = omega (arith, moved_size, few, length-drop start buf)
+
+  window : take (have + count) put ≡ take have (drop start buf) ++ take count piece
+  window =
+      take-add have count put
+      ∙ ap (λ (l : List ℕ). l ++ take count (drop have put)) (take_at (take have moved) _ have (length-take-le have moved inside) ∙ front)
+      ∙ ap (λ (l : List ℕ). take have (drop start buf) ++ take count l) (drop_at (take have moved) _ have (length-take-le have moved inside))
+      ∙ ap (λ (l : List ℕ). take have (drop start buf) ++ l) (take-append-le count piece _ bound)
+
+  -- the window with what was read, and what is left behind it
+  pub refilled : take (have + count) put ++ drop now told ≡ take have (drop start buf) ++ drop place told
   refilled =
-      ap (λ (l : List ℕ). l ++ drop now told) fills.given ∙ ap (λ n. take count (drop place told) ++ drop n told) (moved ∙ omega arith)
-      ∙ ap (λ (l : List ℕ). take count (drop place told) ++ l) (sym (drop-drop count place told)) ∙ take-append-drop count (drop place told)
+      ap (λ (l : List ℕ). l ++ drop now told) window ∙ append_assoc (take have (drop start buf)) (take count piece) (drop now told)
+      ∙ ap (λ (l : List ℕ). take have (drop start buf) ++ l)
+      (ap (λ (l : List ℕ). l ++ drop now told) fills.given ∙ ap (λ n. take count (drop place told) ++ drop n told) (here ∙ omega arith)
+      ∙ ap (λ (l : List ℕ). take count (drop place told) ++ l) (sym (drop-drop count place told)) ∙ take-append-drop count (drop place told))
+
+  pub put_size : length piece ≡ length moved - have → length put ≡ length buf
+  put_size room = simp (length-append, length-take, length-drop) (omega (arith, room, moved_size, inside))
+
+  pub window_size : length (take (have + count) put) ≡ have + count
+  window_size = ap length window ∙ length-append (take have (drop start buf)) (take count piece) ∙ (let front = length-take-le have (drop start buf) few in let back = length-take-le count piece bound in omega arith)
 
   -- a window that isn't full has all that was left
-  pub nothing_left : most ≡ length buf → count < most → drop now told ≡ []
-  nothing_left size short = nil_from_length (drop now told) (let ended = fills.ended (omega arith) in omega (arith, length-drop now told, length-drop place told, ended, moved))
+  pub nothing_left : count < length piece → drop now told ≡ []
+  nothing_left short = nil_from_length (drop now told) (let ended = fills.ended short in omega (arith, length-drop now told, length-drop place told, ended, here))
 
 -- some more bytes are gone
 pub gone : (start left after ahead told : List ℕ) (place done count : ℕ) → left ≡ drop done start → left ≡ ahead ++ drop place told → count ≤ length ahead → after ≡ drop count ahead
@@ -34,16 +68,3 @@ all_gone start left done size is none inside few = record {
   amount = omega (arith, ap length (sym is ∙ none), length-drop done start);
   rest = is;
 }
-
--- a word of which another byte came does not stand there
-pub another_byte : (left word rest : List ℕ) (byte : ℕ) (after : List ℕ) (i : ℕ) → left ≡ take i word ++ (byte ∷ after) → i < length word → byte ≢ get_or word i 0 → left ≡ word ++ rest → ⊥
-another_byte left word rest byte after i came within other is =
-    let word_is : word ≡ take i word ++ (get_or word i 0 ∷ drop (suc i) word) = sym (take-append-drop i word) ∙ ap (λ (l : List ℕ). take i word ++ l) (drop-cons word i 0 within) in
-    let split : word ++ rest ≡ take i word ++ (get_or word i 0 ∷ (drop (suc i) word ++ rest)) = ap (λ (l : List ℕ). l ++ rest) word_is ∙ append_assoc (take i word) _ rest in
-    let same = append_cancel_left (take i word) (byte ∷ after) (get_or word i 0 ∷ (drop (suc i) word ++ rest)) (sym came ∙ is ∙ split) in
-    other (let e : byte ≡ get_or word i 0 = cc in e)
-
--- a word does not stand where the bytes end before it does
-pub too_short : (left word rest after : List ℕ) (i : ℕ) → left ≡ take i word ++ after → after ≡ [] → i < length word → left ≡ word ++ rest → ⊥
-too_short left word rest after i came none within is =
-    omega (arith, ap length (sym is ∙ came), length-append word rest, length-append (take i word) after, ap length none, length-take-le i word (omega arith))

@@ -1,57 +1,103 @@
--- Whole frames, counted from the front.
-use Rattle.std.proofs.Common.{◌≡◌, ℕ, zero, suc, ◌+◌, ◌<◌, List, [], ◌∷◌, ◌++◌, length, drop, inl, inr, ◌∙◌, ap, arith}
-use Rattle.std.proofs.lemmas.List.{length-append, get_or_append_left, get_or_at}
-use Rattle.std.proofs.lemmas.Bool.{cases_lt}
-use Rattle.y4m_stream.specs.Frames.{HasFrame, IsFrames, AreOffsets, place_of}
+-- One frame more, and what is wrong where none stands.
+use Rattle.std.proofs.Common.{◌≡◌, ℕ, ◌+◌, ◌<◌, ◌≤◌, List, [], ◌∷◌, ◌++◌, length, take, drop, Some, None, is_none, Bool, true, false, ◌||◌, inl, inr, refl, sym, ◌∙◌, ap, arith, eq-eqb, ne_eqb}
+use Rattle.std.specs.List.{position, position_or_len, after_first}
+use Rattle.std.proofs.lemmas.List.{drop-append-le, length-append, drop-drop, map-append, get_or_append_left, get_or_at}
+use Rattle.std.proofs.lemmas.Bool.{cases_lt, lt-ltb, le-ltb}
+use Rattle.y4m_stream.specs.declared.fault.Y4mFault.TheVariants.{NoFrames, TooManyFrames, BadFrame, Truncated}
+use Rattle.y4m_stream.specs.Ahead.{Skips}
+use Rattle.y4m_stream.specs.Frames.{IsNext, AreApart, samples_at}
+use Rattle.y4m_stream.specs.Stream.{is_newline, is_bad, is_cut, fault_behind, IsFrame, FramesThen}
+use Rattle.y4m_stream.proofs.PlaceLemmas.{position_or_len-append}
+use Rattle.y4m_stream.proofs.WindowLemmas.{same_bad}
 
-pub not_empty : (size : ℕ) (left : List ℕ) → HasFrame size left → left ≡ [] → ⊥
-not_empty size left has is = absurd (let none : length left ≡ 0 = ap length is in let long = has.long in omega arith)
+-- what is wrong behind so many frames
+module _ (size k : ℕ) where
+  pub nothing_first : (left : List ℕ) → left ≡ [] → k ≡ 0 → fault_behind size k left ≡ Some NoFrames
+  nothing_first [] is none = rw none refl
+  nothing_first (byte ∷ left) is none = absurd (let no : ⊥ = cc in no)
 
-module _ (size k : ℕ) (start left after : List ℕ) (has : HasFrame size left) (is : after ≡ drop (6 + size) left) where
-  pub back_more : ((n : ℕ) → IsFrames size n left → IsFrames size (k + n) start) → (n : ℕ) → IsFrames size n after → IsFrames size (k + 1 + n) start
-  unfolding IsFrames
-  back_more back n frames =
-      let rest : IsFrames size n (drop (6 + size) left) = rw is at frames in
-      let whole : IsFrames size (k + suc n) start = back (suc n) (has, rest) in
-      let same : k + suc n ≡ k + 1 + n = omega arith in
-      rw same at whole
+  pub too_many : (left : List ℕ) → 0 < length left → k ≡ 1000000 → fault_behind size k left ≡ Some TooManyFrames
+  too_many [] some most = absurd (omega arith)
+  too_many (byte ∷ left) some most = rw (eq-eqb k 1000000 most) refl
 
-  one_less : (n m : ℕ) → n ≡ k + m → IsFrames size m left → (less : ℕ) × (n ≡ k + 1 + less) × IsFrames size less after
-  unfolding IsFrames
-  one_less n zero same frames = absurd (not_empty size left has frames)
-  one_less n (suc m) same frames = (m, omega arith, rw is frames.1)
+  pub bad_next : (left : List ℕ) → 0 < length left → (k ≡ 1000000 → ⊥) → is_bad left ≡ true → fault_behind size k left ≡ Some (BadFrame k)
+  bad_next [] some few bad = absurd (omega arith)
+  bad_next (byte ∷ left) some few bad = rw (ne_eqb k 1000000 few, bad) refl
 
-  pub on_more : ((n : ℕ) → IsFrames size n start → (m : ℕ) × (n ≡ k + m) × IsFrames size m left) → (n : ℕ) → IsFrames size n start → (m : ℕ) × (n ≡ k + 1 + m) × IsFrames size m after
-  on_more on n frames = one_less n (on n frames).0 (on n frames).1 (on n frames).2
+  pub cut_next : (left : List ℕ) → 0 < length left → (k ≡ 1000000 → ⊥) → is_bad left ≡ false → is_cut size left ≡ true → fault_behind size k left ≡ Some (Truncated k)
+  cut_next [] some few good cut = absurd (omega arith)
+  cut_next (byte ∷ left) some few good cut = rw (ne_eqb k 1000000 few, good, cut) refl
 
--- nothing is left, or a frame is
-pub some_left : (size m : ℕ) (left : List ℕ) → IsFrames size m left → (left ≡ [] → ⊥) → (HasFrame size left → ⊥) → ⊥
-unfolding IsFrames
-some_left size zero left frames none broken = none frames
-some_left size (suc m) left frames none broken = broken frames.0
+or_true : (b : Bool) → (b || true) ≡ true
+or_true true = refl
+or_true false = refl
 
-pub none_left : (size : ℕ) (left : List ℕ) → left ≡ [] → IsFrames size 0 left
-unfolding IsFrames
-none_left size left is = is
+found_some : (left : List ℕ) → position_or_len is_newline left < length left → is_none (position is_newline left) ≡ false
+found_some left inside = rw (lt-ltb (position_or_len is_newline left) (length left) inside) refl
 
-pub empty_has_none : (size n : ℕ) (left : List ℕ) → left ≡ [] → 0 < n → IsFrames size n left → ⊥
-unfolding IsFrames
-empty_has_none size zero left is some frames = omega arith
-empty_has_none size (suc n) left is some frames = not_empty size left frames.0 is
+pub no_end : (size : ℕ) (left : List ℕ) → position is_newline left ≡ None → is_cut size left ≡ true
+no_end size left none = rw none refl
 
-pub from_start : (size k : ℕ) (start left : List ℕ) → left ≡ [] → ((n : ℕ) → IsFrames size n left → IsFrames size (k + n) start) → IsFrames size k start
-from_start size k start left is back = let same : k + 0 ≡ k = omega arith in rw same at (back 0 (none_left size left is))
+-- the head is behind, and so many samples were gone past
+module _ (left window rest after : List ℕ) (len size count : ℕ) (is : left ≡ window ++ rest) (enough : length window < 4096 → rest ≡ []) (good : is_bad window ≡ false)
+    (len_is : len ≡ position_or_len is_newline window + 1) (inside : len ≤ length window) (skips : Skips (drop len window ++ rest) after size count) where
+  place : position_or_len is_newline left ≡ position_or_len is_newline window
+  place = ap (position_or_len is_newline) is ∙ position_or_len-append is_newline window rest (omega arith)
 
--- the place behind a frame more
-pub place_of-suc : (start size k : ℕ) → place_of start size k + (6 + size) ≡ place_of start size (k + 1)
-place_of-suc start size k = grind arith
+  ends : is_none (position is_newline left) ≡ false
+  ends = found_some left (omega (arith, place, ap length is, length-append window rest))
 
--- one place more is known
-pub more_offsets : (start size k place : ℕ) (offsets : List ℕ) → AreOffsets start size k offsets → place ≡ place_of start size k → AreOffsets start size (k + 1) (offsets ++ (place + 6) ∷ [])
-more_offsets start size k place offsets known here = record {
-  count = omega (arith, length-append offsets ((place + 6) ∷ []), known.count);
-  each = λ n within. elim (cases_lt n k) [
-    | inl before ↦ get_or_append_left offsets ((place + 6) ∷ []) 0 n (omega (arith, known.count)) ∙ known.each n before
-    | inr last ↦ (let is : length offsets ≡ n = omega (arith, known.count) in get_or_at offsets (place + 6) [] 0 n is ∙ ap (λ p. p + 6) here ∙ ap (λ m. place_of start size m + 6) (let e : k ≡ n = omega arith in e))
+  behind : after_first is_newline left ≡ drop len window ++ rest
+  behind = ap (λ n. drop n left) (ap (λ n. n + 1) place ∙ sym len_is) ∙ ap (λ (l : List ℕ). drop len l) is ∙ drop-append-le len window rest inside
+
+  pub good_head : is_bad left ≡ false
+  good_head = same_bad left window rest is enough ∙ good
+
+  pub short_of : count < size → is_cut size left ≡ true
+  short_of few = rw (lt-ltb (length (after_first is_newline left)) size (omega (arith, few, skips.amount, ap length behind))) (or_true (is_none (position is_newline left)))
+
+  pub next : count ≡ size → IsNext len size left after
+  next whole = record {
+    len_is = len_is ∙ ap (λ n. n + 1) (sym place);
+    frame = record {
+      good = good_head;
+      whole = rw (ends, le-ltb (length (after_first is_newline left)) size (omega (arith, whole, skips.amount, ap length behind))) refl;
+      samples_are = ap (λ n. take size (drop n left)) (len_is ∙ ap (λ n. n + 1) (sym place));
+      rest_is = skips.rest ∙ ap (λ n. drop n (drop len window ++ rest)) whole ∙ ap (λ (l : List ℕ). drop size l) (sym behind);
+    };
+  }
+
+-- one frame more behind the others
+pub frames_more : (size : ℕ) (text : List ℕ) (frames : List (List ℕ)) (rest samples behind : List ℕ) → FramesThen size text frames rest → IsFrame size rest samples behind → FramesThen size text (frames ++ samples ∷ []) behind
+frames_more size text [] rest samples behind none frame = (behind, rw none at frame, refl)
+frames_more size text (first ∷ frames) rest samples behind then frame = (then.0, then.1, frames_more size then.0 frames rest samples behind then.2 frame)
+
+-- what is left behind a frame at a place
+module _ (told : List ℕ) (size place len : ℕ) (after : List ℕ) (next : IsNext len size (drop place told) after) where
+  samples_there : take size (drop len (drop place told)) ≡ take size (drop (place + len) told)
+  samples_there = ap (λ (l : List ℕ). take size l) (drop-drop len place told)
+
+  pub left_there : after ≡ drop (place + len + size) told
+  left_there =
+      let frame = next.frame in
+      frame.rest_is ∙ ap (λ n. drop size (drop n (drop place told))) (sym next.len_is) ∙ ap (λ (l : List ℕ). drop size l) (drop-drop len place told) ∙ drop-drop size (place + len) told
+
+  pub more_frames : (text : List ℕ) (offsets : List ℕ) → FramesThen size text (samples_at told size offsets) (drop place told) → FramesThen size text (samples_at told size (offsets ++ (place + len) ∷ [])) (drop (place + len + size) told)
+  more_frames text offsets before =
+      let frame : IsFrame size (drop place told) (take size (drop (place + len) told)) (drop (place + len + size) told) = rw (samples_there, left_there) at next.frame in
+      rw (map-append (λ offset. take size (drop offset told)) offsets ((place + len) ∷ [])) (frames_more size text (samples_at told size offsets) (drop place told) _ _ before frame)
+
+-- one place more
+pub more_apart : (size place len : ℕ) (offsets : List ℕ) → AreApart size place offsets → AreApart size (place + len + size) (offsets ++ (place + len) ∷ [])
+more_apart size place len offsets before = record {
+  apart = λ n within. elim (cases_lt (n + 1) (length offsets)) [
+    | inl inner ↦ rw (get_or_append_left offsets ((place + len) ∷ []) 0 n (omega (arith, inner)), get_or_append_left offsets ((place + len) ∷ []) 0 (n + 1) inner) (before.apart n inner)
+    | inr last ↦ (let here : length offsets ≡ n + 1 = omega (arith, within, last, length-append offsets ((place + len) ∷ [])) in
+        let ended = before.ends n (omega arith) in
+        rw (get_or_append_left offsets ((place + len) ∷ []) 0 n (omega arith), get_or_at offsets (place + len) [] 0 (n + 1) here) (omega arith))
+  ];
+  ends = λ n within. elim (cases_lt n (length offsets)) [
+    | inl inner ↦ (let ended = before.ends n inner in rw (get_or_append_left offsets ((place + len) ∷ []) 0 n inner) (omega arith))
+    | inr last ↦ (let here : length offsets ≡ n = omega (arith, within, last, length-append offsets ((place + len) ∷ [])) in rw (get_or_at offsets (place + len) [] 0 n here) (omega arith))
   ];
 }

@@ -1,81 +1,57 @@
--- The head as it is written, from its front.
-use Rattle.std.proofs.Common.{◌≡◌, ℕ, ◌<◌, ◌≤◌, List, [], ◌∷◌, ◌++◌, length, refl, sym, ◌∙◌, ap, arith, codes}
-use Rattle.std.proofs.lemmas.List.{append_assoc, append-nil, length-append, same_from_push}
-use Rattle.std.proofs.lemmas.Fmt.{length-decimal-le}
-use Rattle.std.specs.Fmt.{decimal}
-use Rattle.fv_plane.specs.declared.format.Field.{Field}
-use Rattle.fv_plane.specs.declared.format.Field.TheVariants.{Progressive, Top, Bottom, Unknown}
-use Rattle.fv_plane.specs.declared.format.Info.{Info}
-use Rattle.y4m_stream.specs.Head.{field_name, colour_name, head_line, head}
-use Rattle.y4m_stream.specs.Stream.{IsPlain}
+-- The head with which bytes begin.
+use Rattle.std.proofs.Common.{◌≡◌, ℕ, ◌+◌, ◌-◌, ◌≤◌, List, take, drop, Some, None, Bool, true, false, nat_eq, slice_index, refl, sym, ◌∙◌, ap, arith}
+use Rattle.std.specs.List.{position, position_or_len, starts_with, slice_split}
+use Rattle.std.proofs.lemmas.List.{drop-take}
+use Rattle.std.proofs.lemmas.Bool.{and_parts}
+use Rattle.std.proofs.lemmas.Bool.Decides.{Decides-eqb}
+use Rattle.std.proofs.lemmas.Slice.Eq.{starts_is}
+use Rattle.y4m_stream.specs.Line.{IsLine}
+use Rattle.y4m_stream.specs.declared.fault.Y4mFault.TheVariants.{NotY4m, HeadTooLong}
+use Rattle.y4m_stream.specs.Head.{magic}
+use Rattle.y4m_stream.specs.Parameters.{info_of}
+use Rattle.y4m_stream.specs.Stream.{is_space, is_newline, is_break, has_magic, has_line, parameters, head_fault, head_info}
+use Rattle.y4m_stream.proofs.PlaceLemmas.{line_found, position_or_len-take}
 
--- the head without its newline, and then a rest
-unfoldable pub words_then : Info → List ℕ → List ℕ
-words_then info rest =
-    codes "YUV4MPEG2 W" ++ (decimal info.shape.width ++ (codes " H" ++ (decimal info.shape.height ++ (codes " F" ++ (decimal info.num ++ (codes ":" ++ (decimal info.den
-    ++ (codes " I" ++ (field_name info.field ++ (codes " A" ++ (decimal info.par.num ++ (codes ":" ++ (decimal info.par.den ++ (codes " C" ++ (colour_name info.shape.kind info.tag ++ rest)))))))))))))))
+pub no_magic : (bytes : List ℕ) → has_magic bytes ≡ false → head_fault bytes ≡ Some NotY4m
+no_magic bytes is = rw is refl
 
--- words joined at spaces, from their front
-module _ (width height num den field par_num par_den colour rest : List ℕ) where
-  abbrev from_colour : List ℕ
-  from_colour = codes " C" ++ colour
+pub no_line : (bytes : List ℕ) → has_magic bytes ≡ true → position is_newline (take 4096 bytes) ≡ None → head_fault bytes ≡ Some HeadTooLong
+no_line bytes magic_is is = rw (magic_is, is) refl
 
-  abbrev from_par : List ℕ
-  from_par = codes " A" ++ ((par_num ++ (codes ":" ++ par_den)) ++ from_colour)
+-- the first line is as long as the magic word
+behind_magic : (bytes : List ℕ) (end : ℕ) → has_magic bytes ≡ true → position is_newline (take 4096 bytes) ≡ Some end → 9 ≤ end
+behind_magic bytes end magic_is is =
+    let front : take 9 bytes ≡ magic = ap (λ (l : List ℕ). take 9 l) ((starts_is Decides-eqb bytes magic (starts_with nat_eq bytes magic) refl).0 (and_parts (starts_with nat_eq bytes magic) (is_break (slice_index bytes 9)) magic_is).0) in
+    let at = line_found bytes end is in
+    let size : position_or_len is_newline (take 9 bytes) ≡ 9 = ap (position_or_len is_newline) front in
+    let least = position_or_len-take is_newline 9 bytes in
+    omega (arith, size, least, at.0)
 
-  abbrev from_field : List ℕ
-  from_field = codes " I" ++ (field ++ from_par)
+-- the line that was found
+pub is_line : (bytes : List ℕ) (end : ℕ) → has_magic bytes ≡ true → position is_newline (take 4096 bytes) ≡ Some end → IsLine bytes end
+is_line bytes end magic_is is =
+    let more = behind_magic bytes end magic_is is in
+    let at = line_found bytes end is in
+    let whole : end ≡ 9 + (end - 9) = omega (arith, more) in
+    record {
+      end_is = at.0;
+      long = more;
+      short = at.2;
+      inside = at.1;
+      parts = ap (λ (l : List ℕ). slice_split is_space l) (sym (drop-take 9 (end - 9) bytes) ∙ ap (λ n. drop 9 (take n bytes)) (sym whole ∙ at.0));
+      fault = rw (magic_is, is) refl;
+    }
 
-  abbrev from_rate : List ℕ
-  from_rate = codes " F" ++ ((num ++ (codes ":" ++ den)) ++ from_field)
+-- the parameters count no frames
+pub uncounted : (bytes : List ℕ) → info_of (parameters bytes) ≡ head_info bytes 0
+unfolding info_of
+uncounted bytes = refl
 
-  abbrev from_height : List ℕ
-  from_height = codes " H" ++ (height ++ from_rate)
+line_of_sound : (bytes : List ℕ) (magic_is line : Bool) → has_magic bytes ≡ magic_is → has_line bytes ≡ line → head_fault bytes ≡ None → line ≡ true
+line_of_sound bytes magic_is true first second sound = refl
+line_of_sound bytes true false first second sound = absurd (let no = rw (first, second) at sound in let never : ⊥ = cc in never)
+line_of_sound bytes false false first second sound = absurd (let no = rw first at sound in let never : ⊥ = cc in never)
 
-  par_then : from_par ++ rest ≡ codes " A" ++ (par_num ++ (codes ":" ++ (par_den ++ (from_colour ++ rest))))
-  par_then = ap (λ (l : List ℕ). codes " A" ++ l) (append_assoc (par_num ++ (codes ":" ++ par_den)) from_colour rest ∙ append_assoc par_num (codes ":" ++ par_den) (from_colour ++ rest))
-
-  field_then : from_field ++ rest ≡ codes " I" ++ (field ++ (codes " A" ++ (par_num ++ (codes ":" ++ (par_den ++ (from_colour ++ rest))))))
-  field_then = ap (λ (l : List ℕ). codes " I" ++ l) (append_assoc field from_par rest ∙ ap (λ (l : List ℕ). field ++ l) par_then)
-
-  rate_then : from_rate ++ rest ≡ codes " F" ++ (num ++ (codes ":" ++ (den ++ (codes " I" ++ (field ++ (codes " A" ++ (par_num ++ (codes ":" ++ (par_den ++ (from_colour ++ rest))))))))))
-  rate_then =
-      ap (λ (l : List ℕ). codes " F" ++ l)
-      (append_assoc (num ++ (codes ":" ++ den)) from_field rest ∙ append_assoc num (codes ":" ++ den) (from_field ++ rest) ∙ ap (λ (l : List ℕ). num ++ (codes ":" ++ (den ++ l))) field_then)
-
-  words_joined : codes "YUV4MPEG2 W" ++ ((width ++ from_height) ++ rest)
-      ≡ codes "YUV4MPEG2 W" ++ (width ++ (codes " H" ++ (height ++ (codes " F" ++ (num ++ (codes ":" ++ (den ++ (codes " I" ++ (field ++ (codes " A" ++ (par_num ++ (codes ":" ++ (par_den ++ (from_colour ++ rest))))))))))))))
-  words_joined =
-      ap (λ (l : List ℕ). codes "YUV4MPEG2 W" ++ l)
-      (append_assoc width from_height rest ∙ ap (λ (l : List ℕ). width ++ (codes " H" ++ l)) (append_assoc height from_rate rest ∙ ap (λ (l : List ℕ). height ++ l) rate_then))
-
--- a line that begins with the written words, from its front
-pub words_then_is : (info : Info) (rest : List ℕ) → head_line info ++ rest ≡ words_then info rest
-unfolding words_then head_line
-words_then_is info rest = words_joined (decimal info.shape.width) (decimal info.shape.height) (decimal info.num) (decimal info.den) (field_name info.field) (decimal info.par.num) (decimal info.par.den) (colour_name info.shape.kind info.tag) rest
-
--- the words are what stands before the newline of the head that is written
-pub words_before : (info : Info) (front text : List ℕ) → text ≡ head info → text ≡ front ++ 10 ∷ [] → front ≡ head_line info
-words_before info front text is cut = (same_from_push front (head_line info) 10 10 (sym cut ∙ is)).0
-
--- how long the name of a field is
-short_field : (field : Field) → length (field_name field) ≤ 1
-short_field Progressive = omega arith
-short_field Top = omega arith
-short_field Bottom = omega arith
-short_field Unknown = omega arith
-
--- a plain head is no longer than this
-pub short_line : (info : Info) → IsPlain info → length (head_line info) < 4096
-unfolding words_then
-short_line info plain =
-    let whole : length (head_line info) ≡ length (words_then info []) = ap length (sym (append-nil (head_line info)) ∙ words_then_is info []) in
-    let colour : length (colour_name info.shape.kind info.tag) ≡ 7 = rw (plain.kind, plain.tag) refl in
-    let width = length-decimal-le 10 info.shape.width (omega arith) (omega (arith, plain.shape.most_width)) (omega (arith, plain.shape.most_width)) in
-    let height = length-decimal-le 10 info.shape.height (omega arith) (omega (arith, plain.shape.most_height)) (omega (arith, plain.shape.most_height)) in
-    let num = length-decimal-le 10 info.num (omega arith) (omega (arith, plain.rate.most_num)) (omega (arith, plain.rate.most_num)) in
-    let den = length-decimal-le 10 info.den (omega arith) (omega (arith, plain.rate.most_den)) (omega (arith, plain.rate.most_den)) in
-    let par_num = length-decimal-le 10 info.par.num (omega arith) (omega (arith, plain.par.num)) (omega (arith, plain.par.num)) in
-    let par_den = length-decimal-le 10 info.par.den (omega arith) (omega (arith, plain.par.den)) (omega (arith, plain.par.den)) in
-    let field = short_field info.field in
-    rw whole (simp length-append (omega arith))
+-- a head without a fault has a line
+pub sound_line : (bytes : List ℕ) → head_fault bytes ≡ None → has_line bytes ≡ true
+sound_line bytes sound = line_of_sound bytes (has_magic bytes) (has_line bytes) refl refl sound

@@ -1,9 +1,15 @@
 pub mod AheadLemmas
-pub mod DigitLemmas
 pub mod FrameLemmas
+pub mod GcdLemmas
 pub mod HeadLemmas
 pub mod IndexLemmas
-pub mod LawLemmas
 pub mod LineLemmas
+pub mod NumberLemmas
+pub mod ParameterLemmas
 pub mod PlaceLemmas
+pub mod PrintLemmas
 pub mod PutLemmas
+pub mod ReadingLemmas
+pub mod SaysLemmas
+pub mod WindowLemmas
+pub mod WrittenLemmas

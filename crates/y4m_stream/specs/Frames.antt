@@ -1,30 +1,40 @@
--- Whole frames, counted one after the other.
-use Rattle.std.specs.Prelude.{◌≡◌, ℕ, zero, suc, ◌+◌, ◌*◌, ◌<◌, ◌≤◌, List, [], length, take, drop, slice_index}
-use Rattle.y4m_stream.specs.declared.frames.Step.{Step}
-use Rattle.y4m_stream.specs.declared.frames.Step.TheVariants.{End, Whole, Broken}
-use Rattle.y4m_stream.specs.Stream.{frame_head}
+-- The head of a frame in bytes that were read, the next frame, and where frames are.
+use Rattle.std.specs.Prelude.{◌≡◌, ℕ, ◌+◌, ◌<◌, ◌≤◌, List, map, length, take, drop, true, false, Some, None, slice_index}
+use Rattle.std.specs.List.{position, position_or_len}
+use Rattle.y4m_stream.specs.declared.fault.IndexFault.{IndexFault}
+use Rattle.y4m_stream.specs.declared.fault.IndexFault.TheVariants.{Y4m, Read, Memory}
+use Rattle.y4m_stream.specs.declared.frames.FrameHead.{FrameHead}
+use Rattle.y4m_stream.specs.declared.frames.FrameHead.TheVariants as of_head
+use Rattle.y4m_stream.specs.Stream.{is_newline, is_bad, IsFrame, BreaksBy, fault_behind}
 
--- a frame's head, and so many samples
-pub record HasFrame (size : ℕ) (left : List ℕ) : Type 0 where
-  pub head : take 6 left ≡ frame_head
-  pub long : 6 + size ≤ length left
+-- what stands first among the bytes: the head of a frame, none, or the beginning of one
+abbrev pub IsFrameHead : FrameHead → List ℕ → Type 0
+IsFrameHead (of_head.Whole len) left = (is_bad left ≡ false) × (len ≡ position_or_len is_newline left + 1) × (len ≤ length left) × (len ≤ 4096)
+IsFrameHead of_head.Bad left = is_bad left ≡ true
+IsFrameHead of_head.Cut left = (is_bad left ≡ false) × (position is_newline left ≡ None) × (length left < 4096)
 
--- so many frames, and nothing else
-unfoldable pub IsFrames : ℕ → ℕ → List ℕ → Type 0
-IsFrames size zero left = left ≡ []
-IsFrames size (suc n) left = HasFrame size left × IsFrames size n (drop (6 + size) left)
+-- a frame with a head of this length stands next
+pub record IsNext (len size : ℕ) (left after : List ℕ) : Type 0 where
+  pub len_is : len ≡ position_or_len is_newline left + 1
+  pub frame : IsFrame size left (take size (drop len left)) after
 
--- what a step found, and what it leaves
-abbrev pub IsStep : Step → ℕ → List ℕ → List ℕ → Type 0
-IsStep End size left after = left ≡ []
-IsStep Whole size left after = HasFrame size left × (after ≡ drop (6 + size) left)
-IsStep Broken size left after = (left ≡ [] → ⊥) × (HasFrame size left → ⊥)
+-- what each fault shows of what is left behind so many frames
+abbrev pub ExplainsNext : ℕ → ℕ → List ℕ → IndexFault → Type 0
+ExplainsNext size k left (Y4m fault) = fault_behind size k left ≡ Some fault
+ExplainsNext size k left Read = Unit {0}
+ExplainsNext size k left Memory = Unit {0}
 
--- where frames begin of which the first begins at the start
-abbrev pub place_of : ℕ → ℕ → ℕ → ℕ
-place_of start size n = start + n * (6 + size)
+-- what each fault shows of all that stands behind the head of a stream
+abbrev pub ExplainsFrames : ℕ → List ℕ → IndexFault → Type 0
+ExplainsFrames size text (Y4m fault) = BreaksBy size text fault
+ExplainsFrames size text Read = Unit {0}
+ExplainsFrames size text Memory = Unit {0}
 
--- the places of the first samples of so many frames
-pub record AreOffsets (start size n : ℕ) (offsets : List ℕ) : Type 0 where
-  pub count : length offsets ≡ n
-  pub each : (k : ℕ) → k < n → slice_index offsets k ≡ place_of start size k + 6
+-- the samples of frames whose first samples are at these places
+abbrev pub samples_at : List ℕ → ℕ → List ℕ → List (List ℕ)
+samples_at told size offsets = map (λ offset. take size (drop offset told)) offsets
+
+-- frames of this size at these places don't overlap, and end no later than here
+pub record AreApart (size end : ℕ) (offsets : List ℕ) : Type 0 where
+  pub apart : (n : ℕ) → n + 1 < length offsets → slice_index offsets n + size ≤ slice_index offsets (n + 1)
+  pub ends : (n : ℕ) → n < length offsets → slice_index offsets n + size ≤ end

@@ -3,7 +3,9 @@ use Rattle.std.specs.Prelude.{◌≡◌, ℕ, ◌+◌, ◌<◌, ◌≤◌, ◌^�
 use Rattle.fv_plane.specs.declared.format.Info.{Info}
 use Rattle.fv_plane.specs.Format.{frame_bytes}
 use Rattle.fv_plane.specs.Info.{IsLawful}
-use Rattle.y4m_stream.specs.Stream.{Stream}
+use Rattle.y4m_stream.specs.declared.fault.IndexFault.{IndexFault}
+use Rattle.y4m_stream.specs.declared.fault.IndexFault.TheVariants.{Y4m, Read, Memory}
+use Rattle.y4m_stream.specs.Stream.{Stream, HasFault}
 
 pub record Indexed : Type 0 where
   pub info : Info
@@ -21,3 +23,9 @@ pub record IsIndex (index : Indexed) : Type 0 where
 pub record Indexes (bytes : List ℕ) (index : Indexed) (frames : List (List ℕ)) : Type 0 where
   pub stream : Stream bytes index.info frames
   pub places : (n : ℕ) → n < length frames → take (frame_bytes index.info.shape) (drop (slice_index index.offsets n) bytes) ≡ slice_index_or frames n []
+
+-- what each fault shows of the bytes
+abbrev pub Explains : List ℕ → IndexFault → Type 0
+Explains told (Y4m fault) = HasFault told fault
+Explains told Read = Unit {0}
+Explains told Memory = Unit {0}

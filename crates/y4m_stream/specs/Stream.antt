@@ -1,13 +1,13 @@
--- YUV4MPEG2 streams: which info and frames the bytes of a file are. A frame is the list of its samples here, plane after
--- plane and row by row (yuv4mpeg(5) of mjpegtools).
-use Rattle.std.specs.Prelude.{◌≡◌, ℕ, ◌<◌, ◌≤◌, List, [], ◌∷◌, ◌++◌, length, codes, Bool, ◌==◌, slice_index, IsTrue}
-use Rattle.std.specs.List.{flat_map, list_all, slice_split, position_or_len, before_first, after_first}
-use Rattle.fv_plane.specs.declared.format.PixelType.TheVariants.{YV12}
-use Rattle.fv_plane.specs.declared.format.Tag.TheVariants.{Jpeg}
+-- YUV4MPEG2 streams: which info and frames the bytes of a file are, and what is wrong with bytes that are no stream
+-- (yuv4mpeg(5) of mjpegtools). A frame is the list of its samples here, plane after plane and row by row.
+use Rattle.std.specs.Prelude.{◌≡◌, ◌⊎◌, ℕ, ◌≤◌, ◌<◌, nat_eq, nat_le, nat_lt, List, [], ◌∷◌, ◌++◌, length, take, drop, codes, Option, Some, None, is_some, is_none, Bool, false, ◌==◌, not, ◌&&◌, ◌||◌, if◌then◌else◌, slice_index}
+use Rattle.std.specs.List.{flat_map, position, starts_with, slice_split, before_first, after_first}
 use Rattle.fv_plane.specs.declared.format.Info.{Info}
-use Rattle.fv_plane.specs.Format.{IsLegal, frame_bytes}
-use Rattle.fv_plane.specs.Info.{IsRate, IsPar}
-use Rattle.y4m_stream.specs.Head.{magic, written, head}
+use Rattle.fv_plane.specs.Format.{frame_bytes}
+use Rattle.y4m_stream.specs.declared.fault.Y4mFault.{Y4mFault}
+use Rattle.y4m_stream.specs.declared.fault.Y4mFault.TheVariants.{NotY4m, HeadTooLong, NoFrames, TooManyFrames, BadFrame, Truncated}
+use Rattle.y4m_stream.specs.Head.{magic, head}
+use Rattle.y4m_stream.specs.Parameters.{info_of, parameter_fault}
 
 abbrev pub is_space : ℕ → Bool
 is_space byte = byte == 32
@@ -15,61 +15,96 @@ is_space byte = byte == 32
 abbrev pub is_newline : ℕ → Bool
 is_newline byte = byte == 10
 
--- a parameter that says nothing of the frames
-abbrev pub is_extra : List ℕ → Bool
-is_extra parameter = slice_index parameter 0 == 88
+abbrev pub is_break : ℕ → Bool
+is_break byte = is_space byte || is_newline byte
 
--- what a plain head may say
-pub record IsPlain (info : Info) : Type 0 where
-  pub kind : info.shape.kind ≡ YV12
-  pub tag : info.tag ≡ Jpeg
-  pub shape : IsLegal info.shape
-  pub rate : IsRate info.num info.den
-  pub par : IsPar info.par
+-- the first bytes are the magic word, and the next is a space or a newline
+abbrev pub has_magic : List ℕ → Bool
+has_magic bytes = starts_with nat_eq bytes magic && is_break (slice_index bytes 9)
 
--- These parameters say this info. So far they are those of the written head, and then any that begin with X.
-pub record Says (parameters : List (List ℕ)) (info : Info) : Type 0 where
-  pub plain : IsPlain info
-  pub extras : List (List ℕ)
-  pub in_order : parameters ≡ written info ++ extras
-  pub skipped : IsTrue (list_all is_extra extras)
+-- a newline is among the first 4,096 bytes
+abbrev pub has_line : List ℕ → Bool
+has_line bytes = is_some (position is_newline (take 4096 bytes))
 
--- the line of a head, cut at its spaces: the magic word, and parameters
-pub record IsHeadLine (line : List ℕ) (info : Info) : Type 0 where
-  pub parameters : List (List ℕ)
-  pub words : slice_split is_space line ≡ magic ∷ parameters
-  pub says : Says parameters info
+-- the parameters of a head: the runs of bytes between the spaces, from the magic word up to the first newline
+abbrev pub parameters : List ℕ → List (List ℕ)
+parameters bytes = slice_split is_space (drop 9 (before_first is_newline bytes))
 
--- the bytes begin with a head: it ends at the first newline, which is among the first 4,096 bytes
-pub record HasHead (bytes : List ℕ) (info : Info) : Type 0 where
-  pub ended : position_or_len is_newline bytes < length bytes
-  pub short : position_or_len is_newline bytes < 4096
-  pub line : IsHeadLine (before_first is_newline bytes) info
+-- the first fault of the head
+abbrev pub head_fault : List ℕ → Option Y4mFault
+head_fault bytes =
+    if not (has_magic bytes) then Some NotY4m
+    else (if not (has_line bytes) then Some HeadTooLong
+    else parameter_fault (parameters bytes))
 
-abbrev pub frame_head : List ℕ
-frame_head = codes "FRAME\n"
+-- the info of the head, with so many frames
+abbrev pub head_info : List ℕ → ℕ → Info
+head_info bytes frames = record (info_of (parameters bytes)) { frames = frames }
 
--- a frame's head, its samples, and then the rest
+-- as far as there are so many bytes, the first five are FRAME and the next is a space or a newline
+abbrev pub may_begin : List ℕ → Bool
+may_begin left = starts_with nat_eq (codes "FRAME") (take 5 left) && (nat_le (length left) 5 || is_break (slice_index left 5))
+
+-- these bytes are no head of a frame, nor the beginning of one
+abbrev pub is_bad : List ℕ → Bool
+is_bad left = not (may_begin left) || (nat_le 4096 (length left) && not (has_line left))
+
+-- they end in the head of a frame, or before its last sample
+abbrev pub is_cut : ℕ → List ℕ → Bool
+is_cut size left = is_none (position is_newline left) || nat_lt (length (after_first is_newline left)) size
+
+-- what is wrong where a frame should begin behind so many others
+abbrev pub fault_behind : ℕ → ℕ → List ℕ → Option Y4mFault
+fault_behind size k [] = if k == 0 then Some NoFrames else None
+fault_behind size k (byte ∷ left) =
+    if k == 1000000 then Some TooManyFrames
+    else (if is_bad (byte ∷ left) then Some (BadFrame k)
+    else (if is_cut size (byte ∷ left) then Some (Truncated k)
+    else None))
+
+-- a frame: a head that ends at the first newline, its samples, and then the rest
 pub record IsFrame (size : ℕ) (text samples rest : List ℕ) : Type 0 where
-  pub is : text ≡ frame_head ++ (samples ++ rest)
-  pub whole : length samples ≡ size
+  pub good : is_bad text ≡ false
+  pub whole : is_cut size text ≡ false
+  pub samples_are : samples ≡ take size (after_first is_newline text)
+  pub rest_is : rest ≡ drop size (after_first is_newline text)
 
--- these frames, one after the other, and nothing else
-abbrev pub AreFrames : ℕ → List ℕ → List (List ℕ) → Type 0
-AreFrames size text [] = text ≡ []
-AreFrames size text (samples ∷ frames) = (rest : List ℕ) × IsFrame size text samples rest × AreFrames size rest frames
+-- these frames, one after the other, and then the rest
+abbrev pub FramesThen : ℕ → List ℕ → List (List ℕ) → List ℕ → Type 0
+FramesThen size text [] rest = rest ≡ text
+FramesThen size text (samples ∷ frames) rest = (behind : List ℕ) × IsFrame size text samples behind × FramesThen size behind frames rest
+
+-- the samples of a frame of this head, in bytes
+abbrev pub size_of : List ℕ → ℕ
+size_of bytes = frame_bytes (info_of (parameters bytes)).shape
+
+-- what stands behind the head
+abbrev pub body : List ℕ → List ℕ
+body bytes = after_first is_newline bytes
 
 -- the bytes are a stream of this info and these frames
 pub record Stream (bytes : List ℕ) (info : Info) (frames : List (List ℕ)) : Type 0 where
-  pub head : HasHead bytes info
-  pub frames_are : AreFrames (frame_bytes info.shape) (after_first is_newline bytes) frames
-  pub count : length frames ≡ info.frames
-  pub some : 0 < info.frames
-  pub most : info.frames ≤ 1000000
+  pub head : head_fault bytes ≡ None
+  pub info_is : info ≡ head_info bytes (length frames)
+  pub frames_are : FramesThen (size_of bytes) (body bytes) frames []
+  pub some : 0 < length frames
+  pub most : length frames ≤ 1000000
+
+-- behind so many whole frames this is wrong
+pub record BreaksBy (size : ℕ) (text : List ℕ) (fault : Y4mFault) : Type 0 where
+  pub frames : List (List ℕ)
+  pub rest : List ℕ
+  pub before : FramesThen size text frames rest
+  pub most : length frames ≤ 1000000
+  pub fault_is : fault_behind size (length frames) rest ≡ Some fault
+
+-- the first fault of bytes that are no stream: one of the head, or else the first behind it
+abbrev pub HasFault : List ℕ → Y4mFault → Type 0
+HasFault bytes fault = (head_fault bytes ≡ Some fault) ⊎ ((head_fault bytes ≡ None) × BreaksBy (size_of bytes) (body bytes) fault)
 
 -- how a frame is written
 abbrev pub frame_text : List ℕ → List ℕ
-frame_text samples = frame_head ++ samples
+frame_text samples = codes "FRAME\n" ++ samples
 
 abbrev pub frames_text : List (List ℕ) → List ℕ
 frames_text frames = flat_map frame_text frames

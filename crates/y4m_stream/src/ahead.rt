@@ -1,5 +1,5 @@
 // A source, read in large pieces.
-ghost use Rattle.std.specs.Prelude.{◌≡◌, ◌<◌, ◌≤◌, ◌^◌, ◌∷◌, [], ◌++◌, List, ℕ, length, drop, true, false, Some, IfOk, OnOk, OnErr, MatchOption};
+ghost use Rattle.std.specs.Prelude.{◌≡◌, ◌<◌, ◌≤◌, ◌^◌, [], ◌++◌, List, ℕ, length, drop, Some, IfOk, OnOk, OnErr};
 ghost use Rattle.fv_io.specs.Causes.{Rose};
 ghost use Rattle.fv_io.specs.Reading.{KeepsSource};
 ghost use Rattle.y4m_stream.specs.Ahead.{left_of, Skips};
@@ -8,8 +8,9 @@ use fv_io::{Failed, Source, read_full};
 use std::alloc::{AllocError, Global};
 use std::marker::Model;
 
-/// How many bytes are asked of a source at a time.
-const PIECE: usize = 65_536;
+/// How many bytes are read ahead at most. A source is asked for all of them but those that are ahead already, which are
+/// fewer than a head has.
+const ROOM: usize = 131_072;
 
 /// Bytes that were read ahead of the place to which a reader came.
 #[derive(Drop)]
@@ -26,7 +27,7 @@ impl Model for Ahead {
 
     ghost view = { λ a. take (a.end - a.start) (drop a.start a.buf.items) };
 
-    ghost invariant = { λ a. (a.start ≤ a.end) × (a.end ≤ length a.buf.items) × (length a.buf.items ≡ 2 ^ 16) };
+    ghost invariant = { λ a. (a.start ≤ a.end) × (a.end ≤ length a.buf.items) × (length a.buf.items ≡ 2 ^ 17) };
 }
 
 impl Ahead {
@@ -34,7 +35,7 @@ impl Ahead {
         ensures { IfOk result (λ ahead. ahead ≡ []) }
     {
         Ok(Ahead {
-            buf: vec![in alloc; 0; PIECE]?,
+            buf: vec![in alloc; 0; ROOM]?,
             start: 0,
             end: 0,
         })
@@ -60,52 +61,37 @@ impl Ahead {
         self.start += count;
     }
 
-    /// Reads a piece, whole unless the source ends.
-    pub fn fill<S: Source>(&mut self, source: &mut S) -> Result<(), Failed>
-        requires { self.old ≡ [] }
+    /// Reads on behind the bytes that are ahead, until the room is full or the source ends.
+    fn fill<S: Source>(&mut self, source: &mut S) -> Result<(), Failed>
         ensures told { OnOk result ((told : List ℕ) → S.bytes source.old ≡ Some told →
-            left_of self.new told (S.place source.new) ≡ drop (S.place source.old) told) }
-        ensures ended { OnOk result ((told : List ℕ) → S.bytes source.old ≡ Some told → length self.new < 2 ^ 16 →
+            left_of self.new told (S.place source.new) ≡ left_of self.old told (S.place source.old)) }
+        ensures ended { OnOk result ((told : List ℕ) → S.bytes source.old ≡ Some told → length self.new < 2 ^ 17 →
             drop (S.place source.new) told ≡ []) }
         ensures keeps { KeepsSource S.bytes S.rewinds S.faults source.old source.new }
         ensures failed { OnErr result (Rose (S.faults source.old) (S.faults source.new)) }
     {
-        let count = read_full(source, &mut self.buf)?;
+        self.buf.copy_within(self.start..self.end, 0);
+        self.end -= self.start;
         self.start = 0;
-        self.end = count;
+        let count = read_full(source, &mut self.buf[self.end..])?;
+        self.end += count;
         Ok(())
     }
 
-    /// Whether bytes are ahead, after a read where none are.
-    pub fn ready<S: Source>(&mut self, source: &mut S) -> Result<bool, Failed>
-        ensures told { IfOk result (λ _. (told : List ℕ) → S.bytes source.old ≡ Some told →
+    /// Reads on where fewer bytes are ahead. Then fewer are there only where the source ends.
+    pub fn want<S: Source>(&mut self, source: &mut S, count: usize) -> Result<(), Failed>
+        requires { count ≤ 2 ^ 17 }
+        ensures told { OnOk result ((told : List ℕ) → S.bytes source.old ≡ Some told →
             left_of self.new told (S.place source.new) ≡ left_of self.old told (S.place source.old)) }
-        ensures some { IfOk result (λ ready. ready ≡ true → 0 < length self.new) }
-        ensures ended { IfOk result (λ ready. (told : List ℕ) → S.bytes source.old ≡ Some told → ready ≡ false →
-            left_of self.old told (S.place source.old) ≡ []) }
+        ensures ended { OnOk result ((told : List ℕ) → S.bytes source.old ≡ Some told → length self.new < count →
+            drop (S.place source.new) told ≡ []) }
         ensures keeps { KeepsSource S.bytes S.rewinds S.faults source.old source.new }
         ensures failed { OnErr result (Rose (S.faults source.old) (S.faults source.new)) }
     {
-        if self.len() == 0 {
+        if self.len() < count {
             self.fill(source)?;
         }
-        Ok(self.len() > 0)
-    }
-
-    /// The next byte, and None at the end.
-    pub fn next<S: Source>(&mut self, source: &mut S) -> Result<Option<u8>, Failed>
-        ensures told { IfOk result (λ next. (told : List ℕ) → S.bytes source.old ≡ Some told →
-            MatchOption next (left_of self.old told (S.place source.old) ≡ [])
-            (λ byte. left_of self.old told (S.place source.old) ≡ byte ∷ left_of self.new told (S.place source.new))) }
-        ensures keeps { KeepsSource S.bytes S.rewinds S.faults source.old source.new }
-        ensures failed { OnErr result (Rose (S.faults source.old) (S.faults source.new)) }
-    {
-        if !self.ready(source)? {
-            return Ok(None);
-        }
-        let byte = self.bytes()[0];
-        self.consume(1);
-        Ok(Some(byte))
+        Ok(())
     }
 
     /// Goes past so many bytes, and answers how many there were.
@@ -118,7 +104,8 @@ impl Ahead {
     {
         let mut count = 0;
         while count < size {
-            if !self.ready(source)? {
+            self.want(source, 1)?;
+            if self.len() == 0 {
                 return Ok(count);
             }
             let step = self.len().min(size - count);

@@ -1,68 +1,102 @@
 // The frames behind a head, one after the other.
-ghost use Rattle.std.specs.Prelude.{◌≡◌, ◌+◌, ◌<◌, ◌≤◌, ◌^◌, ◌++◌, List, ℕ, length, codes, Some, IfOk, OnErr, IsErrOf, MatchBool};
+ghost use Rattle.std.specs.Prelude.{◌≡◌, ◌≢◌, ◌<◌, ◌≤◌, ◌^◌, [], List, ℕ, length, drop, Some, IfOk, IfErr, IfSome, IsErrOf};
+ghost use Rattle.std.specs.Option.{IfNone};
 ghost use Rattle.fv_io.specs.Causes.{Rose};
 ghost use Rattle.fv_io.specs.Reading.{KeepsSource};
 ghost use Rattle.y4m_stream.specs.Ahead.{left_of};
-ghost use Rattle.y4m_stream.specs.Frames.{IsStep, IsFrames, AreOffsets};
+ghost use Rattle.y4m_stream.specs.Frames.{IsFrameHead, IsNext, ExplainsNext, AreApart, ExplainsFrames, samples_at};
+ghost use Rattle.y4m_stream.specs.Stream.{FramesThen, may_begin};
 
 use crate::ahead::Ahead;
 use crate::fault::{IndexFault, Y4mFault};
+use crate::head::{MAX_HEAD, is_break, line_end};
 use fv_io::{Failed, Source};
 use std::alloc::Global;
 
 /// How many frames a stream has at most.
-pub(crate) const MAX_FRAMES: u32 = 1_000_000;
+const MAX_FRAMES: u32 = 1_000_000;
+
+const WORD: &[u8] = b"FRAME";
 
 /// What stands where a frame may begin.
-pub(crate) enum Step {
-    End,
-    Whole,
-    Broken,
+#[derive(Clone, Copy)]
+pub(crate) enum FrameHead {
+    /// A head of so many bytes.
+    Whole(usize),
+    /// No head.
+    Bad,
+    /// The beginning of a head, at the end of the stream.
+    Cut,
 }
 
-// Whether the word comes next. What was read of it is gone.
-fn comes_next<S: Source>(source: &mut S, ahead: &mut Ahead, word: &[u8]) -> Result<bool, Failed>
-    ensures told { IfOk result (λ comes. (told : List ℕ) → S.bytes source.old ≡ Some told →
-        MatchBool comes (left_of ahead.old told (S.place source.old) ≡ word.now ++ left_of ahead.new told (S.place source.new))
-        ((rest : List ℕ) → left_of ahead.old told (S.place source.old) ≡ word.now ++ rest → ⊥)) }
-    ensures keeps { KeepsSource S.bytes S.rewinds S.faults source.old source.new }
-    ensures failed { OnErr result (Rose (S.faults source.old) (S.faults source.new)) }
+// Whether these bytes may begin a frame, as far as there are so many.
+fn may_begin(bytes: &[u8]) -> bool
+    ensures { result ≡ may_begin bytes.now }
 {
-    for expected in word {
-        match ahead.next(source)? {
-            None => return Ok(false),
-            Some(byte) => {
-                if byte != *expected {
-                    return Ok(false);
-                }
-            }
+    let count = bytes.len().min(WORD.len());
+    WORD.starts_with(&bytes[..count]) && (bytes.len() <= WORD.len() || is_break(bytes[WORD.len()]))
+}
+
+// What stands first among the bytes, which are the first 4,096 or more of what is left, or all of it.
+fn frame_head(bytes: &[u8]) -> FrameHead
+    ensures { IsFrameHead result bytes.now }
+{
+    if !may_begin(bytes) {
+        return FrameHead::Bad;
+    }
+    match line_end(bytes) {
+        Some(end) => FrameHead::Whole(end + 1),
+        None if bytes.len() >= MAX_HEAD => FrameHead::Bad,
+        None => FrameHead::Cut,
+    }
+}
+
+// Goes past frame `k`, which has so many samples, and answers how long its head is. None comes at the end of the stream.
+fn next_frame<S: Source>(
+    source: &mut S,
+    ahead: &mut Ahead,
+    size: usize,
+    k: u32,
+) -> Result<Option<usize>, IndexFault>
+    requires { 0 < size }
+    ensures end { IfOk result (λ found. IfNone found (0 < k)) }
+    ensures nothing { IfOk result (λ found. (told : List ℕ) → S.bytes source.old ≡ Some told →
+        IfNone found (left_of ahead.old told (S.place source.old) ≡ [])) }
+    ensures few { IfOk result (λ found. IfSome found (λ len. (k ≢ 1000000) × (len ≤ 4096))) }
+    ensures frame { IfOk result (λ found. (told : List ℕ) → S.bytes source.old ≡ Some told →
+        IfSome found (λ len. IsNext len size (left_of ahead.old told (S.place source.old)) (left_of ahead.new told (S.place source.new)))) }
+    ensures fault { IfErr result (λ fault. (told : List ℕ) → S.bytes source.old ≡ Some told →
+        ExplainsNext size k (left_of ahead.old told (S.place source.old)) fault) }
+    ensures keeps { KeepsSource S.bytes S.rewinds S.faults source.old source.new }
+    ensures read { IsErrOf result IndexFault.Read → Rose (S.faults source.old) (S.faults source.new) }
+{
+    match ahead.want(source, MAX_HEAD) {
+        Ok(()) => {}
+        Err(Failed) => return Err(IndexFault::Read),
+    }
+    if ahead.len() == 0 {
+        if k == 0 {
+            return Err(IndexFault::Y4m(Y4mFault::NoFrames));
         }
+        return Ok(None);
     }
-    Ok(true)
+    if k == MAX_FRAMES {
+        return Err(IndexFault::Y4m(Y4mFault::TooManyFrames));
+    }
+    let len = match frame_head(ahead.bytes()) {
+        FrameHead::Whole(len) => len,
+        FrameHead::Bad => return Err(IndexFault::Y4m(Y4mFault::BadFrame(k))),
+        FrameHead::Cut => return Err(IndexFault::Y4m(Y4mFault::Truncated(k))),
+    };
+    ahead.consume(len);
+    match ahead.skip(source, size) {
+        Ok(count) if count == size => Ok(Some(len)),
+        Ok(_) => Err(IndexFault::Y4m(Y4mFault::Truncated(k))),
+        Err(Failed) => Err(IndexFault::Read),
+    }
 }
 
-// Goes past a frame of so many bytes.
-fn next_frame<S: Source>(source: &mut S, ahead: &mut Ahead, size: usize) -> Result<Step, Failed>
-    ensures told { IfOk result (λ step. (told : List ℕ) → S.bytes source.old ≡ Some told →
-        IsStep step size (left_of ahead.old told (S.place source.old)) (left_of ahead.new told (S.place source.new))) }
-    ensures keeps { KeepsSource S.bytes S.rewinds S.faults source.old source.new }
-    ensures failed { OnErr result (Rose (S.faults source.old) (S.faults source.new)) }
-{
-    if !ahead.ready(source)? {
-        return Ok(Step::End);
-    }
-    if !comes_next(source, ahead, b"FRAME\n")? {
-        return Ok(Step::Broken);
-    }
-    let count = ahead.skip(source, size)?;
-    if count < size {
-        return Ok(Step::Broken);
-    }
-    Ok(Step::Whole)
-}
-
-/// The places of the first samples of the frames that are left, the first of which begins at the start. `Y4m` comes
-/// where 1 to 1,000,000 whole frames and nothing else are not what is left.
+/// The places of the first samples of the frames that are left, the first of which begins at the start.
 pub(crate) fn find_frames<S: Source>(
     alloc: Global,
     source: &mut S,
@@ -70,40 +104,29 @@ pub(crate) fn find_frames<S: Source>(
     size: usize,
     start: u64,
 ) -> Result<Vec<u64>, IndexFault>
+    requires some { 0 < size }
     requires small { size ≤ 2 ^ 24 }
     requires early { start ≤ 2 ^ 12 }
-    ensures offsets { IfOk result (λ offsets. AreOffsets start size (length offsets.items) offsets.items) }
+    requires here { (told : List ℕ) → S.bytes source.old ≡ Some told → left_of ahead.old told (S.place source.old) ≡ drop start told }
+    ensures apart { IfOk result (λ offsets. AreApart size (2 ^ 50) offsets.items) }
     ensures some { IfOk result (λ offsets. 0 < length offsets.items) }
     ensures most { IfOk result (λ offsets. length offsets.items ≤ 1000000) }
     ensures found { IfOk result (λ offsets. (told : List ℕ) → S.bytes source.old ≡ Some told →
-        IsFrames size (length offsets.items) (left_of ahead.old told (S.place source.old))) }
-    ensures only { IsErrOf result (IndexFault.Y4m Y4mFault.Unbuilt) → (told : List ℕ) → S.bytes source.old ≡ Some told →
-        (n : ℕ) → 0 < n → n ≤ 1000000 → IsFrames size n (left_of ahead.old told (S.place source.old)) → ⊥ }
+        FramesThen size (drop start told) (samples_at told size offsets.items) []) }
+    ensures fault { IfErr result (λ fault. (told : List ℕ) → S.bytes source.old ≡ Some told →
+        ExplainsFrames size (drop start told) fault) }
     ensures keeps { KeepsSource S.bytes S.rewinds S.faults source.old source.new }
     ensures read { IsErrOf result IndexFault.Read → Rose (S.faults source.old) (S.faults source.new) }
 {
     let mut offsets = Vec::new(alloc);
     let mut place = start;
-    for k in 0..=MAX_FRAMES {
-        let step = match next_frame(source, ahead, size) {
-            Ok(step) => step,
-            Err(Failed) => return Err(IndexFault::Read),
-        };
-        match step {
-            Step::End => {
-                if k == 0 {
-                    return Err(IndexFault::Y4m(Y4mFault::Unbuilt));
-                }
-                return Ok(offsets);
-            }
-            Step::Broken => return Err(IndexFault::Y4m(Y4mFault::Unbuilt)),
-            Step::Whole => {}
-        }
-        match offsets.push(place + 6) {
+    while let Some(len) = next_frame(source, ahead, size, offsets.len() as u32)? {
+        let offset = place + len as u64;
+        match offsets.push(offset) {
             Ok(()) => {}
             Err(_) => return Err(IndexFault::Memory),
         }
-        place += 6 + size as u64;
+        place = offset + size as u64;
     }
-    Err(IndexFault::Y4m(Y4mFault::Unbuilt))
+    Ok(offsets)
 }

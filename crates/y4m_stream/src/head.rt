@@ -1,52 +1,82 @@
-// The head as it is written.
-ghost use Rattle.std.specs.Prelude.{◌≡◌, IfOk};
-ghost use Rattle.y4m_stream.specs.Head.{head, field_name, colour_name};
+// The head of a stream, read.
+ghost use Rattle.std.specs.Prelude.{◌≡◌, ◌+◌, ◌≤◌, ◌<◌, take, length, IfOk, IfErr, IfSome, Some, None};
+ghost use Rattle.std.specs.List.{position, position_or_len};
+ghost use Rattle.fv_plane.specs.Format.{IsLegal};
+ghost use Rattle.fv_plane.specs.Info.{IsRate, IsPar};
+ghost use Rattle.y4m_stream.specs.Line.{IsLine};
+ghost use Rattle.y4m_stream.specs.Stream.{is_newline, is_break, has_magic, head_fault, head_info};
 
-use fv_plane::{Field, Info, PixelType, Tag};
-use std::alloc::{AllocError, Global};
+use crate::fault::Y4mFault;
+use crate::parameters::read_parameters;
+use fv_plane::Info;
 
-fn field_name(field: Field) -> &'static str
-    ensures { result.now ≡ field_name field }
+/// How many bytes a head of a stream or of a frame has at most, with its newline.
+pub(crate) const MAX_HEAD: usize = 4_096;
+
+const MAGIC: &[u8] = b"YUV4MPEG2";
+
+/// The head of a stream.
+#[derive(Clone, Copy, Debug, PartialEq, Eq)]
+pub struct Head {
+    /// What it says. No frames are counted yet.
+    pub info: Info,
+    /// Its bytes, with its newline.
+    pub len: u32,
+}
+
+/// Whether this is a space or a newline.
+pub(crate) fn is_break(byte: u8) -> bool
+    ensures { result ≡ is_break byte }
 {
-    match field {
-        Field::Progressive => "p",
-        Field::Top => "t",
-        Field::Bottom => "b",
-        Field::Unknown => "?",
+    byte == b' ' || byte == b'\n'
+}
+
+/// Where the first line ends, if it is short enough for a head.
+pub(crate) fn line_end(bytes: &[u8]) -> Option<usize>
+    ensures end { result ≡ position is_newline (take 4096 bytes.now) }
+    ensures inside { IfSome result (λ end. end < length bytes.now) }
+{
+    bytes.iter().take(MAX_HEAD).position(|byte| *byte == b'\n')
+}
+
+fn has_magic(bytes: &[u8]) -> bool
+    ensures { result ≡ has_magic bytes.now }
+{
+    bytes.starts_with(MAGIC) && bytes.len() > MAGIC.len() && is_break(bytes[MAGIC.len()])
+}
+
+// Where the line of the head ends, behind the magic word.
+fn find_line(bytes: &[u8]) -> Result<usize, Y4mFault>
+    ensures line { IfOk result (λ end. IsLine bytes.now end) }
+    ensures fault { IfErr result (λ fault. head_fault bytes.now ≡ Some fault) }
+{
+    if !has_magic(bytes) {
+        return Err(Y4mFault::NotY4m);
+    }
+    match line_end(bytes) {
+        Some(end) => Ok(end),
+        None => Err(Y4mFault::HeadTooLong),
     }
 }
 
-fn colour_name(kind: PixelType, tag: Tag) -> &'static str
-    ensures { result.now ≡ colour_name kind tag }
+/// Reads the head with which the bytes begin. They are those of a whole file, or at least the first 4,096 of it.
+///
+/// The fault is the first of the head in the order of `Y4mFault`, none of them behind `TooLarge`.
+pub fn read_head(bytes: &[u8]) -> Result<Head, Y4mFault>
+    ensures sound { IfOk result (λ _. head_fault bytes.now ≡ None) }
+    ensures info { IfOk result (λ head. head.info ≡ head_info bytes.now 0) }
+    ensures legal { IfOk result (λ head. IsLegal head.info.shape) }
+    ensures rate { IfOk result (λ head. IsRate head.info.num head.info.den) }
+    ensures par { IfOk result (λ head. IsPar head.info.par) }
+    ensures len { IfOk result (λ head. head.len ≡ position_or_len is_newline bytes.now + 1) }
+    ensures short { IfOk result (λ head. head.len ≤ 4096) }
+    ensures inside { IfOk result (λ head. head.len ≤ length bytes.now) }
+    ensures fault { IfErr result (λ fault. head_fault bytes.now ≡ Some fault) }
 {
-    match kind {
-        PixelType::Y8 => "mono",
-        PixelType::YV12 => match tag {
-            Tag::Jpeg => "420jpeg",
-            Tag::Mpeg2 => "420mpeg2",
-            Tag::Paldv => "420paldv",
-            Tag::Plain => "420",
-        },
-        PixelType::YV16 => "422",
-        PixelType::YV24 => "444",
-        PixelType::YV411 => "411",
-    }
-}
-
-/// The head of this info as it is written, with its newline. An `Err` is want of memory.
-pub fn print_head(alloc: Global, info: &Info) -> Result<Vec<u8>, AllocError>
-    ensures { IfOk result (λ text. text.items ≡ head info.now) }
-{
-    let width = info.shape.width;
-    let height = info.shape.height;
-    let num = info.num;
-    let den = info.den;
-    let field = field_name(info.field);
-    let par_num = info.par.num;
-    let par_den = info.par.den;
-    let colour = colour_name(info.shape.kind, info.tag);
-    let text = format!(in alloc;
-        "YUV4MPEG2 W{width} H{height} F{num}:{den} I{field} A{par_num}:{par_den} C{colour}\n"
-    )?;
-    Ok(text.into_bytes())
+    let end = find_line(bytes)?;
+    let info = read_parameters(&bytes[MAGIC.len()..end])?;
+    Ok(Head {
+        info,
+        len: end as u32 + 1,
+    })
 }

@@ -1,12 +1,13 @@
 // Laws of the definitions, each the contract of a function with nothing to do.
-ghost use Rattle.y4m_stream.specs.Laws.{StreamDetermines, WrittenIsStream};
+ghost use Rattle.y4m_stream.specs.Laws.{ReadsOneWay, WrittenIsStream};
 
-/// Bytes are a stream of one info and one list of frames at most.
-pub fn a_stream_determines_its_frames()
-    ensures { StreamDetermines }
+/// Bytes have either a fault, or one info and one list of frames.
+pub fn bytes_read_one_way()
+    ensures { ReadsOneWay }
 {}
 
-/// What is written for an info and its frames is a stream of them.
+/// What is written for an info and its frames is a stream of them. The info is one whose tag is `Jpeg` or whose format
+/// is YV12: any other tag is written without its name.
 pub fn what_is_written_is_a_stream()
     ensures { WrittenIsStream }
 {}

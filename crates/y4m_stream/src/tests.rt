@@ -1,6 +1,6 @@
 ghost use Rattle.std.specs.Prelude.{◌<◌};
 
-use crate::{Index, IndexFault, Y4mFault, index, print_head, read_frame, write_frame};
+use crate::{Index, IndexFault, Y4mFault, index, print_head, read_frame, read_head, write_frame};
 use fv_io::{MemSink, MemSource, Trip};
 use fv_plane::{Field, Info, Par, PixelType, Shape, Tag};
 use std::alloc::{AllocError, Global};
@@ -66,12 +66,21 @@ fn indexed(
     Ok(index(alloc, &mut MemSource::new(bytes, piece, trips)))
 }
 
-// How many frames the bytes have, and 0 where they are no stream.
-fn count(alloc: Global, bytes: Vec<u8>) -> Result<u32, Fail> {
+// How many frames the bytes have, or their fault.
+fn count(alloc: Global, bytes: Vec<u8>) -> Result<Result<u32, Y4mFault>, Fail> {
     match indexed(alloc, bytes, 4_096, Vec::new(alloc))? {
-        Ok(index) => Ok(index.info().frames),
-        Err(IndexFault::Y4m(Y4mFault::Unbuilt)) => Ok(0),
+        Ok(index) => Ok(Ok(index.info().frames)),
+        Err(IndexFault::Y4m(fault)) => Ok(Err(fault)),
         Err(fault) => Err(fault.into()),
+    }
+}
+
+// The head of these parameters, as it is written again.
+fn written(alloc: Global, parameters: &str) -> Result<Result<Vec<u8>, Y4mFault>, AllocError> {
+    let head = joined(alloc, &[b"YUV4MPEG2", parameters.as_bytes(), b"\n"])?;
+    match read_head(&head) {
+        Ok(head) => Ok(Ok(print_head(alloc, &head.info)?)),
+        Err(fault) => Ok(Err(fault)),
     }
 }
 
@@ -104,48 +113,143 @@ fn reads_and_writes_a_stream(rt: HostRuntime) -> Result<(), Fail> {
     Ok(())
 }
 
-// Heads before one frame, what stands behind a head, streams that are cut short, and the longest head.
+// Each letter, its default, repeated and unknown letters, and empty runs.
 #[test]
-fn knows_plain_streams(rt: HostRuntime) -> Result<(), Fail> {
+fn reads_each_parameter(rt: HostRuntime) -> Result<(), Fail> {
     let alloc = rt.alloc();
-    for (head, want) in [
-        ("YUV4MPEG2 W2 H2 F25:1 Ip A1:1 C420jpeg\n", 1),
-        ("YUV4MPEG2 W2 H2 F25:1 I? A1:1 C420jpeg\n", 1),
-        ("YUV4MPEG2 W2 H2 F30000:1001 It A0:0 C420jpeg XA XB=1\n", 1),
-        ("YUV4MPEG2\n", 0),
-        ("YUV4MPEG2 H2 W2 F25:1 Ip A1:1 C420jpeg\n", 0),
-        ("YUV4MPEG2 W02 H2 F25:1 Ip A1:1 C420jpeg\n", 0),
-        ("YUV4MPEG2 W3 H2 F25:1 Ip A1:1 C420jpeg\n", 0),
-        ("YUV4MPEG2 W2 H2 F50:2 Ip A1:1 C420jpeg\n", 0),
-        ("YUV4MPEG2 W2 H2 F25:1 Im A1:1 C420jpeg\n", 0),
-        ("YUV4MPEG2 W2 H2 F25:1 Ip A1:1 C422\n", 0),
-        ("YUV4MPEG2 W2 H2 F25:1 Ip A1:1 C420jpeg Yfoo\n", 0),
-        ("YUV4MPEG2 W2 H2 F25:1 Ip A1:1 C420jpeg  XA\n", 0),
-        ("YUV4MPEG2 W2 H2 F25:1 Ip A1:1 C420jpeg \n", 0),
-        ("YUV4MPEG2 W2 H2 F25:1 Ip A1:1 C420jpeg\r\n", 0),
+    for (parameters, want) in [
+        (" W2 H2", "W2 H2 F25:1 I? A0:0 C420jpeg"),
+        (" H4 W2", "W2 H4 F25:1 I? A0:0 C420jpeg"),
+        (
+            " C420jpeg W9 A1:1 W2 H2 Xc F50:2 Im",
+            "W2 H2 F25:1 I? A1:1 C420jpeg",
+        ),
+        ("  W2   H2  ", "W2 H2 F25:1 I? A0:0 C420jpeg"),
+        (" W0000000002 H2", "W2 H2 F25:1 I? A0:0 C420jpeg"),
+        (" W2 H2 F0:0", "W2 H2 F25:1 I? A0:0 C420jpeg"),
+        (" W2 H2 F00:0", "W2 H2 F25:1 I? A0:0 C420jpeg"),
+        (" W2 H2 F30000:1001", "W2 H2 F30000:1001 I? A0:0 C420jpeg"),
+        (
+            " W2 H2 F2147483647:2147483647",
+            "W2 H2 F1:1 I? A0:0 C420jpeg",
+        ),
+        (" W2 H2 Ip", "W2 H2 F25:1 Ip A0:0 C420jpeg"),
+        (" W2 H2 It", "W2 H2 F25:1 It A0:0 C420jpeg"),
+        (" W2 H2 Ib", "W2 H2 F25:1 Ib A0:0 C420jpeg"),
+        (" W2 H2 Ipp", "W2 H2 F25:1 I? A0:0 C420jpeg"),
+        (" W2 H2 A0:7", "W2 H2 F25:1 I? A0:7 C420jpeg"),
+        (" W2 H2 A4:6", "W2 H2 F25:1 I? A4:6 C420jpeg"),
+        (" W2 H2 C420mpeg2", "W2 H2 F25:1 I? A0:0 C420mpeg2"),
+        (" W2 H2 C420paldv", "W2 H2 F25:1 I? A0:0 C420paldv"),
+        (" W2 H2 C420", "W2 H2 F25:1 I? A0:0 C420"),
+        (" W2 H3 C422", "W2 H3 F25:1 I? A0:0 C422"),
+        (" W3 H3 C444", "W3 H3 F25:1 I? A0:0 C444"),
+        (" W4 H3 C411", "W4 H3 F25:1 I? A0:0 C411"),
+        (" W3 H1 Cmono Q! w5", "W3 H1 F25:1 I? A0:0 Cmono"),
+        (" W65535 H256 Cmono", "W65535 H256 F25:1 I? A0:0 Cmono"),
     ] {
-        let frames = count(alloc, joined(alloc, &[head.as_bytes(), FRAME])?)?;
-        assert_eq!(rt; frames, want, "at {head}");
+        let head = joined(alloc, &[b"YUV4MPEG2 ", want.as_bytes(), b"\n"])?;
+        assert_eq!(rt;
+            written(alloc, parameters)??.as_slice(),
+            head.as_slice(),
+            "at {parameters}"
+        );
     }
-    for (body, want) in [
-        (b"FRAME\nabcdef".as_slice(), 1),
-        (b"FRAME\nabcdefFRAME\nghijkl", 2),
-        (b"FRAME\nabcdefg", 0),
-        (b"FRAME\nabcdefFRAME\nghijk", 0),
-        (b"FRAMEX\nabcdef", 0),
-        (b"FRAME Ip\nabcdef", 0),
-        (b"frame\nabcdef", 0),
+    Ok(())
+}
+
+// Each fault of a head, and which comes first.
+#[test]
+fn names_each_fault(rt: HostRuntime) -> Result<(), Fail> {
+    let alloc = rt.alloc();
+    for (parameters, want) in [
+        ("W2 H2", Y4mFault::NotY4m),
+        ("\tW2 H2", Y4mFault::NotY4m),
+        ("", Y4mFault::NoSize),
+        (" W2", Y4mFault::NoSize),
+        (" H2 F1:0", Y4mFault::NoSize),
+        (" W H2", Y4mFault::BadNumber('W')),
+        (" W+2 H2", Y4mFault::BadNumber('W')),
+        (" W2 H-2", Y4mFault::BadNumber('H')),
+        (" W99999999999 H2", Y4mFault::BadNumber('W')),
+        (" W2 H2147483648", Y4mFault::BadNumber('H')),
+        (" Wx Hx F1", Y4mFault::BadNumber('W')),
+        (" W2 H2 F25", Y4mFault::BadNumber('F')),
+        (" W2 H2 F1:0", Y4mFault::BadNumber('F')),
+        (" W2 H2 F0:1 A", Y4mFault::BadNumber('F')),
+        (" W2 H2 F1:2:3", Y4mFault::BadNumber('F')),
+        (" W2 H2 A1:", Y4mFault::BadNumber('A')),
+        (" W2 H2 A1 C", Y4mFault::BadNumber('A')),
+        (" W2 H2 C", Y4mFault::UnknownColour),
+        (" W2 H2 C410", Y4mFault::UnknownColour),
+        (" W0 H2 C420JPEG", Y4mFault::UnknownColour),
+        (" W0 H2", Y4mFault::BadSize),
+        (" W65536 H2", Y4mFault::BadSize),
+        (" W3 H2 C420jpeg", Y4mFault::BadSize),
+        (" W2 H3 C420jpeg", Y4mFault::BadSize),
+        (" W2 H2 C411", Y4mFault::BadSize),
+        (" W65535 H65535 Cmono", Y4mFault::TooLarge),
+        (" W65535 H257 Cmono", Y4mFault::TooLarge),
     ] {
-        let frames = count(alloc, joined(alloc, &[HEAD, body])?)?;
-        assert_eq!(rt; frames, want, "at {body:?}");
+        assert_eq!(rt;
+            written(alloc, parameters)?.err(),
+            Some(want),
+            "at {parameters}"
+        );
     }
-    let stream = joined(alloc, &[HEAD, FRAME])?;
-    for n in 0..stream.len() {
-        let frames = count(alloc, stream[..n].to_vec(alloc)?)?;
-        assert_eq!(rt; frames, 0, "at the first {n} bytes");
-    }
-    for (size, want) in [(4_095, 1), (4_096, 0)] {
+    for (size, want) in [(4_095, Ok(1)), (4_096, Err(Y4mFault::HeadTooLong))] {
         assert_eq!(rt; count(alloc, padded(alloc, size)?)?, want, "at {size}");
+    }
+    Ok(())
+}
+
+// Every prefix of a stream of four frames of one sample.
+#[test]
+fn names_the_fault_of_each_prefix(rt: HostRuntime) -> Result<(), Fail> {
+    let alloc = rt.alloc();
+    let stream =
+        b"YUV4MPEG2 W1 H1 F25:1 Ip A1:1 Cmono\nFRAME\n\x00FRAME\n\x01FRAME\n\x02FRAME\n\x03";
+    for n in 0..=stream.len() {
+        let want = match n {
+            0..=9 => Err(Y4mFault::NotY4m),
+            10..=35 => Err(Y4mFault::HeadTooLong),
+            36 => Err(Y4mFault::NoFrames),
+            43 | 50 | 57 | 64 => Ok((n as u32 - 36) / 7),
+            _ => Err(Y4mFault::Truncated((n as u32 - 36) / 7)),
+        };
+        let frames = count(alloc, stream[..n].to_vec(alloc)?)?;
+        assert_eq!(rt; frames, want, "at the first {n} bytes");
+    }
+    Ok(())
+}
+
+// Heads of frames, and the first fault behind them.
+#[test]
+fn reads_heads_of_frames(rt: HostRuntime) -> Result<(), Fail> {
+    let alloc = rt.alloc();
+    for (body, want) in [
+        (b"FRAME\nabcdef".as_slice(), Ok(1)),
+        (b"FRAME Ip XFRAME\nabcdefFRAME \nghijkl", Ok(2)),
+        (b"FRAME\nabcde", Err(Y4mFault::Truncated(0))),
+        (b"FRAME\nabcdefg", Err(Y4mFault::BadFrame(1))),
+        (b"FRAME\nabcdefF", Err(Y4mFault::Truncated(1))),
+        (b"FRAME\nabcdefFRAME Ip", Err(Y4mFault::Truncated(1))),
+        (b"FRAMEX\nabcdef", Err(Y4mFault::BadFrame(0))),
+        (b"FRA\n", Err(Y4mFault::BadFrame(0))),
+        (b"frame\nabcdef", Err(Y4mFault::BadFrame(0))),
+        (b"\n", Err(Y4mFault::BadFrame(0))),
+    ] {
+        assert_eq!(rt;
+            count(alloc, joined(alloc, &[HEAD, body])?)?,
+            want,
+            "at {body:?}"
+        );
+    }
+    for (size, want) in [(4_095, Ok(1)), (4_096, Err(Y4mFault::BadFrame(0)))] {
+        let mut bytes = joined(alloc, &[HEAD, b"FRAME X"])?;
+        bytes.resize(HEAD.len() + size, b'z')?;
+        bytes.extend_from_slice(b"\nabcdef")?;
+        assert_eq!(rt; count(alloc, bytes)?, want, "at {size}");
     }
     Ok(())
 }

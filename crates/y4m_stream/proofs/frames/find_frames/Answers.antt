@@ -1,36 +1,29 @@
--- A frame more is behind, or no frame is left.
-use Rattle.std.proofs.Common.{◌+◌, ◌∙◌, ap, arith}
-use Rattle.y4m_stream.proofs.FrameLemmas.{back_more, on_more, some_left, empty_has_none, from_start, more_offsets, place_of-suc}
+-- A frame more stands before the place, or none is left.
+use Rattle.std.proofs.Common.{◌≡◌, ◌≢◌, ◌+◌, ◌≤◌, ◌++◌, ◌∷◌, ℕ, List, [], Some, length, drop, ◌∙◌, ap, arith, rules}
+use Rattle.std.proofs.lemmas.List.{length-append}
+use Rattle.y4m_stream.specs.Ahead.{left_of}
+use Rattle.y4m_stream.specs.Frames.{IsNext}
+use Rattle.y4m_stream.proofs.FrameLemmas.{left_there, more_frames, more_apart}
 use Rattle.y4m_stream.proofs.frames.find_frames.Goals as goal
 
-pub returns-then-k-eq0-clause-only : goal.returns-then-k-eq0-clause-only
-returns-then-k-eq0-clause-only g c fault told is n some most frames =
-    let i = c.loop-k.invariant in
-    let empty = rw c.in-End.is at (c.in-Ok.ensures.told told (i.keeps.told ∙ is)) in
-    let on = i.on told is n frames in
-    empty_has_none c.args.size on.0 _ empty (omega (arith, on.1, some, c.if-k-eq0.true)) on.2
-
-pub returns-in-End-clause-found : goal.returns-in-End-clause-found
-returns-in-End-clause-found g c told is =
-    let i = c.loop-k.invariant in
-    let empty = rw c.in-End.is at (c.in-Ok.ensures.told told (i.keeps.told ∙ is)) in
-    rw i.offsets.count (from_start c.args.size c.loop-k.k _ _ empty (i.back told is))
-
-pub returns-in-Broken-clause-only : goal.returns-in-Broken-clause-only
-returns-in-Broken-clause-only g c fault told is n some most frames =
-    let i = c.loop-k.invariant in
-    let broken = rw c.in-Broken.is at (c.in-Ok.ensures.told told (i.keeps.told ∙ is)) in
-    let on = i.on told is n frames in
-    some_left c.args.size on.0 _ on.2 broken.0 broken.1
-
-pub loop-k-preserved : goal.loop-k-preserved
-loop-k-preserved g c =
-    let i = c.loop-k.invariant in
-    let step = c.in-Ok.ensures in
+pub loop-offsets-preserved : goal.loop-offsets-preserved
+loop-offsets-preserved g c =
+    let i = c.loop-offsets.invariant in
+    let found = c.in_ok-len.ensures in
+    let len : ℕ = c.in-Some.len in
+    let offsets : List ℕ = c.loop-offsets.offsets.items in
+    let place : ℕ = c.loop-offsets.place in
+    let few : (c.len.result ≢ 1000000) × (len ≤ 4096) = rw c.in-Some.is at found.few in
+    let count : c.len.result ≡ length offsets = search rules in
+    let pushed : c.push.new.self.items ≡ offsets ++ (place + len) ∷ [] = c.in-Ok.ensures.items in
+    let longer : length c.push.new.self.items ≡ length offsets + 1 = ap length pushed ∙ length-append offsets ((place + len) ∷ []) in
+    let next : (told : List ℕ) → g.S.Source.bytes c.args.source.now ≡ Some told → IsNext len c.args.size (drop place told) (left_of c.next_frame.new.ahead told (g.S.Source.place c.next_frame.new.source))
+    = λ told is. rw (c.in-Some.is, i.here told is) at (found.frame told (i.keeps.told ∙ is)) in
     record {
-      offsets = (let pushed = c.in-Ok-push.ensures.items in rw pushed (more_offsets c.args.start c.args.size c.loop-k.k c.loop-k.place c.loop-k.offsets.items i.offsets i.place));
-      place = ap (λ p. p + (6 + c.args.size)) i.place ∙ place_of-suc c.args.start c.args.size c.loop-k.k;
-      keeps = record { told = step.keeps.told ∙ i.keeps.told; turns = step.keeps.turns ∙ i.keeps.turns; later = omega (arith, step.keeps.later, i.keeps.later) };
-      back = λ told is. let whole = rw c.in-Whole.is at (step.told told (i.keeps.told ∙ is)) in back_more c.args.size c.loop-k.k _ _ _ whole.0 whole.1 (i.back told is);
-      on = λ told is. let whole = rw c.in-Whole.is at (step.told told (i.keeps.told ∙ is)) in on_more c.args.size c.loop-k.k _ _ _ whole.0 whole.1 (i.on told is);
+      most = omega (arith, longer, few.0, count, i.most);
+      apart = rw pushed (more_apart c.args.size place len offsets i.apart);
+      early = omega (arith, longer, few.1, i.early, c.requires.small);
+      keeps = record { told = found.keeps.told ∙ i.keeps.told; turns = found.keeps.turns ∙ i.keeps.turns; later = omega (arith, found.keeps.later, i.keeps.later) };
+      here = λ told is. left_there told c.args.size place len _ (next told is);
+      frames = λ told is. rw pushed (more_frames told c.args.size place len _ (next told is) (drop c.args.start told) offsets (i.frames told is));
     }

@@ -1,0 +1,173 @@
+// The parameters of a stream's head.
+ghost use Rattle.std.specs.Prelude.{◌≡◌, ◌<◌, ◌^◌, IfOk, IfErr, IfSome, None, Some};
+ghost use Rattle.std.specs.List.{slice_split};
+ghost use Rattle.std.specs.Option.{option_copied};
+ghost use Rattle.std.specs.Str.{bytes_eq};
+ghost use Rattle.fv_plane.specs.Format.{IsLegal};
+ghost use Rattle.fv_plane.specs.Info.{IsRate, IsPar};
+ghost use Rattle.y4m_stream.specs.Parameters.{value_in, value, rate_of, par_of, field_of, colour_named, colour_of, has_good_sides, info_of, parameter_fault};
+ghost use Rattle.y4m_stream.specs.Stream.{is_space};
+
+use crate::fault::Y4mFault;
+use crate::numbers::{lowest, number, ratio};
+use fv_plane::{Field, Info, Par, PixelType, Shape, Tag};
+
+// The value of a parameter, where it has this letter.
+fn value_in<'a>(parameter: &'a [u8], letter: u8) -> Option<&'a [u8]>
+    ensures { option_copied result ≡ value_in letter parameter.now }
+{
+    match parameter {
+        [first, text @ ..] if *first == letter => Some(text),
+        _ => None,
+    }
+}
+
+// The value of the last parameter with this letter.
+fn value<'a>(line: &'a [u8], letter: u8) -> Option<&'a [u8]>
+    ensures { option_copied result ≡ value letter (slice_split is_space line.now) }
+{
+    let mut found = None;
+    for parameter in line.split(|byte| *byte == b' ') {
+        found = value_in(parameter, letter).or(found);
+    }
+    found
+}
+
+// Frames a second, in lowest terms.
+fn rate(text: Option<&[u8]>) -> Option<(u32, u32)>
+    ensures rate { result ≡ rate_of (option_copied text.entry) }
+    ensures lawful { IfSome result (λ rate. IsRate rate.0 rate.1) }
+{
+    match text {
+        None => Some((25, 1)),
+        Some(text) => {
+            let (num, den) = ratio(text)?;
+            lowest(num, den)
+        }
+    }
+}
+
+// The shape of a pixel, as it stands.
+fn par(text: Option<&[u8]>) -> Option<(u32, u32)>
+    ensures par { result ≡ par_of (option_copied text.entry) }
+    ensures small { IfSome result (λ par. (par.0 < 2 ^ 31) × (par.1 < 2 ^ 31)) }
+{
+    match text {
+        None => Some((0, 0)),
+        Some(text) => ratio(text),
+    }
+}
+
+fn field(text: Option<&[u8]>) -> Field
+    ensures { result ≡ field_of (option_copied text.entry) }
+{
+    match text {
+        Some(b"p") => Field::Progressive,
+        Some(b"t") => Field::Top,
+        Some(b"b") => Field::Bottom,
+        _ => Field::Unknown,
+    }
+}
+
+fn is_word(name: &[u8], word: &str) -> bool
+    ensures { result ≡ bytes_eq name.now word.now }
+{
+    name == word.as_bytes()
+}
+
+fn colour_named(name: &[u8]) -> Option<(PixelType, Tag)>
+    ensures { result ≡ colour_named name.now }
+{
+    if is_word(name, "420jpeg") {
+        Some((PixelType::YV12, Tag::Jpeg))
+    } else if is_word(name, "420mpeg2") {
+        Some((PixelType::YV12, Tag::Mpeg2))
+    } else if is_word(name, "420paldv") {
+        Some((PixelType::YV12, Tag::Paldv))
+    } else if is_word(name, "420") {
+        Some((PixelType::YV12, Tag::Plain))
+    } else if is_word(name, "422") {
+        Some((PixelType::YV16, Tag::Jpeg))
+    } else if is_word(name, "444") {
+        Some((PixelType::YV24, Tag::Jpeg))
+    } else if is_word(name, "411") {
+        Some((PixelType::YV411, Tag::Jpeg))
+    } else if is_word(name, "mono") {
+        Some((PixelType::Y8, Tag::Jpeg))
+    } else {
+        None
+    }
+}
+
+fn colour(name: Option<&[u8]>) -> Option<(PixelType, Tag)>
+    ensures { result ≡ colour_of (option_copied name.entry) }
+{
+    match name {
+        None => Some((PixelType::YV12, Tag::Jpeg)),
+        Some(name) => colour_named(name),
+    }
+}
+
+// Whether the sides are within their bounds and whole chroma samples cover them.
+fn has_good_sides(shape: Shape) -> bool
+    ensures { result ≡ has_good_sides shape }
+{
+    shape.width >= 1
+        && shape.width <= Shape::MAX_SIDE
+        && shape.height >= 1
+        && shape.height <= Shape::MAX_SIDE
+        && shape.width % shape.kind.sub_w() == 0
+        && shape.height % shape.kind.sub_h() == 0
+}
+
+/// The info that the parameters of a head say, with no frames counted, or their first fault.
+pub(crate) fn read_parameters(line: &[u8]) -> Result<Info, Y4mFault>
+    ensures sound { IfOk result (λ _. parameter_fault (slice_split is_space line.now) ≡ None) }
+    ensures info { IfOk result (λ info. info ≡ info_of (slice_split is_space line.now)) }
+    ensures legal { IfOk result (λ info. IsLegal info.shape) }
+    ensures rate { IfOk result (λ info. IsRate info.num info.den) }
+    ensures par { IfOk result (λ info. IsPar info.par) }
+    ensures fault { IfErr result (λ fault. parameter_fault (slice_split is_space line.now) ≡ Some fault) }
+{
+    let (Some(width), Some(height)) = (value(line, b'W'), value(line, b'H')) else {
+        return Err(Y4mFault::NoSize);
+    };
+    let Some(width) = number(width) else {
+        return Err(Y4mFault::BadNumber('W'));
+    };
+    let Some(height) = number(height) else {
+        return Err(Y4mFault::BadNumber('H'));
+    };
+    let Some((num, den)) = rate(value(line, b'F')) else {
+        return Err(Y4mFault::BadNumber('F'));
+    };
+    let Some((par_num, par_den)) = par(value(line, b'A')) else {
+        return Err(Y4mFault::BadNumber('A'));
+    };
+    let Some((kind, tag)) = colour(value(line, b'C')) else {
+        return Err(Y4mFault::UnknownColour);
+    };
+    let shape = Shape {
+        kind,
+        width,
+        height,
+    };
+    if !has_good_sides(shape) {
+        return Err(Y4mFault::BadSize);
+    }
+    if !shape.is_legal() {
+        return Err(Y4mFault::TooLarge);
+    }
+    Ok(Info {
+        shape,
+        frames: 0,
+        num,
+        den,
+        field: field(value(line, b'I')),
+        par: Par {
+            num: par_num,
+            den: par_den,
+        },
+        tag,
+    })
+}
