@@ -5,9 +5,7 @@ use Rattle.std.specs.FinMap.{get}
 use Rattle.std.proofs.lemmas.List.{append_assoc, same_from_push}
 use Rattle.fv_io.specs.World.{World}
 use Rattle.fv_plane.specs.declared.format.Info.{Info}
-use Rattle.y4m_stream.proofs.LawLemmas.{stream_determines}
-use Rattle.y4m_stream.specs.declared.fault.Y4mFault.{Y4mFault}
-use Rattle.y4m_stream.specs.declared.fault.Y4mFault.TheVariants as of_stream
+use Rattle.y4m_stream.proofs.ReadingLemmas.{reads_one_way}
 use Rattle.serve_app.specs.declared.fault.ScriptFault.{ScriptFault}
 use Rattle.serve_app.specs.declared.fault.ScriptFault.TheVariants as of_script
 use Rattle.serve_app.specs.declared.fault.InputFault.{InputFault}
@@ -49,14 +47,11 @@ module _ (world : World) where
   built : (script name : List ℕ) → CallsFor world script name → IsUnbuilt world script → ⊥
   built script name one unbuilt = unbuilt.uncalled name (rw (same_bytes script one.text unbuilt.text one.text_is unbuilt.text_is) at one.calls)
 
-  same_fault : (one other : Y4mFault) → one ≡ other
-  same_fault of_stream.Unbuilt of_stream.Unbuilt = refl
-
   same_clip : (script : List ℕ) (one other : Info) (frames others : List (List ℕ)) → MeansClip world script one frames → MeansClip world script other others → Clip one frames ≡ Clip other others
   same_clip script one other frames others a b =
       let name_is = same_name script a.name b.name a.called b.called in
       let bytes_is = same_bytes b.name a.bytes b.bytes (rw name_is at a.bytes_are) b.bytes_are in
-      let same = stream_determines b.bytes one other frames others (rw bytes_is at a.stream) b.stream in
+      let same = reads_one_way.one_stream b.bytes one other frames others (rw bytes_is at a.stream) b.stream in
       ap (λ (i : Info). Clip i frames) same.0 ∙ ap (λ (fs : List (List ℕ)). Clip other fs) same.1
 
   clip_or_script : (script : List ℕ) (info : Info) (frames : List (List ℕ)) (fault : ScriptFault) → MeansClip world script info frames → IsScriptFault world script fault → ⊥
@@ -67,7 +62,7 @@ module _ (world : World) where
   clip_or_input script info frames name of_input.NotThere clip calls none = not_there name clip.bytes (rw (same_name script clip.name name clip.called calls) at clip.bytes_are) none
   clip_or_input script info frames name (of_input.Y4m fault) clip calls none =
       let bytes_is = same_bytes name clip.bytes none.bytes (rw (same_name script clip.name name clip.called calls) at clip.bytes_are) none.bytes_are in
-      none.none info frames (rw bytes_is at clip.stream)
+      reads_one_way.not_both none.bytes info frames fault (rw bytes_is at clip.stream) none.wrong
   clip_or_input script info frames name (of_input.Changed frame want got) clip calls none = none
 
   script_or_input : (script : List ℕ) (fault : ScriptFault) (name : List ℕ) → IsScriptFault world script fault → CallsFor world script name → ⊥
@@ -85,7 +80,8 @@ module _ (world : World) where
   same_input name of_input.NotThere (of_input.Y4m fault) a b = absurd (not_there name b.bytes b.bytes_are a)
   same_input name of_input.NotThere (of_input.Changed frame want got) a b = absurd b
   same_input name (of_input.Y4m fault) of_input.NotThere a b = absurd (not_there name a.bytes a.bytes_are b)
-  same_input name (of_input.Y4m fault) (of_input.Y4m other) a b = ap of_input.Y4m (same_fault fault other)
+  same_input name (of_input.Y4m fault) (of_input.Y4m other) a b =
+      ap of_input.Y4m (reads_one_way.one_fault b.bytes fault other (rw (same_bytes name a.bytes b.bytes a.bytes_are b.bytes_are) at a.wrong) b.wrong)
   same_input name (of_input.Y4m fault) (of_input.Changed frame want got) a b = absurd b
   same_input name (of_input.Changed frame want got) other a b = absurd a
 

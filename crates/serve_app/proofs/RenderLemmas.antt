@@ -20,7 +20,7 @@ bytes_of world name there = by_case (get world name) there
 -- what a stop shows of the bytes of a file it shows of the world
 pub explains_file : (world : World) (name bytes : List ℕ) → get world name ≡ Some bytes → (stop : CopyStop) → ExplainsCopy bytes stop → ExplainsFile world name stop
 explains_file world name bytes is (Input NotThere) none = absurd none
-explains_file world name bytes is (Input (Y4m fault)) none = record { bytes = bytes; bytes_are = is; none = none }
+explains_file world name bytes is (Input (Y4m fault)) wrong = record { bytes = bytes; bytes_are = is; wrong = wrong }
 explains_file world name bytes is (Input (Changed frame want got)) none = none
 explains_file world name bytes is Read none = tt
 explains_file world name bytes is Write stream = record { bytes = bytes; bytes_are = is; stream = stream }

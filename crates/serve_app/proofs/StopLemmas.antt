@@ -1,13 +1,9 @@
 -- What a stop of a copy shows.
-use Rattle.std.proofs.Common.{◌≡◌, ℕ, List, Option, Result, Ok, Err, OnOk, OnErr, IfErr, ◌∙◌, ap}
-use Rattle.fv_io.specs.Told.{with_piece, with_piece_twice, GetsPrefix, gets_after}
-use Rattle.fv_plane.specs.declared.format.Info.{Info}
-use Rattle.y4m_stream.specs.Head.{head}
-use Rattle.y4m_stream.specs.Stream.{Stream, frames_text}
+use Rattle.std.proofs.Common.{ℕ, List, Result, Ok, Err, OnOk, OnErr, IfErr}
 use Rattle.serve_app.specs.declared.fault.InputFault.TheVariants.{NotThere, Y4m, Changed}
 use Rattle.serve_app.specs.declared.stop.CopyStop.{CopyStop}
 use Rattle.serve_app.specs.declared.stop.CopyStop.TheVariants.{Input, Read, Write, Memory}
-use Rattle.serve_app.specs.Stops.{IsStream, IsUnchanged, ExplainsCopy, PutsText, PutsPrefix}
+use Rattle.serve_app.specs.Stops.{IsStream, IsUnchanged, ExplainsCopy}
 
 -- a fact for each value, under an outcome
 pub ok_all : {T E X : Type 0} (r : Result T E) (A Q : X → Type 0) → ((x : X) → A x → OnOk r (Q x)) → OnOk r ((x : X) → A x → Q x)
@@ -34,16 +30,3 @@ explains told stream (Input (Changed frame want got)) none = none
 explains told stream Read none = tt
 explains told stream Write none = stream
 explains told stream Memory none = tt
-
-module _ (told : List ℕ) (info : Info) (frames : List (List ℕ)) (stream : Stream told info frames) (old mid new : Option (List ℕ)) (before : mid ≡ with_piece old (head info)) where
-  -- the head and the frames are the text
-  pub puts_text : new ≡ with_piece mid (frames_text frames) → PutsText told old new
-  puts_text put = record {
-    info = info;
-    frames = frames;
-    is = stream;
-    put = put ∙ ap (λ (o : Option (List ℕ)). with_piece o (frames_text frames)) before ∙ with_piece_twice old (head info) (frames_text frames);
-  }
-
-  pub puts_prefix : GetsPrefix mid new (frames_text frames) → PutsPrefix told old new
-  puts_prefix cut = record { info = info; frames = frames; is = stream; put = gets_after old mid new (head info) (frames_text frames) before cut }

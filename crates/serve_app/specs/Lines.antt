@@ -1,5 +1,6 @@
 -- The lines of the program on standard error.
 use Rattle.std.specs.Prelude.{◌≡◌, ℕ, List, ◌++◌, codes, Option}
+use Rattle.std.specs.Char.{encode_utf8}
 use Rattle.std.specs.Fmt.{decimal}
 use Rattle.fv_io.specs.Causes.{Rose}
 use Rattle.fv_io.specs.Told.{with_piece, GetsPrefix}
@@ -34,8 +35,19 @@ abbrev pub script_kind : ScriptFault → List ℕ
 script_kind of_script.NotThere = codes "NotThere"
 script_kind of_script.Unbuilt = codes "Unbuilt"
 
+-- a kind, and the letter or the number that it is about
 abbrev pub y4m_kind : Y4mFault → List ℕ
-y4m_kind of_stream.Unbuilt = codes "Unbuilt"
+y4m_kind of_stream.NotY4m = codes "NotY4m"
+y4m_kind of_stream.HeadTooLong = codes "HeadTooLong"
+y4m_kind of_stream.NoSize = codes "NoSize"
+y4m_kind (of_stream.BadNumber letter) = codes "BadNumber" ++ (codes " " ++ encode_utf8 letter)
+y4m_kind of_stream.UnknownColour = codes "UnknownColour"
+y4m_kind of_stream.BadSize = codes "BadSize"
+y4m_kind of_stream.TooLarge = codes "TooLarge"
+y4m_kind of_stream.NoFrames = codes "NoFrames"
+y4m_kind of_stream.TooManyFrames = codes "TooManyFrames"
+y4m_kind (of_stream.BadFrame frame) = codes "BadFrame" ++ (codes " " ++ decimal frame)
+y4m_kind (of_stream.Truncated frame) = codes "Truncated" ++ (codes " " ++ decimal frame)
 
 -- a kind and its numbers
 abbrev pub input_kind : InputFault → List ℕ

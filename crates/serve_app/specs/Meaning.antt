@@ -3,7 +3,8 @@ use Rattle.std.specs.Prelude.{◌≡◌, ◌<◌, ℕ, List, Some, None}
 use Rattle.std.specs.FinMap.{get}
 use Rattle.fv_io.specs.World.{World}
 use Rattle.fv_plane.specs.declared.format.Info.{Info}
-use Rattle.y4m_stream.specs.Stream.{Stream}
+use Rattle.y4m_stream.specs.declared.fault.Y4mFault.{Y4mFault}
+use Rattle.y4m_stream.specs.Stream.{Stream, HasFault}
 use Rattle.serve_app.specs.declared.fault.ScriptFault.{ScriptFault}
 use Rattle.serve_app.specs.declared.fault.ScriptFault.TheVariants as of_script
 use Rattle.serve_app.specs.declared.fault.InputFault.{InputFault}
@@ -35,11 +36,11 @@ pub record IsUnbuilt (world : World) (script : List ℕ) : Type 0 where
   pub text_is : get world script ≡ Some text
   pub uncalled : (name : List ℕ) → Calls text name → ⊥
 
--- the file is there, and is no stream
-pub record IsNoStream (world : World) (name : List ℕ) : Type 0 where
+-- the file is there, and this is the first fault of its bytes
+pub record IsFaulty (world : World) (name : List ℕ) (fault : Y4mFault) : Type 0 where
   pub bytes : List ℕ
   pub bytes_are : get world name ≡ Some bytes
-  pub none : (info : Info) (frames : List (List ℕ)) → Stream bytes info frames → ⊥
+  pub wrong : HasFault bytes fault
 
 abbrev pub IsScriptFault : World → List ℕ → ScriptFault → Type 0
 IsScriptFault world script of_script.NotThere = get world script ≡ None
@@ -48,7 +49,7 @@ IsScriptFault world script of_script.Unbuilt = IsUnbuilt world script
 -- a file in a world doesn't change
 abbrev pub IsInputFault : World → List ℕ → InputFault → Type 0
 IsInputFault world name of_input.NotThere = get world name ≡ None
-IsInputFault world name (of_input.Y4m fault) = IsNoStream world name
+IsInputFault world name (of_input.Y4m fault) = IsFaulty world name fault
 IsInputFault world name (of_input.Changed frame want got) = ⊥
 
 -- bytes that ended early did so before they were wanted to

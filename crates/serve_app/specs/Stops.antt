@@ -4,7 +4,7 @@ use Rattle.std.specs.FinMap.{get}
 use Rattle.fv_io.specs.Told.{with_piece, GetsPrefix}
 use Rattle.fv_io.specs.World.{World}
 use Rattle.fv_plane.specs.declared.format.Info.{Info}
-use Rattle.y4m_stream.specs.Stream.{Stream, stream}
+use Rattle.y4m_stream.specs.Stream.{Stream, HasFault, stream}
 use Rattle.serve_app.specs.declared.fault.InputFault.TheVariants as of_input
 use Rattle.serve_app.specs.declared.stop.CopyStop.{CopyStop}
 use Rattle.serve_app.specs.declared.stop.CopyStop.TheVariants as of_copy
@@ -35,7 +35,7 @@ pub record PutsPrefix (told : List ℕ) (old new : Option (List ℕ)) : Type 0 w
 -- what each stop of a copy shows of the bytes
 abbrev pub ExplainsCopy : List ℕ → CopyStop → Type 0
 ExplainsCopy told (of_copy.Input of_input.NotThere) = ⊥
-ExplainsCopy told (of_copy.Input (of_input.Y4m fault)) = (info : Info) (frames : List (List ℕ)) → Stream told info frames → ⊥
+ExplainsCopy told (of_copy.Input (of_input.Y4m fault)) = HasFault told fault
 ExplainsCopy told (of_copy.Input (of_input.Changed frame want got)) = ⊥
 ExplainsCopy told of_copy.Read = Unit {0}
 ExplainsCopy told of_copy.Write = IsStream told

@@ -59,13 +59,13 @@ fn copy_file<F: Files, K: Sink>(
     ensures read { IsErrOf result CopyStop.Read → Rose (F.faults files.old) (F.faults files.new) }
     ensures write { IsErrOf result CopyStop.Write → Rose (K.faults out.old) (K.faults out.new) }
 {
-    let mut source = match files.fetch(name) {
+    let source = match files.fetch(name) {
         Ok(source) => source,
         Err(FetchFault::NotThere) => return Err(CopyStop::Input(InputFault::NotThere)),
         Err(FetchFault::Failed) => return Err(CopyStop::Read),
         Err(FetchFault::Memory) => return Err(CopyStop::Memory),
     };
-    let copied = copy_stream(alloc, &mut source, out);
+    let (source, copied) = copy_stream(alloc, source, out);
     files.close(source);
     copied
 }

@@ -1,6 +1,6 @@
 // The lines on standard error. They take no memory, and a fault while one is put is ignored.
 ghost use Rattle.std.specs.Prelude.{◌≡◌, ◌≤◌, ◌++◌, flat_map, codes, decimal};
-ghost use Rattle.serve_app.specs.Lines.{Says, usage_line, read_line, write_line, memory_line, script_line, y4m_kind, input_line};
+ghost use Rattle.serve_app.specs.Lines.{Says, usage_line, read_line, write_line, memory_line, script_line, input_line};
 
 use crate::fault::{InputFault, ScriptFault};
 use fv_io::{Sink, Text};
@@ -54,15 +54,6 @@ pub(crate) fn say_memory<E: Sink>(err: &mut E)
     say(err, &["no memory\n"]);
 }
 
-// The kind of a stream's fault, as a line names it.
-fn y4m_fault_kind(fault: Y4mFault) -> &'static str
-    ensures { result.now ≡ y4m_kind fault }
-{
-    match fault {
-        Y4mFault::Unbuilt => "Unbuilt",
-    }
-}
-
 // Says that the script has a fault of this kind at this line.
 fn say_script_kind<E: Sink>(err: &mut E, script: &Text, line: u64, kind: &str)
     ensures said { Says (E.bytes err.old) (E.bytes err.new) (E.faults err.old) (E.faults err.new) (codes "script fault: " ++ (script.now ++ (codes " line " ++ (decimal line ++ (codes ": " ++ (kind.now ++ codes "\n")))))) }
@@ -103,6 +94,63 @@ fn say_input_kind<E: Sink>(err: &mut E, name: &Text, kind: &str)
     say(err, &["input fault: ", name.as_str(), ": ", kind, "\n"]);
 }
 
+// Says that the input has a fault of this kind, and which number or letter it is about.
+fn say_input_detail<E: Sink>(err: &mut E, name: &Text, kind: &str, detail: &str)
+    ensures said { Says (E.bytes err.old) (E.bytes err.new) (E.faults err.old) (E.faults err.new) (codes "input fault: " ++ (name.now ++ (codes ": " ++ (kind.now ++ (codes " " ++ (detail.now ++ codes "\n")))))) }
+    ensures later { E.faults err.old ≤ E.faults err.new }
+{
+    say(
+        err,
+        &[
+            "input fault: ",
+            name.as_str(),
+            ": ",
+            kind,
+            " ",
+            detail,
+            "\n",
+        ],
+    );
+}
+
+// Says that the value of this parameter is no number.
+fn say_bad_number<E: Sink>(err: &mut E, name: &Text, letter: char)
+    ensures said { Says (E.bytes err.old) (E.bytes err.new) (E.faults err.old) (E.faults err.new) (input_line name.now (InputFault.Y4m (Y4mFault.BadNumber letter))) }
+    ensures later { E.faults err.old ≤ E.faults err.new }
+{
+    let mut buf = [0; 4];
+    say_input_detail(err, name, "BadNumber", letter.encode_utf8(&mut buf));
+}
+
+// Says that a frame has a fault of this kind.
+fn say_frame<E: Sink>(err: &mut E, name: &Text, kind: &str, frame: u32)
+    ensures said { Says (E.bytes err.old) (E.bytes err.new) (E.faults err.old) (E.faults err.new) (codes "input fault: " ++ (name.now ++ (codes ": " ++ (kind.now ++ (codes " " ++ (decimal frame ++ codes "\n")))))) }
+    ensures later { E.faults err.old ≤ E.faults err.new }
+{
+    let mut digits = Buffer::new();
+    say_input_detail(err, name, kind, digits.format(frame));
+}
+
+// Says what is wrong with the bytes of the input.
+fn say_y4m<E: Sink>(err: &mut E, name: &Text, fault: Y4mFault)
+    ensures said { Says (E.bytes err.old) (E.bytes err.new) (E.faults err.old) (E.faults err.new) (input_line name.now (InputFault.Y4m fault)) }
+    ensures later { E.faults err.old ≤ E.faults err.new }
+{
+    match fault {
+        Y4mFault::NotY4m => say_input_kind(err, name, "NotY4m"),
+        Y4mFault::HeadTooLong => say_input_kind(err, name, "HeadTooLong"),
+        Y4mFault::NoSize => say_input_kind(err, name, "NoSize"),
+        Y4mFault::BadNumber(letter) => say_bad_number(err, name, letter),
+        Y4mFault::UnknownColour => say_input_kind(err, name, "UnknownColour"),
+        Y4mFault::BadSize => say_input_kind(err, name, "BadSize"),
+        Y4mFault::TooLarge => say_input_kind(err, name, "TooLarge"),
+        Y4mFault::NoFrames => say_input_kind(err, name, "NoFrames"),
+        Y4mFault::TooManyFrames => say_input_kind(err, name, "TooManyFrames"),
+        Y4mFault::BadFrame(frame) => say_frame(err, name, "BadFrame", frame),
+        Y4mFault::Truncated(frame) => say_frame(err, name, "Truncated", frame),
+    }
+}
+
 // Says that the input ended at `got` when the frame was read again.
 fn say_changed<E: Sink>(err: &mut E, name: &Text, frame: u32, want: u64, got: u64)
     ensures said { Says (E.bytes err.old) (E.bytes err.new) (E.faults err.old) (E.faults err.new) (input_line name.now (InputFault.Changed frame want got)) }
@@ -137,7 +185,7 @@ pub(crate) fn say_input<E: Sink>(err: &mut E, name: &Text, fault: InputFault)
 {
     match fault {
         InputFault::NotThere => say_input_kind(err, name, "NotThere"),
-        InputFault::Y4m(fault) => say_input_kind(err, name, y4m_fault_kind(fault)),
+        InputFault::Y4m(fault) => say_y4m(err, name, fault),
         InputFault::Changed { frame, want, got } => say_changed(err, name, frame, want, got),
     }
 }

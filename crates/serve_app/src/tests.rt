@@ -5,15 +5,11 @@ use std::alloc::{AllocError, Global};
 use std::process::Abort;
 use std::test::Fail;
 
-// A file of two frames: its head ends at 54, frame 0 at 66 and frame 1 at 78.
+// A file of four frames, which is its own text: the head ends at 36, and the frames at 43, 50, 57 and 64.
 const CLIP: &[u8] =
-    b"YUV4MPEG2 W2 H2 F25:1 Ip A1:1 C420jpeg XYSCSS=420JPEG\nFRAME\n\x10\x20\x30\x40\x80\x90FRAME\n\x01\x02\x03\x04\x05\x06";
+    b"YUV4MPEG2 W1 H1 F25:1 Ip A1:1 Cmono\nFRAME\n\x00FRAME\n\x01FRAME\n\x02FRAME\n\x03";
 
-// Its text: the head ends at 39, frame 0 at 51 and frame 1 at 63.
-const TEXT: &[u8] =
-    b"YUV4MPEG2 W2 H2 F25:1 Ip A1:1 C420jpeg\nFRAME\n\x10\x20\x30\x40\x80\x90FRAME\n\x01\x02\x03\x04\x05\x06";
-
-const SCRIPT: &[u8] = b"Y4MSource(\"p.y4m\")";
+const SCRIPT: &[u8] = b"Y4MSource(\"m4.y4m\")";
 
 const RENDER: &[&str] = &["render", "s.avs"];
 
@@ -24,7 +20,7 @@ fn start(bytes: &[u8], count: usize) -> &[u8] {
     &bytes[..count.min(bytes.len())]
 }
 
-// The script under its name, and the start of the clip as `p.y4m`, which gives five bytes a read.
+// The script under its name, and the start of the clip as `m4.y4m`, which gives five bytes a read.
 fn shelf(
     alloc: Global,
     name: &str,
@@ -35,7 +31,7 @@ fn shelf(
     let mut files = MemFiles::new(alloc);
     let name = Text::from_str(alloc, name)?;
     files.add(name, script.to_vec(alloc)?, 5, Vec::new(alloc))?;
-    let input = Text::from_str(alloc, "p.y4m")?;
+    let input = Text::from_str(alloc, "m4.y4m")?;
     files.add(
         input,
         start(CLIP, size).to_vec(alloc)?,
@@ -74,7 +70,7 @@ fn ends(
     let (status, text, line) = want;
     let (ended, out, err) = run(alloc, words, files, room)?;
     assert_eq!(rt; ended, status, "for {line}");
-    assert!(rt; out.bytes() == start(TEXT, text), "for {line}");
+    assert!(rt; out.bytes() == start(CLIP, text), "for {line}");
     assert!(rt; err.bytes() == line.as_bytes(), "for {line}");
     assert_eq!(rt; files.given(), 0, "for {line}");
     Ok(())
@@ -84,14 +80,56 @@ fn ends(
 fn a_render_succeeds(rt: HostRuntime) -> Result<(), Fail> {
     let alloc = rt.alloc();
     let rows: [(&[u8], usize, usize); 3] = [
-        (SCRIPT, 66, 51),
-        (b"Y4MSource(\"p.y4m\")\n", 66, 51),
-        (SCRIPT, 78, 63),
+        (SCRIPT, 43, 43),
+        (b"Y4MSource(\"m4.y4m\")\n", 50, 50),
+        (SCRIPT, 64, 64),
     ];
     for (script, size, text) in rows {
         let mut files = shelf(alloc, "s.avs", script, size, &[])?;
         ends(&rt, alloc, RENDER, &mut files, (99, 99), (0, text, ""))?;
         assert_eq!(rt; files.faults(), 0);
+    }
+    Ok(())
+}
+
+// The input's head is written anew, and each fault of its bytes is named.
+#[test]
+fn inputs_are_streams(rt: HostRuntime) -> Result<(), Fail> {
+    let alloc = rt.alloc();
+    let frame: &[u8] = b"FRAME\n\x10\x20\x30\x40\x80\x90";
+    for (head, want, line) in [
+        (
+            "YUV4MPEG2 W2 H2 F25:1 Ip A1:1 C420jpeg XYSCSS=420JPEG",
+            "YUV4MPEG2 W2 H2 F25:1 Ip A1:1 C420jpeg\n",
+            "",
+        ),
+        (
+            "YUV4MPEG2 C420jpeg W9 A1:1 W2 H2 Xc F50:2 Im",
+            "YUV4MPEG2 W2 H2 F25:1 I? A1:1 C420jpeg\n",
+            "",
+        ),
+        ("YUV4MPEG2 W2", "", "NoSize"),
+        ("YUV4MPEG2 W2 H2 F1:0", "", "BadNumber F"),
+        ("YUV4MPEG2 W2 H2 C410", "", "UnknownColour"),
+        ("YUV4MPEG2 W3 H2", "", "BadSize"),
+        ("YUV4MPEG2 W65535 H65535 Cmono", "", "TooLarge"),
+        ("YUV4MPEG2 W2 H2 Cmono", "", "BadFrame 1"),
+    ] {
+        let mut input = head.as_bytes().to_vec(alloc)?;
+        input.extend_from_slice(b"\n")?;
+        input.extend_from_slice(frame)?;
+        let mut files = shelf(alloc, "s.avs", SCRIPT, 0, &[])?;
+        files.add(Text::from_str(alloc, "m4.y4m")?, input, 5, Vec::new(alloc))?;
+        let (status, out, err) = run(alloc, RENDER, &mut files, (99, 99))?;
+        let mut text = want.as_bytes().to_vec(alloc)?;
+        if line.is_empty() {
+            text.extend_from_slice(frame)?;
+            assert_eq!(rt; (status, err.bytes().len()), (0, 0), "at {head}");
+        } else {
+            let said = format!(in alloc; "input fault: m4.y4m: {line}\n")?;
+            assert_eq!(rt; (status, err.bytes()), (3, said.as_bytes()), "at {head}");
+        }
+        assert_eq!(rt; out.bytes(), text.as_slice(), "at {head}");
     }
     Ok(())
 }
@@ -108,14 +146,14 @@ fn words_ask_for_a_render(rt: HostRuntime) -> Result<(), Fail> {
         &["info", "s.avs"],
     ];
     for words in rows {
-        let mut files = shelf(alloc, "s.avs", SCRIPT, 66, &[])?;
+        let mut files = shelf(alloc, "s.avs", SCRIPT, 64, &[])?;
         files.fail_fetch(1)?;
         ends(&rt, alloc, words, &mut files, (99, 999), (1, 0, USAGE))?;
         assert_eq!(rt; files.faults(), 0);
     }
-    let mut files = shelf(alloc, "-", SCRIPT, 66, &[])?;
+    let mut files = shelf(alloc, "-", SCRIPT, 64, &[])?;
     let words: &[&str] = &["render", "-"];
-    ends(&rt, alloc, words, &mut files, (99, 99), (0, 51, ""))?;
+    ends(&rt, alloc, words, &mut files, (99, 99), (0, 64, ""))?;
     Ok(())
 }
 
@@ -123,25 +161,28 @@ fn words_ask_for_a_render(rt: HostRuntime) -> Result<(), Fail> {
 fn scripts_and_inputs_have_faults(rt: HostRuntime) -> Result<(), Fail> {
     let alloc = rt.alloc();
     let unbuilt = (2, 0, "script fault: s.avs line 1: Unbuilt\n");
-    let rows: [(&[u8], usize, (u8, usize, &str)); 8] = [
-        (b"", 66, unbuilt),
-        (b"Y4MSource(\"p.y4m\")\n\n", 66, unbuilt),
-        (b"Y4MSource('p.y4m')", 66, unbuilt),
-        (b"y4msource(\"p.y4m\")", 66, unbuilt),
-        (b"Y4MSource(\"p.y4m\").Trim(0,0)", 66, unbuilt),
-        (b"Y4MSource(\"\xff\")", 66, unbuilt),
+    let rows: [(&[u8], usize, (u8, usize, &str)); 11] = [
+        (b"", 64, unbuilt),
+        (b"Y4MSource(\"m4.y4m\")\n\n", 64, unbuilt),
+        (b"Y4MSource('m4.y4m')", 64, unbuilt),
+        (b"y4msource(\"m4.y4m\")", 64, unbuilt),
+        (b"Y4MSource(\"m4.y4m\").Trim(0,0)", 64, unbuilt),
+        (b"Y4MSource(\"\xff\")", 64, unbuilt),
         (
             b"Y4MSource(\"none.y4m\")",
-            66,
+            64,
             (3, 0, "input fault: none.y4m: NotThere\n"),
         ),
-        (SCRIPT, 65, (3, 0, "input fault: p.y4m: Unbuilt\n")),
+        (SCRIPT, 0, (3, 0, "input fault: m4.y4m: NotY4m\n")),
+        (SCRIPT, 35, (3, 0, "input fault: m4.y4m: HeadTooLong\n")),
+        (SCRIPT, 36, (3, 0, "input fault: m4.y4m: NoFrames\n")),
+        (SCRIPT, 63, (3, 0, "input fault: m4.y4m: Truncated 3\n")),
     ];
     for (script, size, want) in rows {
         let mut files = shelf(alloc, "s.avs", script, size, &[])?;
         ends(&rt, alloc, RENDER, &mut files, (99, 99), want)?;
     }
-    let mut files = shelf(alloc, "t.avs", SCRIPT, 66, &[])?;
+    let mut files = shelf(alloc, "t.avs", SCRIPT, 64, &[])?;
     let line = "script fault: s.avs line 0: NotThere\n";
     ends(&rt, alloc, RENDER, &mut files, (99, 99), (2, 0, line))?;
     ends(&rt, alloc, RENDER, &mut files, (99, 3), (2, 0, "scr"))?;
@@ -153,18 +194,18 @@ fn an_input_changes_while_it_is_read(rt: HostRuntime) -> Result<(), Fail> {
     let alloc = rt.alloc();
     for (later, want) in [
         (
-            75,
-            (3, 51, "input fault: p.y4m: Changed 1 want 78 got 75\n"),
+            60,
+            (3, 57, "input fault: m4.y4m: Changed 3 want 64 got 60\n"),
         ),
         (
-            69,
-            (3, 51, "input fault: p.y4m: Changed 1 want 78 got 69\n"),
+            44,
+            (3, 43, "input fault: m4.y4m: Changed 1 want 50 got 44\n"),
         ),
-        (0, (3, 39, "input fault: p.y4m: Changed 0 want 66 got 0\n")),
+        (0, (3, 36, "input fault: m4.y4m: Changed 0 want 43 got 0\n")),
     ] {
-        let mut files = shelf(alloc, "s.avs", SCRIPT, 78, &[])?;
+        let mut files = shelf(alloc, "s.avs", SCRIPT, 64, &[])?;
         files.add_shrinking(
-            Text::from_str(alloc, "p.y4m")?,
+            Text::from_str(alloc, "m4.y4m")?,
             CLIP.to_vec(alloc)?,
             start(CLIP, later).to_vec(alloc)?,
         )?;
@@ -177,7 +218,7 @@ fn an_input_changes_while_it_is_read(rt: HostRuntime) -> Result<(), Fail> {
 fn the_outside_fails(rt: HostRuntime) -> Result<(), Fail> {
     let alloc = rt.alloc();
     for call in 1..3 {
-        let mut files = shelf(alloc, "s.avs", SCRIPT, 66, &[])?;
+        let mut files = shelf(alloc, "s.avs", SCRIPT, 64, &[])?;
         files.fail_fetch(call)?;
         let want = (4, 0, "read fault\n");
         ends(&rt, alloc, RENDER, &mut files, (99, 99), want)?;
@@ -194,38 +235,45 @@ fn the_outside_fails(rt: HostRuntime) -> Result<(), Fail> {
         (
             Trip::Read {
                 rewinds: 0,
-                place: 66,
+                place: 64,
             },
             0,
         ),
-        (Trip::Rewind { rewinds: 0 }, 39),
+        (Trip::Rewind { rewinds: 0 }, 36),
         (
             Trip::Read {
                 rewinds: 1,
                 place: 0,
             },
-            39,
+            36,
         ),
         (
             Trip::Read {
                 rewinds: 1,
-                place: 60,
+                place: 56,
             },
-            39,
+            50,
+        ),
+        (
+            Trip::Read {
+                rewinds: 1,
+                place: 63,
+            },
+            57,
         ),
     ] {
-        let mut files = shelf(alloc, "s.avs", SCRIPT, 66, &[trip])?;
+        let mut files = shelf(alloc, "s.avs", SCRIPT, 64, &[trip])?;
         let want = (4, text, "read fault\n");
         ends(&rt, alloc, RENDER, &mut files, (99, 99), want)?;
         assert_eq!(rt; files.faults(), 1);
     }
     for (room, status, line) in [
         (0, 5, "write fault\n"),
-        (38, 5, "write fault\n"),
-        (50, 5, "write fault\n"),
-        (51, 0, ""),
+        (36, 5, "write fault\n"),
+        (60, 5, "write fault\n"),
+        (64, 0, ""),
     ] {
-        let mut files = shelf(alloc, "s.avs", SCRIPT, 66, &[])?;
+        let mut files = shelf(alloc, "s.avs", SCRIPT, 64, &[])?;
         let want = (status, room, line);
         ends(&rt, alloc, RENDER, &mut files, (room, 99), want)?;
         assert_eq!(rt; files.faults(), 0);
@@ -237,15 +285,15 @@ fn the_outside_fails(rt: HostRuntime) -> Result<(), Fail> {
 #[test]
 fn want_of_memory_is_named(rt: HostRuntime) -> Result<(), Fail> {
     let alloc = rt.alloc();
-    let mut files = shelf(alloc, "s.avs", SCRIPT, 66, &[])?;
+    let mut files = shelf(alloc, "s.avs", SCRIPT, 64, &[])?;
     let (status, out, err) = run(alloc, RENDER, &mut files, (99, 99))?;
     let want: (usize, &[u8]) = if status == 6 {
         (out.bytes().len(), b"no memory\n")
     } else {
         assert_eq!(rt; status, 0);
-        (51, b"")
+        (64, b"")
     };
-    assert!(rt; out.bytes() == start(TEXT, want.0));
+    assert!(rt; out.bytes() == start(CLIP, want.0));
     assert!(rt; err.bytes() == want.1);
     assert_eq!(rt; files.given(), 0);
     Ok(())

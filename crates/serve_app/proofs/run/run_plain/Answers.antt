@@ -1,6 +1,6 @@
 -- Each ending has its cause.
 use Rattle.std.proofs.Common.{inl, refl}
-use Rattle.serve_app.specs.Meaning.{Clip, Input}
+use Rattle.serve_app.specs.Meaning.{Clip, Script, Input}
 use Rattle.serve_app.proofs.RunLemmas.{same_status, asked_prefix}
 use Rattle.serve_app.proofs.run.run_plain.Goals as goal
 
@@ -14,6 +14,14 @@ pub returns-in-Ok-clause-complete : goal.returns-in-Ok-clause-complete
 returns-in-Ok-clause-complete g c world script meaning honest asked means files out =
     let text = (c.in-Ok.ensures.whole world honest).is_text in
     inl (same_status world c.args.words.now c.in-Some.script.now script (Clip text.info text.frames) meaning c.in-Some.ensures.found asked text.clip means)
+
+pub returns-in-Ok-clause-whole : goal.returns-in-Ok-clause-whole
+returns-in-Ok-clause-whole g c status world honest = (c.in-Some.script.now, c.in-Some.ensures.found, c.in-Ok.ensures.whole world honest)
+
+pub returns-in-Err-Script-clause-complete : goal.returns-in-Err-Script-clause-complete
+returns-in-Err-Script-clause-complete g c world script meaning honest asked means files out =
+    let here = rw c.in-Err-Script.field-0-is at (c.in-Err-Script.ensures.explained world honest) in
+    inl (same_status world c.args.words.now c.in-Some.script.now script (Script c.in-Err-Script.fault) meaning c.in-Some.ensures.found asked here means)
 
 pub returns-in-Err-Script-clause-prefix : goal.returns-in-Err-Script-clause-prefix
 returns-in-Err-Script-clause-prefix g c status world honest = asked_prefix world c.args.words.now c.in-Some.script.now _ _ c.in-Some.ensures.found (c.in-Err-Script.ensures.cut world honest)

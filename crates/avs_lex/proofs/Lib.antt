@@ -1,0 +1,13 @@
+pub mod TestLemmas
+pub mod CommentLemmas
+pub mod NumberLemmas
+pub mod WordLemmas
+pub mod PieceLemmas
+pub mod CursorLemmas
+pub mod SpellingLemmas
+pub mod FitLemmas
+pub mod ReadingLemmas
+pub mod ListLemmas
+pub mod WrittenLemmas
+pub mod ReadBackLemmas
+pub mod LongestLemmas

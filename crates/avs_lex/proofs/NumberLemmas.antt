@@ -1,0 +1,35 @@
+-- The number that digits write.
+use Rattle.std.proofs.Common.{◌≡◌, ℕ, ◌+◌, ◌*◌, ◌<◌, ◌≤◌, ◌^◌, [], ◌∷◌, fold, Some, None, pos, arith, true, take, nat_le, if◌then◌else◌, suc, refl, Bool, cond, lit<}
+use Rattle.avs_lex.proofs.TestLemmas.{by_test}
+use Rattle.std.specs.List.{list_all, prefix_len}
+use Rattle.std.proofs.Math.Nat.{pow-le-pow_right}
+use Rattle.std.specs.Char.{digit_value, is_ascii_hexdigit}
+use Rattle.std.proofs.lemmas.Grind.{common_steps}
+use Rattle.std.proofs.lemmas.Bool.Decides.{nat_tests}
+use Rattle.avs_lex.specs.Characters.{Text}
+
+-- more digits write no smaller number
+pub grows : (n : ℕ) (digits : Text) → n ≤ fold (λ n c. 10 * n + digit_value c) n digits
+grows n [] = omega arith
+grows n (d ∷ digits) = omega (arith, grows (10 * n + digit_value d) digits)
+
+-- what is past the bound already stays so
+pub too_large : (n number : ℕ) → 2147483647 < n → n ≤ number → (if nat_le number 2147483647 then Some (pos number) else None) ≡ None
+too_large n number past more = grind (arith, nat_tests)
+
+pub hexdigit_value : (c : ℕ) → is_ascii_hexdigit c ≡ true → digit_value c < 16
+hexdigit_value c is = grind (arith, nat_tests)
+
+pub list_all-taken : (p : ℕ → Bool) (rest : Text) → list_all p (take (prefix_len p rest) rest) ≡ true
+list_all-taken p [] = refl
+list_all-taken p (c ∷ rest) =
+    by_test (p c) (λ b. list_all p (take (cond b (1 + prefix_len p rest) 0) (c ∷ rest)) ≡ true)
+    (λ is. let e : 1 + prefix_len p rest ≡ suc (prefix_len p rest) = omega arith in rw (e, is) (list_all-taken p rest))
+    (λ _. refl)
+
+-- a number of so many hexadecimal digits, and one digit more
+pub sixteen_times : (n d i : ℕ) → n < 16 ^ i → d < 16 → 16 * n + d < 16 ^ (i + 1)
+sixteen_times n d i small digit = grind (arith, common_steps)
+
+pub eight_digits : (n i : ℕ) → n < 16 ^ i → i ≤ 8 → n < 2 ^ 32
+eight_digits n i small few = let most : 16 ^ i ≤ 16 ^ 8 = pow-le-pow_right (lit< tt) few in omega (arith, most)

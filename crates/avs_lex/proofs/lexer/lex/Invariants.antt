@@ -1,0 +1,15 @@
+use Rattle.std.proofs.Common.{◌+◌, ◌≤◌, length}
+use Rattle.avs_lex.specs.Tokens.{ReadTo}
+use Rattle.avs_lex.specs.Cursor.{IsIn}
+use Rattle.avs_lex.proofs.lexer.lex.Given as goal
+
+abbrev pub invariant-pieces : goal.invariant-pieces
+invariant-pieces l = record {
+  place : IsIn l.fn.text l.cursor;
+  lines : l.cursor.line ≤ l.cursor.place + 1;
+  depth : l.depth ≤ l.cursor.place;
+  read : ReadTo l.fn.text l.cursor.place l.depth l.tokens.items;
+}
+
+abbrev pub decreases-pieces : goal.decreases-pieces
+decreases-pieces l = length l.cursor.rest.now

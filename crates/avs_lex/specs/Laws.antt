@@ -1,0 +1,30 @@
+-- What the definition of tokens determines.
+use Rattle.std.specs.Prelude.{◌≡◌, ◌⊎◌, ℕ, ◌+◌, ◌<◌, ◌≤◌, List, length, slice_range, slice_index_or, IsUtf8}
+use Rattle.avs_lex.specs.declared.fault.LexKind.{LexKind}
+use Rattle.avs_lex.specs.declared.token.Token.{Token}
+use Rattle.avs_lex.specs.declared.token.TokenKind.{TokenKind}
+use Rattle.avs_lex.specs.Characters.{Text}
+use Rattle.avs_lex.specs.Spelling.{Spells}
+use Rattle.avs_lex.specs.Tokens.{Tokens, LexFault}
+use Rattle.avs_lex.specs.TokenList.{IsTokenList}
+
+-- a text has tokens, or a first fault, and only one of the two
+pub record HasOneReading (text : Text) : Type 0 where
+  pub some : ((tokens : List Token) × Tokens text tokens) ⊎ ((kind : LexKind) × (line : ℕ) × LexFault text kind line)
+  pub one_list : (tokens others : List Token) → Tokens text tokens → Tokens text others → tokens ≡ others
+  pub one_fault : (kind other : LexKind) (line line' : ℕ) → LexFault text kind line → LexFault text other line' → (kind ≡ other) × (line ≡ line')
+  pub never_both : (tokens : List Token) (kind : LexKind) (line : ℕ) → Tokens text tokens → LexFault text kind line → ⊥
+
+abbrev pub EachTextHasOneReading : Type 0
+EachTextHasOneReading = (text : Text) → HasOneReading text
+
+abbrev pub TokensAreListed : Type 0
+TokensAreListed = (text : Text) (tokens : List Token) → IsUtf8 text → Tokens text tokens → IsTokenList text tokens
+
+-- no longer piece from the token's place on is spelled as a token
+pub record IsLongest (text : Text) (token : Token) : Type 0 where
+  pub none_longer : (kind : TokenKind) (end : ℕ) → token.end < end → end ≤ length text → Spells kind (slice_range text token.start end) → ⊥
+
+-- each token but the end is the longest at its place
+abbrev pub TokensAreLongest : Type 0
+TokensAreLongest = (text : Text) (tokens : List Token) → Tokens text tokens → (k : ℕ) (d : Token) → k + 1 < length tokens → IsLongest text (slice_index_or tokens k d)
