@@ -1,34 +1,92 @@
 -- A script means one thing at most.
-use Rattle.std.proofs.Common.{◌≡◌, ◌⊎◌, ℕ, List, [], ◌∷◌, ◌++◌, Some, None, refl, sym, ◌∙◌, ap, inl, inr}
-use Rattle.std.specs.Prelude.{codes}
+use Rattle.std.proofs.Common.{◌≡◌, ℕ, List, Some, None, refl, sym, ◌∙◌, ap, arith}
 use Rattle.std.specs.FinMap.{get}
-use Rattle.std.proofs.lemmas.List.{append_assoc, same_from_push}
 use Rattle.fv_io.specs.World.{World}
 use Rattle.fv_plane.specs.declared.format.Info.{Info}
+use Rattle.avs_lex.specs.declared.fault.LexKind.{LexKind}
+use Rattle.avs_lex.specs.declared.token.Token.{Token}
+use Rattle.avs_lex.specs.Tokens.{Tokens, LexFault}
+use Rattle.avs_lex.proofs.ReadingLemmas.{one_reading}
+use Rattle.avs_parse.specs.Lexeme.{lexemes}
+use Rattle.avs_parse.specs.Parses.{HasTree}
+use Rattle.avs_parse.specs.Tree.{Script as Tree}
+use Rattle.avs_parse.proofs.CompleteScript.{one_tree}
 use Rattle.y4m_stream.proofs.ReadingLemmas.{reads_one_way}
-use Rattle.serve_app.specs.declared.fault.ScriptFault.{ScriptFault}
-use Rattle.serve_app.specs.declared.fault.ScriptFault.TheVariants as of_script
 use Rattle.serve_app.specs.declared.fault.InputFault.{InputFault}
 use Rattle.serve_app.specs.declared.fault.InputFault.TheVariants as of_input
-use Rattle.serve_app.specs.Script.{Calls, call_of}
-use Rattle.serve_app.proofs.ScriptLemmas.{one_name}
-use Rattle.serve_app.specs.Meaning.{Clip, Script, Input, CallsFor, MeansClip, IsUnbuilt, IsScriptFault, IsInputFault, MeansOneThing}
+use Rattle.serve_app.specs.Script.{IsSourceCall, HasScript, Calls, IsUnparsed, Wrong, too_long, not_utf8, lexical, unparsed, unbuilt, IsWrong}
+use Rattle.serve_app.specs.Meaning.{Clip, Missing, Script, Input, CallsFor, MeansClip, IsScriptWrong, IsInputFault, Means, MeansOneThing}
 
--- what stands before the last bracket of a call
-abbrev front_of : List ℕ → List ℕ
-front_of name = codes "Y4MSource(\"" ++ name ++ codes "\""
+module _ (text : List ℕ) where
+  -- a text has one tree
+  same_tree : (one other : Tree) → HasScript text one → HasScript text other → one ≡ other
+  same_tree one other a b =
+      let reading = one_reading text in
+      let tokens = reading.one_list a.tokens b.tokens a.tokens_are b.tokens_are in
+      let tree : HasTree (lexemes text b.tokens) one = rw tokens at a.tree_is in
+      one_tree (lexemes text b.tokens) one other tree.spelled (let same = b.tree_is in same.spelled)
 
-call_is : (name : List ℕ) → call_of name ≡ front_of name ++ 41 ∷ []
-call_is name = ap (λ (l : List ℕ). codes "Y4MSource(\"" ++ l) (sym (append_assoc name (codes "\"") (41 ∷ [])))
+  -- a tree calls for one file
+  same_call : (tree : Tree) (name other : List ℕ) → IsSourceCall tree name → IsSourceCall tree other → name ≡ other
+  same_call tree name other a b =
+      let first = a.statements in
+      let second = b.statements in
+      let one = a.source in
+      let two = b.source in
+      let is = one.is in
+      let too = two.is in
+      cc
 
-apart : (name other : List ℕ) → call_of name ≡ call_of other ++ 10 ∷ [] → ⊥
-apart name other same = let ends = (same_from_push (front_of name) (call_of other) 41 10 (sym (call_is name) ∙ same)).1 in let no : ⊥ = cc in no
+  pub one_name : (name other : List ℕ) → Calls text name → Calls text other → name ≡ other
+  one_name name other a b = same_call b.tree name other (rw (same_tree a.tree b.tree a.script b.script) at a.source) b.source
 
-by_form : (text name other : List ℕ) → (text ≡ call_of name) ⊎ (text ≡ call_of name ++ 10 ∷ []) → (text ≡ call_of other) ⊎ (text ≡ call_of other ++ 10 ∷ []) → name ≡ other
-by_form text name other (inl one) (inl two) = one_name name other (sym one ∙ two)
-by_form text name other (inl one) (inr two) = absurd (apart name other (sym one ∙ two))
-by_form text name other (inr one) (inl two) = absurd (apart other name (sym two ∙ one))
-by_form text name other (inr one) (inr two) = one_name name other (same_from_push (call_of name) (call_of other) 10 10 (sym one ∙ two)).0
+  parsed_or_not : (tree : Tree) → HasScript text tree → IsUnparsed text → ⊥
+  parsed_or_not tree a b =
+      let reading = one_reading text in
+      let tokens = reading.one_list a.tokens b.tokens a.tokens_are b.tokens_are in
+      b.none tree (rw tokens at a.tree_is)
+
+  listed_or_not : (tokens : List Token) (kind : LexKind) (line : ℕ) → Tokens text tokens → LexFault text kind line → ⊥
+  listed_or_not tokens kind line a b = let reading = one_reading text in reading.never_both tokens kind line a b
+
+  -- a text that calls for a file has nothing wrong
+  pub calls_or_wrong : (name : List ℕ) (wrong : Wrong) → Calls text name → IsWrong text wrong → ⊥
+  calls_or_wrong name too_long a long = (let script = a.script in let short = script.is_text.short in omega arith)
+  calls_or_wrong name not_utf8 a other = (let script = a.script in other.1 script.is_text.utf8)
+  calls_or_wrong name (lexical kind line) a fault = (let script = a.script in listed_or_not script.tokens kind line script.tokens_are fault.1)
+  calls_or_wrong name unparsed a none = parsed_or_not a.tree a.script none
+  calls_or_wrong name unbuilt a other = other.other name (rw (same_tree a.tree other.tree a.script other.script) at a.source)
+
+  -- a text that may be a script is wrong in one way
+  same_wrong : (one other : Wrong) → IsWrong text one → IsWrong text other → one ≡ other
+  same_wrong too_long too_long a b = refl
+  same_wrong too_long not_utf8 a b = absurd (let short = b.0 in omega arith)
+  same_wrong too_long (lexical kind line) a b = absurd (let short = b.0.short in omega arith)
+  same_wrong too_long unparsed a b = absurd (let short = b.is_text.short in omega arith)
+  same_wrong too_long unbuilt a b = absurd (let script = b.script in let short = script.is_text.short in omega arith)
+  same_wrong not_utf8 too_long a b = absurd (let short = a.0 in omega arith)
+  same_wrong not_utf8 not_utf8 a b = refl
+  same_wrong not_utf8 (lexical kind line) a b = absurd (a.1 b.0.utf8)
+  same_wrong not_utf8 unparsed a b = absurd (a.1 b.is_text.utf8)
+  same_wrong not_utf8 unbuilt a b = absurd (let script = b.script in a.1 script.is_text.utf8)
+  same_wrong (lexical kind line) too_long a b = absurd (let short = a.0.short in omega arith)
+  same_wrong (lexical kind line) not_utf8 a b = absurd (b.1 a.0.utf8)
+  same_wrong (lexical kind line) (lexical other at) a b =
+      let reading = one_reading text in
+      let same = reading.one_fault kind other line at a.1 b.1 in
+      ap (λ k. lexical k line) same.0 ∙ ap (lexical other) same.1
+  same_wrong (lexical kind line) unparsed a b = absurd (listed_or_not b.tokens kind line b.tokens_are a.1)
+  same_wrong (lexical kind line) unbuilt a b = absurd (let script = b.script in listed_or_not script.tokens kind line script.tokens_are a.1)
+  same_wrong unparsed too_long a b = absurd (let short = a.is_text.short in omega arith)
+  same_wrong unparsed not_utf8 a b = absurd (b.1 a.is_text.utf8)
+  same_wrong unparsed (lexical kind line) a b = absurd (listed_or_not a.tokens kind line a.tokens_are b.1)
+  same_wrong unparsed unparsed a b = refl
+  same_wrong unparsed unbuilt a b = absurd (parsed_or_not b.tree b.script a)
+  same_wrong unbuilt too_long a b = absurd (let script = a.script in let short = script.is_text.short in omega arith)
+  same_wrong unbuilt not_utf8 a b = absurd (let script = a.script in b.1 script.is_text.utf8)
+  same_wrong unbuilt (lexical kind line) a b = absurd (let script = a.script in listed_or_not script.tokens kind line script.tokens_are b.1)
+  same_wrong unbuilt unparsed a b = absurd (parsed_or_not a.tree a.script b)
+  same_wrong unbuilt unbuilt a b = refl
 
 module _ (world : World) where
   same_bytes : (name one other : List ℕ) → get world name ≡ Some one → get world name ≡ Some other → one ≡ other
@@ -41,11 +99,10 @@ module _ (world : World) where
   pub same_name : (script name other : List ℕ) → CallsFor world script name → CallsFor world script other → name ≡ other
   same_name script name other one two =
       let same = same_bytes script one.text two.text one.text_is two.text_is in
-      let calls : Calls two.text name = rw same at one.calls in
-      by_form two.text name other calls.form two.calls.form
+      one_name two.text name other (rw same at one.calls) two.calls
 
-  built : (script name : List ℕ) → CallsFor world script name → IsUnbuilt world script → ⊥
-  built script name one unbuilt = unbuilt.uncalled name (rw (same_bytes script one.text unbuilt.text one.text_is unbuilt.text_is) at one.calls)
+  calls_or_script : (script name : List ℕ) (wrong : Wrong) → CallsFor world script name → IsScriptWrong world script wrong → ⊥
+  calls_or_script script name wrong one two = calls_or_wrong two.text name wrong (rw (same_bytes script one.text two.text one.text_is two.text_is) at one.calls) two.is
 
   same_clip : (script : List ℕ) (one other : Info) (frames others : List (List ℕ)) → MeansClip world script one frames → MeansClip world script other others → Clip one frames ≡ Clip other others
   same_clip script one other frames others a b =
@@ -54,10 +111,6 @@ module _ (world : World) where
       let same = reads_one_way.one_stream b.bytes one other frames others (rw bytes_is at a.stream) b.stream in
       ap (λ (i : Info). Clip i frames) same.0 ∙ ap (λ (fs : List (List ℕ)). Clip other fs) same.1
 
-  clip_or_script : (script : List ℕ) (info : Info) (frames : List (List ℕ)) (fault : ScriptFault) → MeansClip world script info frames → IsScriptFault world script fault → ⊥
-  clip_or_script script info frames of_script.NotThere clip none = not_there script clip.called.text clip.called.text_is none
-  clip_or_script script info frames of_script.Unbuilt clip unbuilt = built script clip.name clip.called unbuilt
-
   clip_or_input : (script : List ℕ) (info : Info) (frames : List (List ℕ)) (name : List ℕ) (fault : InputFault) → MeansClip world script info frames → CallsFor world script name → IsInputFault world name fault → ⊥
   clip_or_input script info frames name of_input.NotThere clip calls none = not_there name clip.bytes (rw (same_name script clip.name name clip.called calls) at clip.bytes_are) none
   clip_or_input script info frames name (of_input.Y4m fault) clip calls none =
@@ -65,15 +118,8 @@ module _ (world : World) where
       reads_one_way.not_both none.bytes info frames fault (rw bytes_is at clip.stream) none.wrong
   clip_or_input script info frames name (of_input.Changed frame want got) clip calls none = none
 
-  script_or_input : (script : List ℕ) (fault : ScriptFault) (name : List ℕ) → IsScriptFault world script fault → CallsFor world script name → ⊥
-  script_or_input script of_script.NotThere name none calls = not_there script calls.text calls.text_is none
-  script_or_input script of_script.Unbuilt name unbuilt calls = built script name calls unbuilt
-
-  same_script : (script : List ℕ) (one other : ScriptFault) → IsScriptFault world script one → IsScriptFault world script other → one ≡ other
-  same_script script of_script.NotThere of_script.NotThere a b = refl
-  same_script script of_script.NotThere of_script.Unbuilt a b = absurd (not_there script b.text b.text_is a)
-  same_script script of_script.Unbuilt of_script.NotThere a b = absurd (not_there script a.text a.text_is b)
-  same_script script of_script.Unbuilt of_script.Unbuilt a b = refl
+  same_script : (script : List ℕ) (one other : Wrong) → IsScriptWrong world script one → IsScriptWrong world script other → one ≡ other
+  same_script script one other a b = same_wrong b.text one other (rw (same_bytes script a.text b.text a.text_is b.text_is) at a.is) b.is
 
   same_input : (name : List ℕ) (one other : InputFault) → IsInputFault world name one → IsInputFault world name other → one ≡ other
   same_input name of_input.NotThere of_input.NotThere a b = refl
@@ -85,15 +131,25 @@ module _ (world : World) where
   same_input name (of_input.Y4m fault) (of_input.Changed frame want got) a b = absurd b
   same_input name (of_input.Changed frame want got) other a b = absurd a
 
+  there : (script name : List ℕ) → CallsFor world script name → get world script ≡ None → ⊥
+  there script name calls none = not_there script calls.text calls.text_is none
+
 pub means_one_thing : MeansOneThing
 means_one_thing world script (Clip info frames) (Clip other others) a b = same_clip world script info other frames others a b
-means_one_thing world script (Clip info frames) (Script fault) a b = absurd (clip_or_script world script info frames fault a b)
+means_one_thing world script (Clip info frames) Missing a b = absurd (there world script a.name a.called b)
+means_one_thing world script (Clip info frames) (Script wrong) a b = absurd (calls_or_script world script a.name wrong a.called b)
 means_one_thing world script (Clip info frames) (Input name fault) a b = absurd (clip_or_input world script info frames name fault a b.0 b.1)
-means_one_thing world script (Script fault) (Clip info frames) a b = absurd (clip_or_script world script info frames fault b a)
-means_one_thing world script (Script fault) (Script other) a b = ap Script (same_script world script fault other a b)
-means_one_thing world script (Script fault) (Input name other) a b = absurd (script_or_input world script fault name a b.0)
+means_one_thing world script Missing (Clip info frames) a b = absurd (there world script b.name b.called a)
+means_one_thing world script Missing Missing a b = refl
+means_one_thing world script Missing (Script wrong) a b = absurd (not_there world script b.text b.text_is a)
+means_one_thing world script Missing (Input name fault) a b = absurd (there world script name b.0 a)
+means_one_thing world script (Script wrong) (Clip info frames) a b = absurd (calls_or_script world script b.name wrong b.called a)
+means_one_thing world script (Script wrong) Missing a b = absurd (not_there world script a.text a.text_is b)
+means_one_thing world script (Script wrong) (Script other) a b = ap Script (same_script world script wrong other a b)
+means_one_thing world script (Script wrong) (Input name fault) a b = absurd (calls_or_script world script name wrong b.0 a)
 means_one_thing world script (Input name fault) (Clip info frames) a b = absurd (clip_or_input world script info frames name fault b a.0 a.1)
-means_one_thing world script (Input name fault) (Script other) a b = absurd (script_or_input world script other name b a.0)
+means_one_thing world script (Input name fault) Missing a b = absurd (there world script name a.0 b)
+means_one_thing world script (Input name fault) (Script wrong) a b = absurd (calls_or_script world script name wrong a.0 b)
 means_one_thing world script (Input name fault) (Input another other) a b =
     let name_is = same_name world script name another a.0 b.0 in
     ap (λ (n : List ℕ). Input n fault) name_is ∙ ap (Input another) (same_input world another fault other (rw name_is at a.1) b.1)

@@ -5,7 +5,10 @@ use Rattle.fv_io.specs.World.{World}
 use Rattle.serve_app.specs.declared.fault.InputFault.TheVariants.{NotThere, Y4m, Changed}
 use Rattle.serve_app.specs.declared.stop.CopyStop.{CopyStop}
 use Rattle.serve_app.specs.declared.stop.CopyStop.TheVariants.{Input, Read, Write, Memory}
-use Rattle.serve_app.specs.Meaning.{CallsFor}
+use Rattle.serve_app.specs.declared.fault.ScriptFault.{ScriptFault}
+use Rattle.serve_app.specs.declared.fault.ScriptFault.TheVariants as of_script
+use Rattle.serve_app.specs.Script.{ExplainsText}
+use Rattle.serve_app.specs.Meaning.{CallsFor, Means, meaning_of}
 use Rattle.serve_app.specs.Rendered.{Renders, RendersPrefix}
 use Rattle.serve_app.specs.Stops.{ExplainsCopy, ExplainsFile, IsFileStream, HasClip, PutsFile, PutsFilePrefix}
 
@@ -60,3 +63,13 @@ module _ (world : World) (script name : List ℕ) (called : CallsFor world scrip
       };
       put = file.put.put;
     })
+
+-- what a fault shows of a text, shown of the script of that text
+pub explains_script : (world : World) (script text : List ℕ) (fault : ScriptFault) → get world script ≡ Some text → ExplainsText text fault → Means world script (meaning_of fault)
+explains_script world script text of_script.NotThere is none = absurd none
+explains_script world script text of_script.ScriptTooLong is wrong = record { text = text; text_is = is; is = wrong }
+explains_script world script text of_script.NotUtf8 is wrong = record { text = text; text_is = is; is = wrong }
+explains_script world script text (of_script.Lex kind line) is wrong = record { text = text; text_is = is; is = wrong }
+explains_script world script text (of_script.Syntax line) is wrong = record { text = text; text_is = is; is = wrong }
+explains_script world script text (of_script.NestLimit line) is wrong = record { text = text; text_is = is; is = wrong }
+explains_script world script text of_script.Unbuilt is wrong = record { text = text; text_is = is; is = wrong }

@@ -1,8 +1,10 @@
 -- What the words ask for, and what it means.
-use Rattle.std.proofs.Common.{◌≡◌, ◌⊎◌, ℕ, List, Option, inl, inr, ap}
+use Rattle.std.proofs.Common.{◌≡◌, ◌⊎◌, ℕ, List, Option, inl, inr, refl, ap}
 use Rattle.fv_io.specs.World.{World}
+use Rattle.serve_app.specs.declared.fault.ScriptFault.{ScriptFault}
+use Rattle.serve_app.specs.declared.fault.ScriptFault.TheVariants as of_script
 use Rattle.serve_app.specs.Words.{IsRender}
-use Rattle.serve_app.specs.Meaning.{Meaning, Means, status_of}
+use Rattle.serve_app.specs.Meaning.{Meaning, Means, status_of, meaning_of}
 use Rattle.serve_app.specs.Rendered.{RendersPrefix}
 use Rattle.serve_app.proofs.MeaningLemmas.{means_one_thing}
 
@@ -20,3 +22,12 @@ pub asked_prefix : (world : World) (words : List (List ℕ)) (script : List ℕ)
     → (new ≡ old) ⊎ ((asked : List ℕ) × IsRender words asked × RendersPrefix world asked old new)
 asked_prefix world words script old new asked (inl same) = inl same
 asked_prefix world words script old new asked (inr put) = inr (script, asked, put)
+
+pub script_status : (fault : ScriptFault) → status_of (meaning_of fault) ≡ 2
+script_status of_script.NotThere = refl
+script_status of_script.ScriptTooLong = refl
+script_status of_script.NotUtf8 = refl
+script_status (of_script.Lex kind line) = refl
+script_status (of_script.Syntax line) = refl
+script_status (of_script.NestLimit line) = refl
+script_status of_script.Unbuilt = refl

@@ -5,6 +5,8 @@ use Rattle.std.specs.Fmt.{decimal}
 use Rattle.fv_io.specs.Causes.{Rose}
 use Rattle.fv_io.specs.Told.{with_piece, GetsPrefix}
 use Rattle.fv_io.specs.World.{World, IsHonest}
+use Rattle.avs_lex.specs.declared.fault.LexKind.{LexKind}
+use Rattle.avs_lex.specs.declared.fault.LexKind.TheVariants as of_lex
 use Rattle.y4m_stream.specs.declared.fault.Y4mFault.{Y4mFault}
 use Rattle.y4m_stream.specs.declared.fault.Y4mFault.TheVariants as of_stream
 use Rattle.serve_app.specs.declared.fault.ScriptFault.{ScriptFault}
@@ -12,7 +14,7 @@ use Rattle.serve_app.specs.declared.fault.ScriptFault.TheVariants as of_script
 use Rattle.serve_app.specs.declared.fault.InputFault.{InputFault}
 use Rattle.serve_app.specs.declared.fault.InputFault.TheVariants as of_input
 use Rattle.serve_app.specs.Words.{IsRender}
-use Rattle.serve_app.specs.Meaning.{Means, Script, Input, IsEarly}
+use Rattle.serve_app.specs.Meaning.{Means, Input, IsEarly, meaning_of}
 
 abbrev pub usage_line : List ℕ
 usage_line = codes "usage: avsserve render SCRIPT [--cache C] [--threads T] [--report] [--plain] | info SCRIPT | selftest NUMBER\n"
@@ -29,10 +31,27 @@ memory_line = codes "no memory\n"
 -- where a fault of a script stands: 0 for the file itself
 abbrev pub script_line_of : ScriptFault → ℕ
 script_line_of of_script.NotThere = 0
+script_line_of of_script.ScriptTooLong = 0
+script_line_of of_script.NotUtf8 = 0
+script_line_of (of_script.Lex kind line) = line
+script_line_of (of_script.Syntax line) = line
+script_line_of (of_script.NestLimit line) = line
 script_line_of of_script.Unbuilt = 1
+
+abbrev pub lex_kind : LexKind → List ℕ
+lex_kind of_lex.FloatLiteral = codes "FloatLiteral"
+lex_kind of_lex.IntRange = codes "IntRange"
+lex_kind of_lex.OpenString = codes "OpenString"
+lex_kind of_lex.OpenComment = codes "OpenComment"
+lex_kind of_lex.BadChar = codes "BadChar"
 
 abbrev pub script_kind : ScriptFault → List ℕ
 script_kind of_script.NotThere = codes "NotThere"
+script_kind of_script.ScriptTooLong = codes "ScriptTooLong"
+script_kind of_script.NotUtf8 = codes "NotUtf8"
+script_kind (of_script.Lex kind line) = lex_kind kind
+script_kind (of_script.Syntax line) = codes "Syntax"
+script_kind (of_script.NestLimit line) = codes "NestLimit"
 script_kind of_script.Unbuilt = codes "Unbuilt"
 
 -- a kind, and the letter or the number that it is about
@@ -72,7 +91,7 @@ pub record SaysScriptFault (told : Option World) (words : List (List ℕ)) (old 
   pub fault : ScriptFault
   pub asked : IsRender words script
   pub line : Says old new before after (script_line script fault)
-  pub means : (world : World) → IsHonest told world → Means world script (Script fault)
+  pub means : (world : World) → IsHonest told world → Means world script (meaning_of fault)
 
 -- the words ask for a script, an input of it has this fault, and its line is said
 pub record SaysInputFault (told : Option World) (words : List (List ℕ)) (old new : Option (List ℕ)) (before after : ℕ) : Type 0 where

@@ -9,11 +9,13 @@ use Rattle.serve_app.specs.declared.fault.ScriptFault.{ScriptFault}
 use Rattle.serve_app.specs.declared.fault.ScriptFault.TheVariants as of_script
 use Rattle.serve_app.specs.declared.fault.InputFault.{InputFault}
 use Rattle.serve_app.specs.declared.fault.InputFault.TheVariants as of_input
-use Rattle.serve_app.specs.Script.{Calls}
+use Rattle.serve_app.specs.Script.{Calls, Wrong, too_long, not_utf8, lexical, unparsed, unbuilt, IsWrong}
 
 pub data Meaning : Type 0 where
   Clip : (info : Info) (frames : List (List ℕ)) → Meaning
-  Script : (fault : ScriptFault) → Meaning
+  -- no script is there
+  Missing : Meaning
+  Script : (wrong : Wrong) → Meaning
   Input : (name : List ℕ) (fault : InputFault) → Meaning
 
 -- the script is there, and calls for the file of this name
@@ -30,21 +32,17 @@ pub record MeansClip (world : World) (script : List ℕ) (info : Info) (frames :
   pub bytes_are : get world name ≡ Some bytes
   pub stream : Stream bytes info frames
 
--- the script is there, and has another form
-pub record IsUnbuilt (world : World) (script : List ℕ) : Type 0 where
+-- the script is there, and this is wrong with it
+pub record IsScriptWrong (world : World) (script : List ℕ) (wrong : Wrong) : Type 0 where
   pub text : List ℕ
   pub text_is : get world script ≡ Some text
-  pub uncalled : (name : List ℕ) → Calls text name → ⊥
+  pub is : IsWrong text wrong
 
 -- the file is there, and this is the first fault of its bytes
 pub record IsFaulty (world : World) (name : List ℕ) (fault : Y4mFault) : Type 0 where
   pub bytes : List ℕ
   pub bytes_are : get world name ≡ Some bytes
   pub wrong : HasFault bytes fault
-
-abbrev pub IsScriptFault : World → List ℕ → ScriptFault → Type 0
-IsScriptFault world script of_script.NotThere = get world script ≡ None
-IsScriptFault world script of_script.Unbuilt = IsUnbuilt world script
 
 -- a file in a world doesn't change
 abbrev pub IsInputFault : World → List ℕ → InputFault → Type 0
@@ -60,7 +58,8 @@ IsEarly (of_input.Changed frame want got) = got < want
 
 abbrev pub Means : World → List ℕ → Meaning → Type 0
 Means world script (Clip info frames) = MeansClip world script info frames
-Means world script (Script fault) = IsScriptFault world script fault
+Means world script Missing = get world script ≡ None
+Means world script (Script wrong) = IsScriptWrong world script wrong
 Means world script (Input name fault) = CallsFor world script name × IsInputFault world name fault
 
 -- a script means one thing at most
@@ -70,5 +69,16 @@ MeansOneThing = (world : World) (script : List ℕ) (one other : Meaning) → Me
 -- the status of a render, where nothing fails
 abbrev pub status_of : Meaning → ℕ
 status_of (Clip info frames) = 0
-status_of (Script fault) = 2
+status_of Missing = 2
+status_of (Script wrong) = 2
 status_of (Input name fault) = 3
+
+-- what a script means that has this fault
+abbrev pub meaning_of : ScriptFault → Meaning
+meaning_of of_script.NotThere = Missing
+meaning_of of_script.ScriptTooLong = Script too_long
+meaning_of of_script.NotUtf8 = Script not_utf8
+meaning_of (of_script.Lex kind line) = Script (lexical kind line)
+meaning_of (of_script.Syntax line) = Script unparsed
+meaning_of (of_script.NestLimit line) = Script unparsed
+meaning_of of_script.Unbuilt = Script unbuilt

@@ -10,7 +10,7 @@ use Rattle.serve_app.specs.declared.stop.CopyStop.{CopyStop}
 use Rattle.serve_app.specs.declared.stop.CopyStop.TheVariants as of_copy
 use Rattle.serve_app.specs.declared.stop.Stop.{Stop}
 use Rattle.serve_app.specs.declared.stop.Stop.TheVariants as of_render
-use Rattle.serve_app.specs.Meaning.{CallsFor, MeansClip, IsScriptFault, IsInputFault, IsEarly}
+use Rattle.serve_app.specs.Meaning.{CallsFor, Means, MeansClip, meaning_of, IsInputFault, IsEarly}
 
 -- the bytes are a stream
 pub record IsStream (told : List ℕ) : Type 0 where
@@ -63,7 +63,7 @@ pub record HasClip (world : World) (script : List ℕ) : Type 0 where
 
 -- what each stop of a render shows of the world
 abbrev pub Explains : World → List ℕ → Stop → Type 0
-Explains world script (of_render.Script fault) = IsScriptFault world script fault
+Explains world script (of_render.Script fault) = Means world script (meaning_of fault)
 Explains world script (of_render.Input name fault) = CallsFor world script name × IsInputFault world name fault
 Explains world script of_render.Read = Unit {0}
 Explains world script of_render.Write = HasClip world script

@@ -34,7 +34,7 @@ fn called_name<F: Files>(alloc: Global, files: &mut F, script: &Text) -> Result<
     files.close(source);
     match name {
         Ok(name) => Ok(name),
-        Err(ScriptStop::Unbuilt) => Err(Stop::Script(ScriptFault::Unbuilt)),
+        Err(ScriptStop::Fault(fault)) => Err(Stop::Script(fault)),
         Err(ScriptStop::Read) => Err(Stop::Read),
         Err(ScriptStop::Memory) => Err(Stop::Memory),
     }

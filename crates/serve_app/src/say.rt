@@ -1,8 +1,9 @@
 // The lines on standard error. They take no memory, and a fault while one is put is ignored.
 ghost use Rattle.std.specs.Prelude.{◌≡◌, ◌≤◌, ◌++◌, flat_map, codes, decimal};
-ghost use Rattle.serve_app.specs.Lines.{Says, usage_line, read_line, write_line, memory_line, script_line, input_line};
+ghost use Rattle.serve_app.specs.Lines.{Says, usage_line, read_line, write_line, memory_line, lex_kind, script_line, input_line};
 
 use crate::fault::{InputFault, ScriptFault};
+use avs_lex::LexKind;
 use fv_io::{Sink, Text};
 use itoa::Buffer;
 use y4m_stream::Y4mFault;
@@ -55,7 +56,7 @@ pub(crate) fn say_memory<E: Sink>(err: &mut E)
 }
 
 // Says that the script has a fault of this kind at this line.
-fn say_script_kind<E: Sink>(err: &mut E, script: &Text, line: u64, kind: &str)
+fn say_script_kind<E: Sink>(err: &mut E, script: &Text, line: u32, kind: &str)
     ensures said { Says (E.bytes err.old) (E.bytes err.new) (E.faults err.old) (E.faults err.new) (codes "script fault: " ++ (script.now ++ (codes " line " ++ (decimal line ++ (codes ": " ++ (kind.now ++ codes "\n")))))) }
     ensures later { E.faults err.old ≤ E.faults err.new }
 {
@@ -75,6 +76,19 @@ fn say_script_kind<E: Sink>(err: &mut E, script: &Text, line: u64, kind: &str)
     );
 }
 
+// The name of what is wrong at a place of a script.
+fn lex_kind(kind: LexKind) -> &'static str
+    ensures { result.now ≡ lex_kind kind }
+{
+    match kind {
+        LexKind::FloatLiteral => "FloatLiteral",
+        LexKind::IntRange => "IntRange",
+        LexKind::OpenString => "OpenString",
+        LexKind::OpenComment => "OpenComment",
+        LexKind::BadChar => "BadChar",
+    }
+}
+
 /// Says what is wrong with the script of this name.
 pub(crate) fn say_script<E: Sink>(err: &mut E, script: &Text, fault: ScriptFault)
     ensures said { Says (E.bytes err.old) (E.bytes err.new) (E.faults err.old) (E.faults err.new) (script_line script.now fault) }
@@ -82,6 +96,11 @@ pub(crate) fn say_script<E: Sink>(err: &mut E, script: &Text, fault: ScriptFault
 {
     match fault {
         ScriptFault::NotThere => say_script_kind(err, script, 0, "NotThere"),
+        ScriptFault::ScriptTooLong => say_script_kind(err, script, 0, "ScriptTooLong"),
+        ScriptFault::NotUtf8 => say_script_kind(err, script, 0, "NotUtf8"),
+        ScriptFault::Lex { kind, line } => say_script_kind(err, script, line, lex_kind(kind)),
+        ScriptFault::Syntax { line } => say_script_kind(err, script, line, "Syntax"),
+        ScriptFault::NestLimit { line } => say_script_kind(err, script, line, "NestLimit"),
         ScriptFault::Unbuilt => say_script_kind(err, script, 1, "Unbuilt"),
     }
 }

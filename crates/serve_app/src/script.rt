@@ -1,10 +1,15 @@
-// The script of a source, taken apart.
-ghost use Rattle.std.specs.Prelude.{◌≡◌, ◌≢◌, ◌+◌, ◌^◌, ◌⊎◌, ◌++◌, ◌∷◌, [], length, List, ℕ, Some, IfOk, IsErrOf, IsTrue, MatchOption};
-ghost use Rattle.std.specs.List.{list_all};
+// The script of a source, read into its tree, and the file that it calls for.
+ghost use Rattle.std.specs.Prelude.{◌≡◌, ◌≤◌, ◌+◌, ◌^◌, length, map, codes, List, [], ◌∷◌, ℕ, Some, None, IfOk, IfErr, IsErrOf, MatchOption};
+ghost use Rattle.std.specs.Str.{str_eq_ignore_ascii_case};
 ghost use Rattle.fv_io.specs.Causes.{Rose};
 ghost use Rattle.fv_io.specs.Reading.{KeepsSource};
-ghost use Rattle.serve_app.specs.Script.{Calls, call_of, in_name};
+ghost use Rattle.avs_parse.specs.Tree.{Expr as ExprTree, arg, str, no_args, value};
+ghost use Rattle.avs_parse.specs.View.{args_of, arg_view, expr_view, statement_view, script_view};
+ghost use Rattle.serve_app.specs.Script.{IsSource, IsSourceCall, HasScript, Calls, ExplainsStop};
 
+use crate::fault::ScriptFault;
+use avs_lex::{LexError, lex};
+use avs_parse::{Arg, Expr, ParseError, Script, Statement, StatementKind, parse};
 use fv_io::{Source, Text, read_full};
 use std::alloc::Global;
 
@@ -14,53 +19,119 @@ const LONGEST: usize = 1_048_576;
 /// Why a script names no source.
 #[derive(Clone, Copy, Debug, PartialEq, Eq)]
 pub(crate) enum ScriptStop {
-    /// It has a form that isn't built.
-    Unbuilt,
+    /// The script has this fault.
+    Fault(ScriptFault),
     /// The source failed.
     Read,
     /// Memory ran out.
     Memory,
 }
 
-// The script without the one newline that may stand at its end.
-fn without_newline(script: &str) -> &str
-    ensures { (script.now ≡ result.now ++ 10 ∷ []) ⊎ ((script.now ≡ result.now) × ((front : List ℕ) → script.now ≢ front ++ 10 ∷ [])) }
+// Whether a call of this name is of the source.
+fn is_source(name: &str) -> bool
+    ensures { result ≡ str_eq_ignore_ascii_case name.now (codes "Y4MSource") }
 {
-    script.strip_suffix('\n').unwrap_or(script)
+    name.eq_ignore_ascii_case("Y4MSource")
 }
 
-// What stands in the call's quotes.
-fn quoted(call: &str) -> Option<&str>
-    ensures { MatchOption result ((name : List ℕ) → call.now ≢ call_of name) (λ name. call.now ≡ call_of name.now) }
+// The one item of a list of one.
+fn only<T>(items: &[T]) -> Option<&T>
+    ensures { MatchOption result (length items.now ≡ 1 → ⊥) (λ item. items.now ≡ item.now ∷ []) }
 {
-    call.strip_prefix("Y4MSource(\"")?.strip_suffix("\")")
+    match items {
+        [item] => Some(item),
+        _ => None,
+    }
 }
 
-// Whether neither a quote nor a newline stands in it.
-fn is_name(name: &str) -> bool
-    ensures { result ≡ list_all in_name name.now }
-{
-    name.as_bytes()
-        .iter()
-        .all(|byte| *byte != b'"' && *byte != b'\n')
-}
-
-// The name in a script of the form that is built.
-fn called_name(script: &str) -> Option<&str>
+// The text that is the one argument.
+fn only_text(args: &[Arg]) -> Option<&Text>
     ensures { MatchOption result
-        ((name : List ℕ) → ((script.now ≡ call_of name) ⊎ (script.now ≡ call_of name ++ 10 ∷ [])) → IsTrue (list_all in_name name) → ⊥)
-        (λ name. ((script.now ≡ call_of name.now) ⊎ (script.now ≡ call_of name.now ++ 10 ∷ [])) × IsTrue (list_all in_name name.now)) }
+        ((name : List ℕ) → args_of (map arg_view args.now) ≡ arg None (str name) no_args → ⊥)
+        (λ name. args_of (map arg_view args.now) ≡ arg None (str name.now) no_args) }
 {
-    let name = quoted(without_newline(script))?;
-    if is_name(name) { Some(name) } else { None }
+    let Some(arg) = only(args) else {
+        return None;
+    };
+    match arg {
+        Arg {
+            name: None,
+            value: Expr::Str(text),
+        } => Some(text),
+        _ => None,
+    }
 }
 
-// The name in the script of a source, read into a buffer that has room for one byte more than a script.
+// The file that an expression calls for.
+fn named_by(value: &Expr) -> Option<&Text>
+    ensures { MatchOption result ((name : List ℕ) → IsSource (expr_view value.now) name → ⊥) (λ name. IsSource (expr_view value.now) name.now) }
+{
+    match value {
+        Expr::Call { name, args, .. } if is_source(name.as_str()) => only_text(args),
+        _ => None,
+    }
+}
+
+// The expression that a statement is.
+fn expression_of(statement: &Statement) -> Option<&Expr>
+    ensures { MatchOption result
+        ((e : ExprTree) (line : ℕ) → statement_view statement.now ≡ (value e, line) → ⊥)
+        (λ e. statement_view statement.now ≡ (value (expr_view e.now), statement.now.line)) }
+{
+    match &statement.kind {
+        StatementKind::Value(value) => Some(value),
+        _ => None,
+    }
+}
+
+// The file that a script calls for.
+fn called_file(script: &Script) -> Option<&Text>
+    ensures { MatchOption result ((name : List ℕ) → IsSourceCall (script_view script.now) name → ⊥) (λ name. IsSourceCall (script_view script.now) name.now) }
+{
+    if !script.functions.is_empty() {
+        return None;
+    }
+    let Some(statement) = only(script.statements.as_slice()) else {
+        return None;
+    };
+    let Some(value) = expression_of(statement) else {
+        return None;
+    };
+    named_by(value)
+}
+
+// The tree of a text that is short enough for a script.
+fn read_tree(alloc: Global, text: &str) -> Result<Script, ScriptStop>
+    requires { length text.now ≤ 2 ^ 20 }
+    ensures tree { IfOk result (λ script. HasScript text.now (script_view script)) }
+    ensures fault { IfErr result (ExplainsStop text.now) }
+    ensures read { IsErrOf result ScriptStop.Read → ⊥ }
+{
+    let tokens = match lex(alloc, text) {
+        Ok(tokens) => tokens,
+        Err(LexError::Fault { kind, line }) => {
+            return Err(ScriptStop::Fault(ScriptFault::Lex { kind, line }));
+        }
+        Err(LexError::Memory) => return Err(ScriptStop::Memory),
+    };
+    match parse(alloc, text, &tokens) {
+        Ok(script) => Ok(script),
+        Err(ParseError::Syntax { line, .. }) => {
+            Err(ScriptStop::Fault(ScriptFault::Syntax { line }))
+        }
+        Err(ParseError::NestLimit { line, .. }) => {
+            Err(ScriptStop::Fault(ScriptFault::NestLimit { line }))
+        }
+        Err(ParseError::Memory) => Err(ScriptStop::Memory),
+    }
+}
+
+// The name that the script of a source calls for, read into a buffer that has room for one byte more than a script.
 fn read_name<S: Source>(alloc: Global, source: &mut S, buf: &mut [u8]) -> Result<Text, ScriptStop>
     requires start { S.place source.old ≡ 0 }
     requires room { length buf.old ≡ 2 ^ 20 + 1 }
     ensures calls { IfOk result (λ name. (told : List ℕ) → S.bytes source.old ≡ Some told → Calls told name) }
-    ensures uncalled { IsErrOf result ScriptStop.Unbuilt → (told : List ℕ) → S.bytes source.old ≡ Some told → (name : List ℕ) → Calls told name → ⊥ }
+    ensures fault { IfErr result (λ stop. (told : List ℕ) → S.bytes source.old ≡ Some told → ExplainsStop told stop) }
     ensures keeps { KeepsSource S.bytes S.rewinds S.faults source.old source.new }
     ensures read { IsErrOf result ScriptStop.Read → Rose (S.faults source.old) (S.faults source.new) }
 {
@@ -68,15 +139,19 @@ fn read_name<S: Source>(alloc: Global, source: &mut S, buf: &mut [u8]) -> Result
         return Err(ScriptStop::Read);
     };
     if count == buf.len() {
-        return Err(ScriptStop::Unbuilt);
+        return Err(ScriptStop::Fault(ScriptFault::ScriptTooLong));
     }
-    let Ok(script) = std::str::from_utf8(&buf[..count]) else {
-        return Err(ScriptStop::Unbuilt);
+    let Ok(text) = std::str::from_utf8(&buf[..count]) else {
+        return Err(ScriptStop::Fault(ScriptFault::NotUtf8));
     };
-    let Some(name) = called_name(script) else {
-        return Err(ScriptStop::Unbuilt);
+    let script = match read_tree(alloc, text) {
+        Ok(script) => script,
+        Err(stop) => return Err(stop),
     };
-    match Text::from_str(alloc, name) {
+    let Some(name) = called_file(&script) else {
+        return Err(ScriptStop::Fault(ScriptFault::Unbuilt));
+    };
+    match Text::from_str(alloc, name.as_str()) {
         Ok(name) => Ok(name),
         Err(_) => Err(ScriptStop::Memory),
     }
@@ -86,7 +161,7 @@ fn read_name<S: Source>(alloc: Global, source: &mut S, buf: &mut [u8]) -> Result
 pub(crate) fn read_script<S: Source>(alloc: Global, source: &mut S) -> Result<Text, ScriptStop>
     requires { S.place source.old ≡ 0 }
     ensures calls { IfOk result (λ name. (told : List ℕ) → S.bytes source.old ≡ Some told → Calls told name) }
-    ensures uncalled { IsErrOf result ScriptStop.Unbuilt → (told : List ℕ) → S.bytes source.old ≡ Some told → (name : List ℕ) → Calls told name → ⊥ }
+    ensures fault { IfErr result (λ stop. (told : List ℕ) → S.bytes source.old ≡ Some told → ExplainsStop told stop) }
     ensures keeps { KeepsSource S.bytes S.rewinds S.faults source.old source.new }
     ensures read { IsErrOf result ScriptStop.Read → Rose (S.faults source.old) (S.faults source.new) }
 {

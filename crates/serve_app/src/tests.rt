@@ -79,9 +79,15 @@ fn ends(
 #[test]
 fn a_render_succeeds(rt: HostRuntime) -> Result<(), Fail> {
     let alloc = rt.alloc();
-    let rows: [(&[u8], usize, usize); 3] = [
+    let rows: [(&[u8], usize, usize); 5] = [
         (SCRIPT, 43, 43),
-        (b"Y4MSource(\"m4.y4m\")\n", 50, 50),
+        (b"\n\tY4MSource (\"m4.y4m\")\n\n", 50, 50),
+        (b"y4msource(\"\"\"m4.y4m\"\"\")", 57, 57),
+        (
+            b"\xef\xbb\xbfY4MSource( \\\n  \"m4.y4m\" # rest\n)\n[* a [* b *] c *]\n__END__\nnonsense (",
+            57,
+            57,
+        ),
         (SCRIPT, 64, 64),
     ];
     for (script, size, text) in rows {
@@ -157,35 +163,92 @@ fn words_ask_for_a_render(rt: HostRuntime) -> Result<(), Fail> {
     Ok(())
 }
 
+// The script of these bytes has this fault.
+fn is_wrong(
+    rt: &impl Abort,
+    alloc: Global,
+    script: &[u8],
+    line: u32,
+    kind: &str,
+) -> Result<(), AllocError> {
+    let mut files = MemFiles::new(alloc);
+    let name = Text::from_str(alloc, "s.avs")?;
+    files.add(name, script.to_vec(alloc)?, 65_536, Vec::new(alloc))?;
+    let said = format!(in alloc; "script fault: s.avs line {line}: {kind}\n")?;
+    ends(
+        rt,
+        alloc,
+        RENDER,
+        &mut files,
+        (99, 99),
+        (2, 0, said.as_str()),
+    )
+}
+
 #[test]
-fn scripts_and_inputs_have_faults(rt: HostRuntime) -> Result<(), Fail> {
+fn scripts_have_faults(rt: HostRuntime) -> Result<(), Fail> {
     let alloc = rt.alloc();
-    let unbuilt = (2, 0, "script fault: s.avs line 1: Unbuilt\n");
-    let rows: [(&[u8], usize, (u8, usize, &str)); 11] = [
-        (b"", 64, unbuilt),
-        (b"Y4MSource(\"m4.y4m\")\n\n", 64, unbuilt),
-        (b"Y4MSource('m4.y4m')", 64, unbuilt),
-        (b"y4msource(\"m4.y4m\")", 64, unbuilt),
-        (b"Y4MSource(\"m4.y4m\").Trim(0,0)", 64, unbuilt),
-        (b"Y4MSource(\"\xff\")", 64, unbuilt),
+    let rows: [(&[u8], u32, &str); 19] = [
+        (b"Y4MSource(\"\xff\")", 0, "NotUtf8"),
+        (b"\xff", 0, "NotUtf8"),
+        (b"\"abc", 1, "OpenString"),
+        (b"/* a", 1, "OpenComment"),
+        (b"2147483648", 1, "IntRange"),
+        (b"$123456789", 1, "IntRange"),
+        (b"a @ b", 1, "BadChar"),
+        (b"Y4MSource('m4.y4m')", 1, "BadChar"),
+        (b"x = 1.5", 1, "FloatLiteral"),
+        (b"a\n\nb = 1.5\n@", 3, "FloatLiteral"),
+        (b"Y4MSource(\"m4.y4m\"", 1, "Syntax"),
+        (b"a\n)", 2, "Syntax"),
+        (b"((((((((((((((((((((((((((((((((1", 1, "Syntax"),
         (
-            b"Y4MSource(\"none.y4m\")",
-            64,
-            (3, 0, "input fault: none.y4m: NotThere\n"),
+            b"(((((((((((((((((((((((((((((((((1)))))))))))))))))))))))))))))))))",
+            1,
+            "NestLimit",
         ),
-        (SCRIPT, 0, (3, 0, "input fault: m4.y4m: NotY4m\n")),
-        (SCRIPT, 35, (3, 0, "input fault: m4.y4m: HeadTooLong\n")),
-        (SCRIPT, 36, (3, 0, "input fault: m4.y4m: NoFrames\n")),
-        (SCRIPT, 63, (3, 0, "input fault: m4.y4m: Truncated 3\n")),
+        (b"", 1, "Unbuilt"),
+        (b"Y4MSource(\"m4.y4m\").Trim(0,0)", 1, "Unbuilt"),
+        (b"Y4MSource(\"m4.y4m\")\nlast", 1, "Unbuilt"),
+        (b"c = Y4MSource(\"m4.y4m\")", 1, "Unbuilt"),
+        (b"Y4MSource(name=\"m4.y4m\")", 1, "Unbuilt"),
     ];
-    for (script, size, want) in rows {
-        let mut files = shelf(alloc, "s.avs", script, size, &[])?;
-        ends(&rt, alloc, RENDER, &mut files, (99, 99), want)?;
+    for (script, line, kind) in rows {
+        is_wrong(&rt, alloc, script, line, kind)?;
+    }
+    for (size, line, kind) in [(1_048_577, 0, "ScriptTooLong"), (1_048_576, 1, "Unbuilt")] {
+        let script = vec![in alloc; b' '; size]?;
+        is_wrong(&rt, alloc, &script, line, kind)?;
     }
     let mut files = shelf(alloc, "t.avs", SCRIPT, 64, &[])?;
     let line = "script fault: s.avs line 0: NotThere\n";
     ends(&rt, alloc, RENDER, &mut files, (99, 99), (2, 0, line))?;
     ends(&rt, alloc, RENDER, &mut files, (99, 3), (2, 0, "scr"))?;
+    Ok(())
+}
+
+#[test]
+fn inputs_have_faults(rt: HostRuntime) -> Result<(), Fail> {
+    let alloc = rt.alloc();
+    let rows: [(&[u8], usize, &str); 5] = [
+        (b"Y4MSource(\"none.y4m\")", 64, "none.y4m: NotThere"),
+        (SCRIPT, 0, "m4.y4m: NotY4m"),
+        (SCRIPT, 35, "m4.y4m: HeadTooLong"),
+        (SCRIPT, 36, "m4.y4m: NoFrames"),
+        (SCRIPT, 63, "m4.y4m: Truncated 3"),
+    ];
+    for (script, size, fault) in rows {
+        let mut files = shelf(alloc, "s.avs", script, size, &[])?;
+        let said = format!(in alloc; "input fault: {fault}\n")?;
+        ends(
+            &rt,
+            alloc,
+            RENDER,
+            &mut files,
+            (99, 99),
+            (3, 0, said.as_str()),
+        )?;
+    }
     Ok(())
 }
 

@@ -1,7 +1,7 @@
 -- Each ending has its cause.
-use Rattle.std.proofs.Common.{inl, refl}
-use Rattle.serve_app.specs.Meaning.{Clip, Script, Input}
-use Rattle.serve_app.proofs.RunLemmas.{same_status, asked_prefix}
+use Rattle.std.proofs.Common.{inl, refl, sym, ◌∙◌}
+use Rattle.serve_app.specs.Meaning.{Clip, Input, meaning_of}
+use Rattle.serve_app.proofs.RunLemmas.{same_status, script_status, asked_prefix}
 use Rattle.serve_app.proofs.run.run_plain.Goals as goal
 
 pub returns-in-None-clause-usage : goal.returns-in-None-clause-usage
@@ -21,7 +21,7 @@ returns-in-Ok-clause-whole g c status world honest = (c.in-Some.script.now, c.in
 pub returns-in-Err-Script-clause-complete : goal.returns-in-Err-Script-clause-complete
 returns-in-Err-Script-clause-complete g c world script meaning honest asked means files out =
     let here = rw c.in-Err-Script.field-0-is at (c.in-Err-Script.ensures.explained world honest) in
-    inl (same_status world c.args.words.now c.in-Some.script.now script (Script c.in-Err-Script.fault) meaning c.in-Some.ensures.found asked here means)
+    inl (sym (script_status c.in-Err-Script.fault) ∙ same_status world c.args.words.now c.in-Some.script.now script (meaning_of c.in-Err-Script.fault) meaning c.in-Some.ensures.found asked here means)
 
 pub returns-in-Err-Script-clause-prefix : goal.returns-in-Err-Script-clause-prefix
 returns-in-Err-Script-clause-prefix g c status world honest = asked_prefix world c.args.words.now c.in-Some.script.now _ _ c.in-Some.ensures.found (c.in-Err-Script.ensures.cut world honest)

@@ -1,0 +1,11 @@
+pub mod Marks
+pub mod Turns
+pub mod Outcomes
+pub mod SoundExpr
+pub mod SoundScript
+pub mod Lengths
+pub mod CompleteExpr
+pub mod ScriptLengths
+pub mod CompleteScript
+pub mod ParseLemmas
+pub mod PrintLemmas

@@ -1,0 +1,10 @@
+use Rattle.std.proofs.Common.{arith}
+use Rattle.std.proofs.lemmas.Grind.{common_steps}
+use Rattle.avs_parse.proofs.Turns.{one_more_item}
+use Rattle.avs_parse.proofs.script.Outer.all_items.Goals as goal
+
+pub loop-turn-preserved-then-defines : goal.loop-turn-preserved-then-defines
+loop-turn-preserved-then-defines g c = grind (arith, common_steps, one_more_item)
+
+pub loop-turn-preserved : goal.loop-turn-preserved
+loop-turn-preserved g c = grind (arith, common_steps, one_more_item)

@@ -1,0 +1,9 @@
+use Rattle.std.proofs.Common.{arith}
+use Rattle.std.proofs.lemmas.Grind.{common_steps}
+use Rattle.avs_parse.specs.ReadingScript.{more_items}
+use Rattle.avs_parse.proofs.Turns.{one_more}
+use Rattle.avs_parse.proofs.statement.Blocks.more_items.Goals as goal
+
+pub loop-turn-preserved : goal.loop-turn-preserved
+unfolding more_items
+loop-turn-preserved g c = grind (arith, common_steps, one_more)

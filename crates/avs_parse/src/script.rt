@@ -1,0 +1,240 @@
+// The rules for functions and scripts, and the parser.
+ghost use Rattle.std.specs.Prelude.{◌≡◌, [], map, length, IfOk, IfErr};
+ghost use Rattle.avs_parse.specs.Inside.{ReadsInside};
+ghost use Rattle.avs_lex.specs.TokenList.{IsTokenList};
+ghost use Rattle.avs_parse.specs.Lexeme.{lexemes};
+ghost use Rattle.avs_parse.specs.Parses.{HasTree, IsRefused};
+ghost use Rattle.avs_parse.specs.ReadingScript as r;
+ghost use Rattle.avs_parse.specs.Reading.{peek};
+ghost use Rattle.avs_parse.specs.Reads.{Reads};
+ghost use Rattle.avs_parse.specs.View.{statement_view, function_view, script_view};
+
+use crate::cursor::Tokens;
+use crate::fault::{ParseError, Stop};
+use crate::statement::{Blocks, block};
+use crate::symbol::{Keyword, Mark, Symbol, is_name, type_word};
+use crate::tree::{Function, Parameter, Script, Statement, TypeWord};
+use avs_lex::Token;
+use fv_io::Text;
+use std::alloc::Global;
+
+/// How many parentheses and the like may be open at once.
+pub const NESTING_LIMIT: u32 = 32;
+
+// The name of a parameter of this type, as a name, or as a string where it is optional.
+fn parameter_name(
+    alloc: Global,
+    tokens: &mut Tokens<'_>,
+    must: bool,
+    word: TypeWord,
+) -> Result<Parameter, Stop>
+    ensures { Reads (λ p. p) (r.named_as (peek tokens.old) must word tokens.old) result tokens.new }
+{
+    match tokens.peek() {
+        Some(Symbol::Name) if !must => {
+            let name = Text::from_str(alloc, tokens.content())?;
+            tokens.take();
+            Ok(Parameter {
+                name,
+                word,
+                optional: false,
+            })
+        }
+        Some(Symbol::Str) if is_name(tokens.content()) => {
+            let name = Text::from_str(alloc, tokens.content())?;
+            tokens.take();
+            Ok(Parameter {
+                name,
+                word,
+                optional: true,
+            })
+        }
+        _ => Err(tokens.refuse()),
+    }
+}
+
+// A parameter, which must be optional or need not.
+#[tactic(auto, unfolding(crate::specs::ReadingScript::parameter))]
+fn parameter(alloc: Global, tokens: &mut Tokens<'_>, must: bool) -> Result<Parameter, Stop>
+    ensures { Reads (λ p. p) (r.parameter must tokens.old) result tokens.new }
+{
+    match tokens.peek() {
+        Some(Symbol::Name) => match type_word(tokens.content()) {
+            Some(word) => {
+                tokens.take();
+                parameter_name(alloc, tokens, must, word)
+            }
+            None => Err(tokens.refuse()),
+        },
+        _ => Err(tokens.refuse()),
+    }
+}
+
+// The parameters behind the first ones, of which the last one is optional or not.
+#[tactic(auto, using(crate::proofs::Turns::one_more_param, crate::proofs::Turns::no_more_param))]
+fn more_params(
+    alloc: Global,
+    tokens: &mut Tokens<'_>,
+    optional: bool,
+    mut params: Vec<Parameter>,
+) -> Result<Vec<Parameter>, Stop>
+    ensures { Reads (λ v. v.items) (r.more_params (length tokens.old) optional params.items tokens.old) result tokens.new }
+{
+    let mut must = optional;
+    for _turn in 0..tokens.left() {
+        if !tokens.is(Mark::Comma) {
+            return Ok(params);
+        }
+        tokens.take();
+        let param = parameter(alloc, tokens, must)?;
+        must = param.optional;
+        params.push(param)?;
+    }
+    Err(tokens.refuse())
+}
+
+#[tactic(auto, unfolding(crate::specs::ReadingScript::params))]
+fn params(alloc: Global, tokens: &mut Tokens<'_>) -> Result<Vec<Parameter>, Stop>
+    ensures { Reads (λ v. v.items) (r.params tokens.old) result tokens.new }
+{
+    let mut params = Vec::new(alloc);
+    if tokens.is(Mark::RightParen) {
+        return Ok(params);
+    }
+    let first = parameter(alloc, tokens, false)?;
+    let optional = first.optional;
+    params.push(first)?;
+    more_params(alloc, tokens, optional, params)
+}
+
+// Whether a function is defined here.
+fn defines(tokens: &Tokens<'_>) -> bool
+    ensures { result ≡ r.is_function (peek tokens.now) }
+{
+    matches!(tokens.peek(), Some(Symbol::Keyword(Keyword::Function)))
+}
+
+/// What stands in a script beside the statements of blocks.
+#[derive(Clone, Copy)]
+pub struct Outer<F> {
+    blocks: Blocks<F>,
+}
+
+impl<F: Fn(Global, &mut Tokens<'_>, u32) -> Result<Vec<Statement>, Stop>> Outer<F> {
+    #[tactic(auto, unfolding(crate::specs::ReadingScript::function))]
+    fn function(&self, tokens: &mut Tokens<'_>) -> Result<Function, Stop>
+        requires { ReadsInside self.now.blocks.depth (F.pre self.now.blocks.read) (F.post self.now.blocks.read) }
+        ensures { Reads function_view (r.function self.now.blocks.depth (r.block_below self.now.blocks.depth) tokens.old) result tokens.new }
+    {
+        let alloc = self.blocks.alloc;
+        let line = tokens.line();
+        tokens.take();
+        let name = tokens.name(alloc)?;
+        tokens.open_mark(Mark::LeftParen, self.blocks.depth)?;
+        let params = params(alloc, tokens)?;
+        tokens.expect(Mark::RightParen)?;
+        let body = self.blocks.body(tokens)?;
+        Ok(Function {
+            name,
+            params,
+            body,
+            line,
+        })
+    }
+
+    // A function and what separates it from what follows.
+    #[tactic(auto, unfolding(crate::specs::ReadingScript::function_item))]
+    fn function_item(&self, tokens: &mut Tokens<'_>) -> Result<Function, Stop>
+        requires { ReadsInside self.now.blocks.depth (F.pre self.now.blocks.read) (F.post self.now.blocks.read) }
+        ensures { Reads function_view (r.function_item self.now.blocks.depth (r.block_below self.now.blocks.depth) tokens.old) result tokens.new }
+    {
+        let function = self.function(tokens)?;
+        tokens.separate(true)?;
+        Ok(function)
+    }
+
+    // All functions and statements up to a brace or the end.
+    #[tactic(auto, using(crate::proofs::Turns::one_more_item, crate::proofs::Turns::no_more_item))]
+    fn all_items(&self, tokens: &mut Tokens<'_>) -> Result<Script, Stop>
+        requires { ReadsInside self.now.blocks.depth (F.pre self.now.blocks.read) (F.post self.now.blocks.read) }
+        ensures { Reads (λ s. (map function_view s.functions.items, map statement_view s.statements.items)) (r.all_items self.now.blocks.depth (r.block_below self.now.blocks.depth) (length tokens.old) [] [] tokens.old) result tokens.new }
+    {
+        let mut functions = Vec::new(self.blocks.alloc);
+        let mut statements = Vec::new(self.blocks.alloc);
+        for _turn in 0..tokens.left() {
+            if tokens.closes() {
+                return Ok(Script {
+                    functions,
+                    statements,
+                });
+            }
+            if defines(tokens) {
+                let function = self.function_item(tokens)?;
+                functions.push(function)?;
+                continue;
+            }
+            let item = self.blocks.item(tokens)?;
+            statements.push(item)?;
+        }
+        Err(tokens.refuse())
+    }
+
+    #[tactic(auto, unfolding(crate::specs::ReadingScript::whole))]
+    fn whole(&self, tokens: &mut Tokens<'_>) -> Result<Script, Stop>
+        requires { ReadsInside self.now.blocks.depth (F.pre self.now.blocks.read) (F.post self.now.blocks.read) }
+        ensures { Reads script_view (r.whole self.now.blocks.depth (r.block_below self.now.blocks.depth) tokens.old) result tokens.new }
+    {
+        tokens.skip_newlines();
+        let script = self.all_items(tokens)?;
+        tokens.expect(Mark::End)?;
+        if tokens.left() != 0 {
+            return Err(tokens.refuse());
+        }
+        Ok(script)
+    }
+}
+
+// A script that nests so deep at most.
+#[tactic(auto, using(crate::proofs::Turns::block_below_is), unfolding(crate::specs::ReadingScript::script))]
+fn script(alloc: Global, tokens: &mut Tokens<'_>, depth: u32) -> Result<Script, Stop>
+    ensures { Reads script_view (r.script depth tokens.old) result tokens.new }
+{
+    let blocks = Blocks {
+        alloc,
+        depth,
+        read: block,
+    };
+    Outer { blocks }.whole(tokens)
+}
+
+// The number of the token from which on so many are left, and its line.
+fn place(tokens: &[Token], left: usize) -> (u32, u32) {
+    let token = tokens.len().saturating_sub(left);
+    let line = tokens.get(token).map_or(0, |token| token.line);
+    (u32::try_from(token).unwrap_or(u32::MAX), line)
+}
+
+/// The tree of the tokens that `lex` gave of this text.
+pub fn parse(alloc: Global, text: &str, tokens: &[Token]) -> Result<Script, ParseError>
+    requires { IsTokenList text.now tokens.now }
+
+    // The tree is the one that the grammar gives.
+    ensures tree { IfOk result (λ made. HasTree (lexemes text.now tokens.now) (script_view made)) }
+
+    // A fault comes only where the grammar gives no tree, or one that nests too deep.
+    ensures fault { IfErr result (IsRefused (lexemes text.now tokens.now)) }
+{
+    let mut rest = Tokens::new(text, tokens);
+    match script(alloc, &mut rest, NESTING_LIMIT) {
+        Ok(script) => Ok(script),
+        Err(Stop::Syntax(left)) => {
+            let (token, line) = place(tokens, left);
+            Err(ParseError::Syntax { token, line })
+        }
+        Err(Stop::NestLimit(left)) => {
+            let (token, line) = place(tokens, left);
+            Err(ParseError::NestLimit { token, line })
+        }
+        Err(Stop::Memory) => Err(ParseError::Memory),
+    }
+}

@@ -1,0 +1,177 @@
+// Trees of scripts.
+use fv_io::Text;
+
+/// A script. Its functions and its statements each stand in the order of the text.
+#[derive(Drop, Debug)]
+pub struct Script {
+    pub functions: Vec<Function>,
+    pub statements: Vec<Statement>,
+}
+
+/// A function with its parameters and the statements of its body.
+#[derive(Drop, Debug)]
+pub struct Function {
+    pub name: Text,
+    pub params: Vec<Parameter>,
+    pub body: Vec<Statement>,
+    pub line: u32,
+}
+
+/// A parameter. An optional one is written as a string.
+#[derive(Drop, Debug)]
+pub struct Parameter {
+    pub name: Text,
+    pub word: TypeWord,
+    pub optional: bool,
+}
+
+/// The type of a parameter.
+#[derive(Clone, Copy, Debug, PartialEq, Eq)]
+pub enum TypeWord {
+    Clip,
+    Int,
+    String,
+    Bool,
+    Val,
+}
+
+/// A statement and the line of its first token.
+#[cycle(statements)]
+#[derive(Drop, Debug)]
+pub struct Statement {
+    pub kind: StatementKind,
+    pub line: u32,
+}
+
+/// What a statement does.
+#[cycle(statements)]
+#[derive(Drop, Debug)]
+pub enum StatementKind {
+    Global {
+        name: Text,
+        value: Expr,
+    },
+    Assign {
+        name: Text,
+        value: Expr,
+    },
+    Return(Expr),
+    /// `if`, and an arm more for each `else if`.
+    If {
+        arms: Vec<Arm>,
+        other: Option<Vec<Statement>>,
+    },
+    While {
+        condition: Expr,
+        body: Vec<Statement>,
+    },
+    For {
+        name: Text,
+        first: Expr,
+        last: Expr,
+        step: Option<Expr>,
+        body: Vec<Statement>,
+    },
+    Value(Expr),
+}
+
+/// A condition and what is done where it holds.
+#[cycle(statements)]
+#[derive(Drop, Debug)]
+pub struct Arm {
+    pub condition: Expr,
+    pub body: Vec<Statement>,
+}
+
+/// An expression. A chain of operators of one rank is a list, and a parenthesis is a group. A line is that of the name,
+/// the operator or the `?`.
+#[cycle(expressions)]
+#[derive(Drop, Debug)]
+pub enum Expr {
+    Int(i32),
+    Bool(bool),
+    Str(Text),
+    Name {
+        name: Text,
+        line: u32,
+    },
+    Call {
+        name: Text,
+        args: Vec<Arg>,
+        line: u32,
+    },
+    Dots {
+        first: Box<Expr>,
+        calls: Vec<DotCall>,
+    },
+    Minus {
+        operand: Box<Expr>,
+        line: u32,
+    },
+    Not {
+        operand: Box<Expr>,
+        line: u32,
+    },
+    Chain {
+        first: Box<Expr>,
+        rest: Vec<Step>,
+    },
+    Compare {
+        op: Operator,
+        left: Box<Expr>,
+        right: Box<Expr>,
+        line: u32,
+    },
+    Pick {
+        condition: Box<Expr>,
+        yes: Box<Expr>,
+        no: Box<Expr>,
+        line: u32,
+    },
+    Group(Box<Expr>),
+}
+
+/// An argument, with a name or without.
+#[cycle(expressions)]
+#[derive(Drop, Debug)]
+pub struct Arg {
+    pub name: Option<Text>,
+    pub value: Expr,
+}
+
+/// A call behind a dot, which needs no arguments.
+#[cycle(expressions)]
+#[derive(Drop, Debug)]
+pub struct DotCall {
+    pub name: Text,
+    pub args: Option<Vec<Arg>>,
+    pub line: u32,
+}
+
+/// An operator of a chain and the operand behind it.
+#[cycle(expressions)]
+#[derive(Drop, Debug)]
+pub struct Step {
+    pub op: Operator,
+    pub operand: Expr,
+    pub line: u32,
+}
+
+/// An operator between two operands.
+#[derive(Clone, Copy, Debug, PartialEq, Eq)]
+pub enum Operator {
+    Or,
+    And,
+    Equal,
+    NotEqual,
+    Less,
+    LessEqual,
+    Greater,
+    GreaterEqual,
+    Plus,
+    Minus,
+    PlusPlus,
+    Times,
+    Divide,
+    Remainder,
+}
