@@ -1,21 +1,21 @@
 -- What is spelled as an expression is read as it.
 use Rattle.std.proofs.Common.{◌≡◌, refl, sym, ap, subst, ◌∙◌, ℕ, ℤ, zero, suc, ◌-◌, ◌<◌, ◌≤◌, arith, Bool, true, false, ◌⊎◌, inl, inr, List, [], ◌∷◌, ◌++◌, append_assoc, append-nil, Option, Some, None, Ok, length, is_some, option_map, nat_eq, nat_le, if◌then◌else◌}
 use Rattle.std.proofs.lemmas.Bool.Decides.{nat_tests}
-use Rattle.avs_parse.specs.Lexeme.{Lexemes, Text, precedence_of}
-use Rattle.avs_parse.specs.Tree.{Expr, int, bool, str, call, dots, minus, not_, chain, compare, pick, group, Args, no_args, arg, Dots, no_dots, word, dot, Steps, no_steps, step}
-use Rattle.avs_parse.specs.Tree as t
-use Rattle.avs_parse.specs.View.{ArgIs, DotIs, StepIs, args_of, dots_of, steps_of}
-use Rattle.avs_parse.specs.Grammar.{Is, IsAt, IsMark, IsNameAt, IsName, truth, Labels, Chains, Calls, rank_of, Spells, SpellsSteps, SpellsDots, SpellsArgs, SpellsMore, nesting, steps_nesting, dots_nesting, args_nesting}
-use Rattle.avs_parse.specs.Reading.{Outcome, Reader, and_then, pure, peek, tail, line_at, marks, is_mark, assigns, assigns_by, operator_at, operator_by, expect, opens, name, name_by, gather, gather_by}
+use Rattle.avs_tree.specs.Lexeme.{Lexemes, Text, precedence_of, line_of}
+use Rattle.avs_tree.specs.Tree.{Expr, int, bool, str, call, dots, minus, not_, chain, compare, pick, group, Args, no_args, arg, Dots, no_dots, word, dot, Steps, no_steps, step}
+use Rattle.avs_tree.specs.Tree as t
+use Rattle.avs_tree.specs.View.{ArgIs, DotIs, StepIs, args_of, dots_of, steps_of}
+use Rattle.avs_tree.specs.Grammar.{Is, IsAt, IsMark, IsNameAt, IsName, truth, Labels, Chains, Calls, rank_of, Spells, SpellsSteps, SpellsDots, SpellsArgs, SpellsMore, nesting, steps_nesting, dots_nesting, args_nesting}
+use Rattle.avs_parse.specs.Reading.{Outcome, Reader, and_then, pure, peek, tail, marks, is_mark, assigns, assigns_by, operator_at, operator_by, expect, opens, name, name_by, gather, gather_by}
 use Rattle.avs_parse.specs.ReadingExpr as reading
 use Rattle.avs_parse.specs.ReadingExpr.{below, expression}
-use Rattle.avs_parse.specs.declared.symbol.Symbol.{Symbol}
-use Rattle.avs_parse.specs.declared.symbol.Symbol.TheVariants as s
-use Rattle.avs_parse.specs.declared.symbol.Keyword.TheVariants as w
-use Rattle.avs_parse.specs.declared.symbol.Mark.{Mark}
-use Rattle.avs_parse.specs.declared.symbol.Mark.TheVariants as m
-use Rattle.avs_parse.specs.declared.tree.Operator.{Operator}
-use Rattle.avs_parse.specs.declared.tree.Operator.TheVariants as o
+use Rattle.avs_tree.specs.declared.symbol.Symbol.{Symbol}
+use Rattle.avs_tree.specs.declared.symbol.Symbol.TheVariants as s
+use Rattle.avs_tree.specs.declared.symbol.Keyword.TheVariants as w
+use Rattle.avs_tree.specs.declared.symbol.Mark.{Mark}
+use Rattle.avs_tree.specs.declared.symbol.Mark.TheVariants as m
+use Rattle.avs_tree.specs.declared.tree.Operator.{Operator}
+use Rattle.avs_tree.specs.declared.tree.Operator.TheVariants as o
 use Rattle.avs_parse.proofs.Marks.{is_mark-at}
 use Rattle.avs_parse.proofs.SoundExpr.{raise}
 use Rattle.avs_parse.proofs.Lengths.{is_length, at_length, label_length, shorter, args_shorter}
@@ -439,8 +439,8 @@ back_str : (x : Text) → Claim 0 (str x)
 unfolding reading.ranked reading.primary
 back_str x n ts us (line, is) deep ends = subst (λ z. Gives (str x) us (reading.primary_by n (below n) (peek z) z)) (sym is) gives
 
-named_line : (x : Text) (line : ℕ) (ts us : Lexemes) → IsNameAt x line ts us → line_at ts ≡ line
-named_line x line ts us is = ap line_at is
+named_line : (x : Text) (line : ℕ) (ts us : Lexemes) → IsNameAt x line ts us → line_of ts ≡ line
+named_line x line ts us is = ap line_of is
 
 primary_name : (n : ℕ) (inner : ℕ → Reader Expr) (e : Expr) (x : Text) (line : ℕ) (ts us vs : Lexemes) → IsNameAt x line ts us → Gives e vs (reading.named n inner ts) → Gives e vs (reading.primary n inner ts)
 unfolding reading.primary
@@ -450,14 +450,14 @@ back_name : (x : Text) (line : ℕ) → Claim 0 (t.name x line)
 unfolding reading.ranked reading.named
 back_name x line n ts us is deep ends =
     primary_name n (below n) (t.name x line) x line ts us us is
-    (then_gives _ (gives_name x line ts us is) (then_gives _ (gives_none n us ends) (subst (λ k. Gives (t.name x line) us (Ok (t.name x k, us))) (sym (ap line_at is)) gives)))
+    (then_gives _ (gives_name x line ts us is) (then_gives _ (gives_none n us ends) (subst (λ k. Gives (t.name x line) us (Ok (t.name x k, us))) (sym (ap line_of is)) gives)))
 
 back_call : (x : Text) (es : Args) (line : ℕ) → ArgsClaim es → Claim 0 (call x es line)
 unfolding reading.ranked reading.named
 back_call x es line claim n ts us (vs, ws, is, paren, all) deep ends =
     primary_name n (below n) (call x es line) x line ts vs us is
     (then_gives _ (gives_name x line ts vs is) (then_gives _ (gives_optional es claim n vs ws us paren all (omega arith))
-    (subst (λ k. Gives (call x es line) us (Ok (call x (args_of (args_list es)) k, us))) (sym (ap line_at is)) (subst (λ z. Gives (call x es line) us (Ok (call x z line, us))) (sym (list_args es)) gives))))
+    (subst (λ k. Gives (call x es line) us (Ok (call x (args_of (args_list es)) k, us))) (sym (ap line_of is)) (subst (λ z. Gives (call x es line) us (Ok (call x z line, us))) (sym (list_args es)) gives))))
 
 back_group : (e : Expr) → Back e → Claim 0 (group e)
 unfolding reading.ranked reading.primary reading.grouped reach
@@ -491,8 +491,8 @@ gives_dot : (n : ℕ) (x : Text) (o : Option (List ArgIs)) (line : ℕ) (ts vs w
     → Gives (x, (option_map args_of o, line)) us (reading.dot_call n (below n) ts)
 unfolding reading.dot_call
 gives_dot n x o line ts vs ws us mark is h =
-    subst (λ z. Gives {A = DotIs} (x, (option_map args_of o, line)) us (and_then (name z) (λ x us. and_then (reading.optional_args n (below n) us) (λ found. pure (x, (option_map args_of found, line_at z)))))) (sym (tail_at (s.Mark m.Dot) ts vs mark))
-    (then_gives _ (gives_name x line vs ws is) (then_gives _ h (subst (λ k. Gives {A = DotIs} (x, (option_map args_of o, line)) us (Ok ((x, (option_map args_of o, k)), us))) (sym (ap line_at is)) gives)))
+    subst (λ z. Gives {A = DotIs} (x, (option_map args_of o, line)) us (and_then (name z) (λ x us. and_then (reading.optional_args n (below n) us) (λ found. pure (x, (option_map args_of found, line_of z)))))) (sym (tail_at (s.Mark m.Dot) ts vs mark))
+    (then_gives _ (gives_name x line vs ws is) (then_gives _ h (subst (λ k. Gives {A = DotIs} (x, (option_map args_of o, line)) us (Ok ((x, (option_map args_of o, k)), us))) (sym (ap line_of is)) gives)))
 
 one_dot : (d : DotIs) (ds : Dots) → DotsClaim ds → (n k : ℕ) (found : List DotIs) (ts vs us : Lexemes) → IsMark m.Dot ts (tail ts) → Gives d vs (reading.dot_call n (below n) ts)
     → SpellsDots ds vs us → dots_nesting ds ≤ n → Ends 1 us → length vs < length ts → length ts ≤ k → Gives (found ++ d ∷ dots_list ds) us (reading.dot_calls n (below n) k found ts)
@@ -537,14 +537,14 @@ unfolding reading.ranked reading.prefixed
 back_minus e line back n ts us (low, vs, (x, is), inside) deep ends =
     subst (λ o. Gives (minus e line) us (reading.prefixed_by n (below n) o (expression n 1) ts)) (sym (ap peek is))
     (then_gives _ (gives_opens n (s.Operator o.Minus) ts vs (omega arith) (line, (x, is))) (then_gives _ (inner_back e back n 2 vs us (omega arith) inside (omega arith) ends)
-    (subst (λ k. Gives (minus e line) us (Ok (minus e k, us))) (sym (ap line_at is)) gives)))
+    (subst (λ k. Gives (minus e line) us (Ok (minus e k, us))) (sym (ap line_of is)) gives)))
 
 back_not : (e : Expr) (line : ℕ) → Back e → Claim 2 (not_ e line)
 unfolding reading.ranked reading.prefixed
 back_not e line back n ts us (low, vs, (x, is), inside) deep ends =
     subst (λ o. Gives (not_ e line) us (reading.prefixed_by n (below n) o (expression n 1) ts)) (sym (ap peek is))
     (then_gives _ (gives_opens n (s.Mark m.Not) ts vs (omega arith) (line, (x, is))) (then_gives _ (inner_back e back n 2 vs us (omega arith) inside (omega arith) ends)
-    (subst (λ k. Gives (not_ e line) us (Ok (not_ e k, us))) (sym (ap line_at is)) gives)))
+    (subst (λ k. Gives (not_ e line) us (Ok (not_ e k, us))) (sym (ap line_of is)) gives)))
 
 abbrev StepsClaim : Steps → Type 0
 StepsClaim ss = (n r k : ℕ) (found : List StepIs) (ts us : Lexemes) → 2 < r → r ≤ 8 → SpellsSteps r ss ts us → steps_nesting ss ≤ n → Ends r us → length ts ≤ k
@@ -570,7 +570,7 @@ unfolding reading.one_step
 gives_step n r op e line ts vs us is (x, mark) h =
     let found : operator_at r ts ≡ Some op = subst (λ k. operator_at k ts ≡ Some op) is (operator_here op line ts vs (x, mark)) in
     subst (λ o. Gives {A = StepIs} (op, (e, line)) us (reading.step_by n (below n) o (expression n (r - 1)) ts)) (sym found)
-    (then_gives _ (subst (λ z. Gives e us (expression n (r - 1) z)) (sym (ap tail mark)) h) (subst (λ k. Gives {A = StepIs} (op, (e, line)) us (Ok ((op, (e, k)), us))) (sym (ap line_at mark)) gives))
+    (then_gives _ (subst (λ z. Gives e us (expression n (r - 1) z)) (sym (ap tail mark)) h) (subst (λ k. Gives {A = StepIs} (op, (e, line)) us (Ok ((op, (e, k)), us))) (sym (ap line_of mark)) gives))
 
 step_back : (op : Operator) (e : Expr) (line : ℕ) (ss : Steps) → Back e → StepsClaim ss → StepsClaim (step op e line ss)
 unfolding reading.steps steps_list
@@ -631,7 +631,7 @@ back_compare op a b line left right n ts us (low, is, vs, ws, first, (x, mark), 
     then_gives _ (left 4 (omega arith) n ts vs first (omega arith) (omega (arith, ends_at (s.Operator op) vs ws (line, (x, mark)), is)))
     (subst (λ o. Gives (compare op a b line) us (reading.compared_by n (below n) o a (expression n 4) vs)) (sym here)
     (then_gives _ (subst (λ z. Gives b us (expression n 4 z)) (sym (ap tail mark)) (right 4 (omega arith) n ws us second (omega arith) (omega arith)))
-    (subst (λ k. Gives (compare op a b line) us (Ok (compare op a b k, us))) (sym (ap line_at mark)) gives)))
+    (subst (λ k. Gives (compare op a b line) us (Ok (compare op a b k, us))) (sym (ap line_of mark)) gives)))
 
 back_pick : (c a b : Expr) (line : ℕ) → Back c → Back a → Back b → Claim 8 (pick c a b line)
 unfolding reading.ranked reading.chosen reach
@@ -641,7 +641,7 @@ back_pick c a b line back_c back_a back_b n ts us (low, vs, ws, xs, ys, first, (
     (then_gives _ (gives_opens n (s.Mark m.Question) vs ws (omega arith) (line, (x, mark)))
     (then_gives _ (inner_back a back_a n 8 ws xs (omega arith) yes_ (omega arith) (omega (arith, ends_at (s.Mark m.Colon) xs ys colon)))
     (then_gives _ (gives_expect m.Colon xs ys colon)
-    (then_gives _ (inner_back b back_b n 8 ys us (omega arith) no_ (omega arith) ends) (subst (λ k. Gives (pick c a b line) us (Ok (pick c a b k, us))) (sym (ap line_at mark)) gives))))))
+    (then_gives _ (inner_back b back_b n 8 ys us (omega arith) no_ (omega arith) ends) (subst (λ k. Gives (pick c a b line) us (Ok (pick c a b k, us))) (sym (ap line_of mark)) gives))))))
 
 -- ---- all expressions
 

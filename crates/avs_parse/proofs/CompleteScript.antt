@@ -1,22 +1,22 @@
 -- What is spelled as a script is read as it.
 use Rattle.std.proofs.Common.{◌≡◌, refl, sym, ap, subst, ◌∙◌, ℕ, zero, suc, ◌<◌, ◌≤◌, max, arith, Bool, true, false, not, IsTrue, ◌||◌, ◌⊎◌, inl, inr, List, [], ◌∷◌, ◌++◌, append_assoc, append-nil, Option, Some, None, option_map, Ok, Err, length}
-use Rattle.avs_parse.specs.Lexeme.{Lexemes, Lexeme, Text, is_name}
-use Rattle.avs_parse.specs.Tree.{Expr, Kind, global, assign, return, if_, while, for, value, Arms, no_arms, arm, Else, no_else, else_, Block, no_more, then_, Function, Script, ends_with_brace}
-use Rattle.avs_parse.specs.View.{StatementIs, ArmIs, block_of, arms_of, else_of}
-use Rattle.avs_parse.specs.Grammar.{Is, IsMark, IsKeyword, IsNameAt, IsName, nesting}
-use Rattle.avs_parse.specs.Script.{Newlines, Separates, Condition, Braces, ForStep, SpellsKind, SpellsElseIfs, SpellsElse, SpellsAll, ParameterName, SpellsParameter, MoreParameters, Parameters, SpellsFunction, Items, no_items, function_then, statement_then, functions_of, statements_of, SpellsItems, IsScript, kind_nesting, arms_nesting, else_nesting, block_nesting, step_nesting, functions_nesting, script_nesting}
-use Rattle.avs_parse.specs.Reading.{Outcome, Reader, peek, tail, line_at, marks, is_mark, assigns, assigns_by, opens_mark, name, gather, skip, skip_by, closes, separate}
+use Rattle.avs_tree.specs.Lexeme.{Lexemes, Lexeme, Text, is_name, line_of}
+use Rattle.avs_tree.specs.Tree.{Expr, Kind, global, assign, return, if_, while, for, value, Arms, no_arms, arm, Else, no_else, else_, Block, no_more, then_, Function, Script, ends_with_brace}
+use Rattle.avs_tree.specs.View.{StatementIs, ArmIs, block_of, arms_of, else_of}
+use Rattle.avs_tree.specs.Grammar.{Is, IsMark, IsKeyword, IsNameAt, IsName, nesting}
+use Rattle.avs_tree.specs.Script.{Newlines, Separates, Condition, Braces, ForStep, SpellsKind, SpellsElseIfs, SpellsElse, SpellsAll, ParameterName, SpellsParameter, MoreParameters, Parameters, SpellsFunction, Items, no_items, function_then, statement_then, functions_of, statements_of, SpellsItems, IsScript, kind_nesting, arms_nesting, else_nesting, block_nesting, step_nesting, functions_nesting, script_nesting}
+use Rattle.avs_parse.specs.Reading.{Outcome, Reader, peek, tail, marks, is_mark, assigns, assigns_by, opens_mark, name, gather, skip, skip_by, closes, separate}
 use Rattle.avs_parse.specs.ReadingExpr.{below, expression}
 use Rattle.avs_parse.specs.ReadingScript as reading
 use Rattle.avs_parse.specs.ReadingScript.{block_below}
-use Rattle.avs_parse.specs.declared.symbol.Symbol.{Symbol}
-use Rattle.avs_parse.specs.declared.symbol.Symbol.TheVariants as s
-use Rattle.avs_parse.specs.declared.symbol.Keyword.{Keyword}
-use Rattle.avs_parse.specs.declared.symbol.Keyword.TheVariants as w
-use Rattle.avs_parse.specs.declared.symbol.Mark.{Mark}
-use Rattle.avs_parse.specs.declared.symbol.Mark.TheVariants as m
-use Rattle.avs_parse.specs.declared.tree.Parameter.{Parameter}
-use Rattle.avs_parse.specs.declared.tree.TypeWord.{TypeWord}
+use Rattle.avs_tree.specs.declared.symbol.Symbol.{Symbol}
+use Rattle.avs_tree.specs.declared.symbol.Symbol.TheVariants as s
+use Rattle.avs_tree.specs.declared.symbol.Keyword.{Keyword}
+use Rattle.avs_tree.specs.declared.symbol.Keyword.TheVariants as w
+use Rattle.avs_tree.specs.declared.symbol.Mark.{Mark}
+use Rattle.avs_tree.specs.declared.symbol.Mark.TheVariants as m
+use Rattle.avs_tree.specs.declared.tree.Parameter.{Parameter}
+use Rattle.avs_tree.specs.declared.tree.TypeWord.{TypeWord}
 use Rattle.avs_parse.proofs.Marks.{skip-newline, skip-other}
 use Rattle.avs_parse.proofs.Lengths.{is_length}
 use Rattle.avs_parse.proofs.ScriptLengths.{newlines_length, separates_length, condition_length, braces_length, kind_shorter, all_shorter, parameter_length, function_length}
@@ -205,7 +205,7 @@ done n k found ts us is deep close closed fuel =
     (subst (λ z. Gives z us (gather more (reading.item n (block_below n)) k found us)) (sym (append-nil found))
     (gather_none more (reading.item n (block_below n)) k found us (ap not closed) (omega (arith, ap length is, role_some us (omega arith)))))
 
-gives_item : (k : Kind) → KindClaim k → (n line : ℕ) (ts us vs : Lexemes) → SpellsKind k ts us → Separates (ends_with_brace k) us vs → line_at ts ≡ line → kind_nesting k ≤ n → role (peek vs) < 3
+gives_item : (k : Kind) → KindClaim k → (n line : ℕ) (ts us vs : Lexemes) → SpellsKind k ts us → Separates (ends_with_brace k) us vs → line_of ts ≡ line → kind_nesting k ≤ n → role (peek vs) < 3
     → Gives (k, line) vs (reading.item n (block_below n) ts)
 unfolding reading.item
 gives_item k claim n line ts us vs spelled separated at deep next =
@@ -520,7 +520,7 @@ gives_function f n ts us (at, t1, t2, t3, t4, t5, key, (line, named), left, para
     then_gives _ (subst (λ z. Gives f.name t2 (name z)) (sym (tail_at (s.Keyword w.Function) ts t1 key)) (gives_name f.name line t1 t2 named))
     (then_gives _ (gives_opens_mark m.LeftParen n t2 t3 left (omega arith)) (then_gives _ (gives_params f.params t3 t4 t5 params right)
     (then_gives _ (gives_expect m.RightParen t4 t5 right) (then_gives _ (gives_body f.body (block_back f.body) n t5 us body deep)
-    (subst (λ z. Gives f us (Ok (record { name = f.name; params = f.params; body = z; line = line_at ts }, us))) (sym (list_block f.body))
+    (subst (λ z. Gives f us (Ok (record { name = f.name; params = f.params; body = z; line = line_of ts }, us))) (sym (list_block f.body))
     (subst (λ z. Gives f us (Ok (record { name = f.name; params = f.params; body = f.body; line = z }, us))) (sym at) gives))))))
 
 gives_function_item : (f : Function) (n : ℕ) (ts t1 us : Lexemes) → SpellsFunction f ts t1 → Separates true t1 us → block_nesting f.body < n → role (peek us) < 3 → Gives f us (reading.function_item n (block_below n) ts)

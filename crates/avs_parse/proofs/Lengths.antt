@@ -1,10 +1,10 @@
 -- What is spelled takes tokens.
 use Rattle.std.proofs.Common.{◌≡◌, ap, ℕ, suc, ◌-◌, ◌<◌, ◌≤◌, arith, Option, Some, None, length}
-use Rattle.avs_parse.specs.Lexeme.{Lexemes, Text}
-use Rattle.avs_parse.specs.Tree.{Expr, int, bool, str, call, dots, minus, not_, chain, compare, pick, group, Args, no_args, arg, Dots, no_dots, word, dot, Steps, no_steps, step}
-use Rattle.avs_parse.specs.Tree as t
-use Rattle.avs_parse.specs.Grammar.{Is, IsAt, Labels, Spells, SpellsSteps, SpellsDots, SpellsArgs, SpellsMore, rank_of}
-use Rattle.avs_parse.specs.declared.symbol.Symbol.{Symbol}
+use Rattle.avs_tree.specs.Lexeme.{Lexemes, Text}
+use Rattle.avs_tree.specs.Tree.{Expr, int, bool, str, call, dots, minus, not_, chain, compare, pick, group, Args, no_args, arg, Dots, no_dots, word, dot, Steps, no_steps, step}
+use Rattle.avs_tree.specs.Tree as t
+use Rattle.avs_tree.specs.Grammar.{Is, IsAt, Labels, Spells, SpellsSteps, SpellsDots, SpellsArgs, SpellsMore, rank_of}
+use Rattle.avs_tree.specs.declared.symbol.Symbol.{Symbol}
 
 pub is_length : (symbol : Symbol) (ts us : Lexemes) → Is symbol ts us → length ts ≡ suc (length us)
 is_length symbol ts us (line, (x, is)) = ap length is

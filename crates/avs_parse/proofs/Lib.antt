@@ -8,4 +8,3 @@ pub mod CompleteExpr
 pub mod ScriptLengths
 pub mod CompleteScript
 pub mod ParseLemmas
-pub mod PrintLemmas

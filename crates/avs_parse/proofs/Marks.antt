@@ -1,13 +1,13 @@
 -- What the tests of the next token say.
 use Rattle.std.proofs.Common.{◌≡◌, refl, ap, ◌∙◌, true, false, [], ◌∷◌, Option, Some, rules, ◌<◌, length, arith}
 use denote.Enum.Bare.{same_true}
-use Rattle.avs_parse.specs.contracts.symbol.Mark.{the_type}
-use Rattle.avs_parse.specs.Lexeme.{Lexemes}
+use Rattle.avs_tree.specs.contracts.symbol.Mark.{the_type}
+use Rattle.avs_tree.specs.Lexeme.{Lexemes}
 use Rattle.avs_parse.specs.Reading.{peek, tail, marks, is_mark, skip, skip_by}
-use Rattle.avs_parse.specs.declared.symbol.Symbol.{Symbol}
-use Rattle.avs_parse.specs.declared.symbol.Symbol.TheVariants as s
-use Rattle.avs_parse.specs.declared.symbol.Mark.{Mark}
-use Rattle.avs_parse.specs.declared.symbol.Mark.TheVariants as m
+use Rattle.avs_tree.specs.declared.symbol.Symbol.{Symbol}
+use Rattle.avs_tree.specs.declared.symbol.Symbol.TheVariants as s
+use Rattle.avs_tree.specs.declared.symbol.Mark.{Mark}
+use Rattle.avs_tree.specs.declared.symbol.Mark.TheVariants as m
 
 marks_is : (mark : Mark) (o : Option Symbol) → marks mark o ≡ true → o ≡ Some (s.Mark mark)
 marks_is mark (Some (s.Mark next)) h = ap (λ x. Some (s.Mark x)) (same_true the_type (search rules) next mark h)

@@ -1,11 +1,11 @@
 -- Facts of what was read, passed through the steps of a reader.
 use Rattle.std.proofs.Common.{◌≡◌, refl, ap, ℕ, zero, suc, ◌<◌, Bool, true, false, [], ◌∷◌, Some, Ok, Err, if◌then◌else◌, arith}
-use Rattle.avs_parse.specs.Lexeme.{Lexemes}
-use Rattle.avs_parse.specs.Reading.{Fault, Outcome, Reader, and_then, peek, tail, content_at, line_at, is_mark, expect, opens}
-use Rattle.avs_parse.specs.Grammar.{Is, IsMark}
-use Rattle.avs_parse.specs.declared.symbol.Symbol.{Symbol}
-use Rattle.avs_parse.specs.declared.symbol.Symbol.TheVariants as s
-use Rattle.avs_parse.specs.declared.symbol.Mark.{Mark}
+use Rattle.avs_tree.specs.Lexeme.{Lexemes, line_of}
+use Rattle.avs_parse.specs.Reading.{Fault, Outcome, Reader, and_then, peek, tail, content_at, is_mark, expect, opens}
+use Rattle.avs_tree.specs.Grammar.{Is, IsMark}
+use Rattle.avs_tree.specs.declared.symbol.Symbol.{Symbol}
+use Rattle.avs_tree.specs.declared.symbol.Symbol.TheVariants as s
+use Rattle.avs_tree.specs.declared.symbol.Mark.{Mark}
 use Rattle.avs_parse.proofs.Marks.{mark_is}
 
 -- Where something was read, the fact holds of it and of what is left.
@@ -23,12 +23,12 @@ on_if true f g = f refl
 on_if false f g = g refl
 
 -- the next token
-pub next_is : (ts : Lexemes) (symbol : Symbol) → peek ts ≡ Some symbol → ts ≡ (symbol, content_at ts, line_at ts) ∷ tail ts
+pub next_is : (ts : Lexemes) (symbol : Symbol) → peek ts ≡ Some symbol → ts ≡ (symbol, content_at ts, line_of ts) ∷ tail ts
 next_is [] symbol h = absurd (cc)
 next_is (t ∷ ts) symbol h = let e : t.0 ≡ symbol = cc in ap (λ x. (x, t.1, t.2) ∷ ts) e
 
 pub is_next : (ts : Lexemes) (symbol : Symbol) → peek ts ≡ Some symbol → Is symbol ts (tail ts)
-is_next ts symbol h = (line_at ts, (content_at ts, next_is ts symbol h))
+is_next ts symbol h = (line_of ts, (content_at ts, next_is ts symbol h))
 
 pub on_expect : (mark : Mark) (ts : Lexemes) → On (λ _ us. IsMark mark ts us) (expect mark ts)
 unfolding expect

@@ -1,10 +1,10 @@
 -- From what was read to what the parser answers.
 use Rattle.std.proofs.Common.{◌≡◌, subst, Ok, Err}
-use Rattle.avs_parse.specs.Lexeme.{Lexemes}
-use Rattle.avs_parse.specs.Tree as t
+use Rattle.avs_tree.specs.Lexeme.{Lexemes}
+use Rattle.avs_tree.specs.Tree as t
 use Rattle.avs_parse.specs.Reading.{Fault, Outcome}
 use Rattle.avs_parse.specs.ReadingScript.{script}
-use Rattle.avs_parse.specs.Parses.{HasTree, nesting_limit}
+use Rattle.avs_tree.specs.Script.{HasTree, nesting_limit}
 use Rattle.avs_parse.proofs.Outcomes.{On, was_read}
 use Rattle.avs_parse.proofs.SoundScript.{sound_script}
 use Rattle.avs_parse.proofs.CompleteExpr.{gives_ok}

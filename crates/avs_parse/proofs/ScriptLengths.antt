@@ -1,10 +1,10 @@
 -- What is spelled as a statement takes tokens.
 use Rattle.std.proofs.Common.{◌≡◌, ap, suc, ◌<◌, ◌≤◌, arith, Bool, true, false, inl, inr, List, [], ◌∷◌, Option, Some, None, length}
-use Rattle.avs_parse.specs.Lexeme.{Lexemes, Text}
-use Rattle.avs_parse.specs.Tree.{Expr, Kind, global, assign, return, if_, while, for, value, Arms, no_arms, arm, Else, no_else, else_, Block, no_more, then_, Function, ends_with_brace}
-use Rattle.avs_parse.specs.Script.{Newlines, Separates, Condition, Braces, ForStep, ForHead, SpellsKind, SpellsElseIfs, SpellsElse, SpellsAll, ParameterName, SpellsParameter, MoreParameters, Parameters, SpellsFunction}
-use Rattle.avs_parse.specs.Grammar.{IsName}
-use Rattle.avs_parse.specs.declared.tree.Parameter.{Parameter}
+use Rattle.avs_tree.specs.Lexeme.{Lexemes, Text}
+use Rattle.avs_tree.specs.Tree.{Expr, Kind, global, assign, return, if_, while, for, value, Arms, no_arms, arm, Else, no_else, else_, Block, no_more, then_, Function, ends_with_brace}
+use Rattle.avs_tree.specs.Script.{Newlines, Separates, Condition, Braces, ForStep, ForHead, SpellsKind, SpellsElseIfs, SpellsElse, SpellsAll, ParameterName, SpellsParameter, MoreParameters, Parameters, SpellsFunction}
+use Rattle.avs_tree.specs.Grammar.{IsName}
+use Rattle.avs_tree.specs.declared.tree.Parameter.{Parameter}
 use Rattle.avs_parse.proofs.Lengths.{is_length, shorter}
 
 pub newlines_length : (ts us : Lexemes) → Newlines ts us → length us ≤ length ts

@@ -1,29 +1,29 @@
 -- What is read as an expression is spelled so, and nests no deeper than may be.
 use Rattle.std.proofs.Common.{◌≡◌, refl, sym, ap, subst, ◌∙◌, ℕ, zero, suc, ◌-◌, ◌<◌, ◌≤◌, arith, Bool, true, false, List, [], ◌∷◌, ◌++◌, append_assoc, append-nil, Option, Some, None, length, is_some, option_map, nat_eq, if◌then◌else◌}
 use Rattle.std.proofs.lemmas.Bool.Decides.{nat_tests}
-use Rattle.avs_parse.specs.Lexeme.{Lexemes, Text, precedence_of}
-use Rattle.avs_parse.specs.Tree.{Expr, int, bool, str, call, dots, minus, not_, chain, compare, pick, group, Args, no_args, arg, Dots, no_dots, word, dot, Steps, no_steps, step}
-use Rattle.avs_parse.specs.Tree as t
-use Rattle.avs_parse.specs.View.{ArgIs, DotIs, StepIs, args_of, dots_of, dot_of, steps_of}
-use Rattle.avs_parse.specs.Grammar.{IsAt, IsMark, IsNameAt, Labels, Calls, Spells, SpellsSteps, SpellsDots, SpellsArgs, SpellsMore, nesting, steps_nesting, dots_nesting, args_nesting}
-use Rattle.avs_parse.specs.Reading.{Outcome, Reader, peek, tail, content_at, line_at, is_mark, assigns, assigns_by, operator_at, operator_by, name, name_by, gather, gather_by}
+use Rattle.avs_tree.specs.Lexeme.{Lexemes, Text, precedence_of, line_of}
+use Rattle.avs_tree.specs.Tree.{Expr, int, bool, str, call, dots, minus, not_, chain, compare, pick, group, Args, no_args, arg, Dots, no_dots, word, dot, Steps, no_steps, step}
+use Rattle.avs_tree.specs.Tree as t
+use Rattle.avs_tree.specs.View.{ArgIs, DotIs, StepIs, args_of, dots_of, dot_of, steps_of}
+use Rattle.avs_tree.specs.Grammar.{IsAt, IsMark, IsNameAt, Labels, Calls, Spells, SpellsSteps, SpellsDots, SpellsArgs, SpellsMore, nesting, steps_nesting, dots_nesting, args_nesting}
+use Rattle.avs_parse.specs.Reading.{Outcome, Reader, peek, tail, content_at, is_mark, assigns, assigns_by, operator_at, operator_by, name, name_by, gather, gather_by}
 use Rattle.avs_parse.specs.ReadingExpr as reading
-use Rattle.avs_parse.specs.declared.symbol.Symbol.{Symbol}
-use Rattle.avs_parse.specs.declared.symbol.Symbol.TheVariants as s
-use Rattle.avs_parse.specs.declared.symbol.Keyword.TheVariants as w
-use Rattle.avs_parse.specs.declared.symbol.Mark.TheVariants as m
-use Rattle.avs_parse.specs.declared.tree.Operator.{Operator}
-use Rattle.avs_parse.specs.declared.tree.Operator.TheVariants as o
+use Rattle.avs_tree.specs.declared.symbol.Symbol.{Symbol}
+use Rattle.avs_tree.specs.declared.symbol.Symbol.TheVariants as s
+use Rattle.avs_tree.specs.declared.symbol.Keyword.TheVariants as w
+use Rattle.avs_tree.specs.declared.symbol.Mark.TheVariants as m
+use Rattle.avs_tree.specs.declared.tree.Operator.{Operator}
+use Rattle.avs_tree.specs.declared.tree.Operator.TheVariants as o
 use Rattle.avs_parse.proofs.Marks.{mark_is}
 use Rattle.avs_parse.proofs.Outcomes.{On, was_read, was_refused, then_on, next_is, is_next, on_expect, on_opens}
 
 -- ---- names and operators
 
-name_on : (ts : Lexemes) (x : Option Symbol) → peek ts ≡ x → On (λ n us. IsNameAt n (line_at ts) ts us) (name_by x ts)
+name_on : (ts : Lexemes) (x : Option Symbol) → peek ts ≡ x → On (λ n us. IsNameAt n (line_of ts) ts us) (name_by x ts)
 name_on ts (Some s.Name) h = was_read (next_is ts s.Name h)
 name_on ts _ h = was_refused
 
-pub on_name : (ts : Lexemes) → On (λ x us. IsNameAt x (line_at ts) ts us) (name ts)
+pub on_name : (ts : Lexemes) → On (λ x us. IsNameAt x (line_of ts) ts us) (name ts)
 unfolding name
 on_name ts = name_on ts (peek ts) refl
 
@@ -39,7 +39,7 @@ operator_by_is r (Some (s.Operator op')) op h =
 operator_by_is r _ op h = absurd (cc)
 
 -- an operator of the rank comes next
-pub operator_is : (r : ℕ) (ts : Lexemes) (op : Operator) → operator_at r ts ≡ Some op → IsAt (s.Operator op) (line_at ts) ts (tail ts) × (precedence_of op ≡ r)
+pub operator_is : (r : ℕ) (ts : Lexemes) (op : Operator) → operator_at r ts ≡ Some op → IsAt (s.Operator op) (line_of ts) ts (tail ts) × (precedence_of op ≡ r)
 unfolding operator_at
 operator_is r ts op h = let both = operator_by_is r (peek ts) op h in ((content_at ts, next_is ts (s.Operator op) both.0), both.1)
 
@@ -48,7 +48,7 @@ assigns_is (Some s.Name) (Some (s.Mark m.Assign)) h = (refl, refl)
 assigns_is _ _ h = absurd (cc)
 
 -- a name and `=` come next
-pub label_is : (ts : Lexemes) → assigns ts ≡ true → IsNameAt (content_at ts) (line_at ts) ts (tail ts) × IsMark m.Assign (tail ts) (tail (tail ts))
+pub label_is : (ts : Lexemes) → assigns ts ≡ true → IsNameAt (content_at ts) (line_of ts) ts (tail ts) × IsMark m.Assign (tail ts) (tail (tail ts))
 unfolding assigns
 label_is ts h = let both = assigns_is (peek ts) (peek (tail ts)) h in (next_is ts s.Name both.0, is_next (tail ts) (s.Mark m.Assign) both.1)
 
@@ -120,7 +120,7 @@ module _ (depth : ℕ) (inner : ℕ → Reader Expr) (inside : (r : ℕ) (ts : L
   argument_on false ts h = then_on (inside 8 ts) (λ e us p. was_read (ts, refl, p.0, p.1))
   argument_on true ts h =
       let both = label_is ts h in
-      then_on (inside 8 (tail (tail ts))) (λ e us p. was_read (tail (tail ts), (tail ts, (line_at ts, both.0), both.1), p.0, p.1))
+      then_on (inside 8 (tail (tail ts))) (λ e us p. was_read (tail (tail ts), (tail ts, (line_of ts, both.0), both.1), p.0, p.1))
 
   on_argument : (ts : Lexemes) → On (λ a us. ArgAt a ts us) (reading.argument depth inner ts)
   unfolding reading.argument
@@ -185,7 +185,7 @@ module _ (depth : ℕ) (inner : ℕ → Reader Expr) (inside : (r : ℕ) (ts : L
 
   on_named : IsSound 0 (reading.named depth inner)
   unfolding reading.named
-  on_named ts = then_on (on_name ts) (λ x us is. then_on (on_optional us) (λ found vs p. was_read (named_is x (line_at ts) found ts us vs is p)))
+  on_named ts = then_on (on_name ts) (λ x us is. then_on (on_optional us) (λ found vs p. was_read (named_is x (line_of ts) found ts us vs is p)))
 
   on_grouped : (ts : Lexemes) → IsMark m.LeftParen ts (tail ts) → On (λ e us. Spells 0 e ts us × (nesting e ≤ depth)) (reading.grouped depth inner ts)
   unfolding reading.grouped
@@ -196,7 +196,7 @@ module _ (depth : ℕ) (inner : ℕ → Reader Expr) (inside : (r : ℕ) (ts : L
 
   primary_on : (x : Option Symbol) (ts : Lexemes) → peek ts ≡ x → On (λ e us. Spells 0 e ts us × (nesting e ≤ depth)) (reading.primary_by depth inner x ts)
   primary_on (Some (s.Int n)) ts h = was_read (is_next ts (s.Int n) h, omega arith)
-  primary_on (Some s.Str) ts h = was_read ((line_at ts, next_is ts s.Str h), omega arith)
+  primary_on (Some s.Str) ts h = was_read ((line_of ts, next_is ts s.Str h), omega arith)
   primary_on (Some (s.Keyword w.True)) ts h = was_read (is_next ts (s.Keyword w.True) h, omega arith)
   primary_on (Some (s.Keyword w.False)) ts h = was_read (is_next ts (s.Keyword w.False) h, omega arith)
   primary_on (Some s.Name) ts h = on_named ts
@@ -221,7 +221,7 @@ module _ (depth : ℕ) (inner : ℕ → Reader Expr) (inside : (r : ℕ) (ts : L
   unfolding reading.dot_call
   on_dot_call ts h =
       then_on (on_name (tail ts)) (λ x us is. then_on (on_optional us) (λ found vs p.
-      was_read (dot_is x (line_at (tail ts)) found ts (tail ts) us vs (is_next ts (s.Mark m.Dot) (mark_is m.Dot ts h)) is p)))
+      was_read (dot_is x (line_of (tail ts)) found ts (tail ts) us vs (is_next ts (s.Mark m.Dot) (mark_is m.Dot ts h)) is p)))
 
   dots_row : (ds : List DotIs) (ts us : Lexemes) → Row DotAt ds ts us → SpellsDots (dots_of ds) ts us × (dots_nesting (dots_of ds) ≤ depth)
   dots_row [] ts us row = (row, omega arith)

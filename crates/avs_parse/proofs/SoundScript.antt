@@ -1,19 +1,19 @@
 -- What is read as a script is spelled so, and nests no deeper than may be.
 use Rattle.std.proofs.Common.{◌≡◌, refl, sym, ap, subst, ◌∙◌, ℕ, zero, suc, ◌<◌, ◌≤◌, arith, Bool, true, false, not, IsTrue, ◌||◌, ◌⊎◌, inl, inr, List, [], ◌∷◌, ◌++◌, append_assoc, append-nil, Option, Some, None, option_map, length}
-use Rattle.avs_parse.specs.Lexeme.{Lexemes, Lexeme, type_word_of, is_name}
-use Rattle.avs_parse.specs.Tree.{Kind, if_, then_, Function, Script, ends_with_brace}
-use Rattle.avs_parse.specs.View.{StatementIs, ArmIs, block_of, arms_of, else_of}
-use Rattle.avs_parse.specs.Grammar.{IsMark, IsKeyword, IsName, nesting}
-use Rattle.avs_parse.specs.Script.{Newlines, Closes, Separates, Condition, Braces, ForStep, SpellsKind, SpellsElseIfs, SpellsElse, SpellsAll, ParameterName, SpellsParameter, MoreParameters, Parameters, SpellsFunction, Items, no_items, function_then, statement_then, functions_of, statements_of, SpellsItems, IsScript, kind_nesting, arms_nesting, else_nesting, block_nesting, step_nesting, functions_nesting, script_nesting}
-use Rattle.avs_parse.specs.Reading.{Reader, peek, tail, content_at, line_at, is_mark, assigns, opens_mark, skip, skip_by, closes, separate}
+use Rattle.avs_tree.specs.Lexeme.{Lexemes, Lexeme, type_word_of, is_name, line_of}
+use Rattle.avs_tree.specs.Tree.{Kind, if_, then_, Function, Script, ends_with_brace}
+use Rattle.avs_tree.specs.View.{StatementIs, ArmIs, block_of, arms_of, else_of}
+use Rattle.avs_tree.specs.Grammar.{IsMark, IsKeyword, IsName, nesting}
+use Rattle.avs_tree.specs.Script.{Newlines, Closes, Separates, Condition, Braces, ForStep, SpellsKind, SpellsElseIfs, SpellsElse, SpellsAll, ParameterName, SpellsParameter, MoreParameters, Parameters, SpellsFunction, Items, no_items, function_then, statement_then, functions_of, statements_of, SpellsItems, IsScript, kind_nesting, arms_nesting, else_nesting, block_nesting, step_nesting, functions_nesting, script_nesting}
+use Rattle.avs_parse.specs.Reading.{Reader, peek, tail, content_at, is_mark, assigns, opens_mark, skip, skip_by, closes, separate}
 use Rattle.avs_parse.specs.ReadingScript as reading
-use Rattle.avs_parse.specs.declared.symbol.Symbol.{Symbol}
-use Rattle.avs_parse.specs.declared.symbol.Symbol.TheVariants as s
-use Rattle.avs_parse.specs.declared.symbol.Keyword.TheVariants as w
-use Rattle.avs_parse.specs.declared.symbol.Mark.{Mark}
-use Rattle.avs_parse.specs.declared.symbol.Mark.TheVariants as m
-use Rattle.avs_parse.specs.declared.tree.Parameter.{Parameter}
-use Rattle.avs_parse.specs.declared.tree.TypeWord.{TypeWord}
+use Rattle.avs_tree.specs.declared.symbol.Symbol.{Symbol}
+use Rattle.avs_tree.specs.declared.symbol.Symbol.TheVariants as s
+use Rattle.avs_tree.specs.declared.symbol.Keyword.TheVariants as w
+use Rattle.avs_tree.specs.declared.symbol.Mark.{Mark}
+use Rattle.avs_tree.specs.declared.symbol.Mark.TheVariants as m
+use Rattle.avs_tree.specs.declared.tree.Parameter.{Parameter}
+use Rattle.avs_tree.specs.declared.tree.TypeWord.{TypeWord}
 use Rattle.avs_parse.proofs.Marks.{mark_is, skip-newline}
 use Rattle.avs_parse.proofs.Outcomes.{On, was_read, was_refused, then_on, on_if, next_is, is_next, on_expect, on_opens}
 use Rattle.avs_parse.proofs.SoundExpr.{on_map, Row, on_gather, on_name, sound_below, sound_expression}
@@ -63,8 +63,8 @@ else_if_is _ _ h = absurd (cc)
 
 parameter_name_on : (x : Option Symbol) (must : Bool) (word : TypeWord) (ts : Lexemes) → peek ts ≡ x
     → On (λ p us. (p.word ≡ word) × ParameterName p.optional p.name ts us × (IsTrue must → IsTrue p.optional)) (reading.named_as x must word ts)
-parameter_name_on (Some s.Name) false word ts h = was_read (refl, (line_at ts, next_is ts s.Name h), λ z. absurd (cc))
-parameter_name_on (Some s.Str) must word ts h = on_if (is_name (content_at ts)) (λ yes_. was_read (refl, (yes_, (line_at ts, next_is ts s.Str h)), λ _. refl)) (λ _. was_refused)
+parameter_name_on (Some s.Name) false word ts h = was_read (refl, (line_of ts, next_is ts s.Name h), λ z. absurd (cc))
+parameter_name_on (Some s.Str) must word ts h = on_if (is_name (content_at ts)) (λ yes_. was_read (refl, (yes_, (line_of ts, next_is ts s.Str h)), λ _. refl)) (λ _. was_refused)
 parameter_name_on _ must word ts h = was_refused
 
 abbrev ParameterAt : Bool → Parameter → Lexemes → Lexemes → Type 0
@@ -77,7 +77,7 @@ typed_on (Some word) must ts h is =
     on_map (λ p us (same, named, rule). ((content_at ts, tail ts, is, h ∙ ap Some (sym same), named), rule)) (parameter_name_on (peek (tail ts)) must word (tail ts) refl)
 
 parameter_on : (x : Option Symbol) (must : Bool) (ts : Lexemes) → peek ts ≡ x → On (λ p us. ParameterAt must p ts us) (reading.parameter_by x must ts)
-parameter_on (Some s.Name) must ts h = typed_on (type_word_of (content_at ts)) must ts refl (line_at ts, next_is ts s.Name h)
+parameter_on (Some s.Name) must ts h = typed_on (type_word_of (content_at ts)) must ts refl (line_of ts, next_is ts s.Name h)
 parameter_on _ must ts h = was_refused
 
 on_parameter : (must : Bool) (ts : Lexemes) → On (λ p us. ParameterAt must p ts us) (reading.parameter must ts)
@@ -186,16 +186,16 @@ module _ (depth : ℕ) (inner : Reader (List StatementIs))
       then_on (on_opens_mark m.LeftParen depth (tail ts)) (λ _ t1 (left, room). then_on (on_name t1) (λ x t2 is. then_on (on_expect m.Assign t2) (λ _ t3 assign1.
       then_on (sound_below depth 8 t3) (λ a t4 p. then_on (on_expect m.Comma t4) (λ _ t5 comma. then_on (sound_below depth 8 t5) (λ b t6 q.
       then_on (for_step_on (is_mark m.Comma t6) t6 refl room) (λ c t7 step. then_on (on_expect m.RightParen t7) (λ _ t8 right. then_on (on_body t8) (λ d t9 body1.
-      was_read ((tail ts, t8, key, (t1, t2, t3, t4, t5, t6, t7, left, (line_at t1, is), assign1, p.0, comma, q.0, step.0, right), body1.0), omega (arith, p.1, q.1, step.1, body1.1)))))))))))
+      was_read ((tail ts, t8, key, (t1, t2, t3, t4, t5, t6, t7, left, (line_of t1, is), assign1, p.0, comma, q.0, step.0, right), body1.0), omega (arith, p.1, q.1, step.1, body1.1)))))))))))
 
   on_global : (ts : Lexemes) → IsKeyword w.Global ts (tail ts) → On (KindAt ts) (reading.global_kind depth inner ts)
   unfolding reading.global_kind
   on_global ts key = then_on (on_name (tail ts)) (λ x us is. then_on (on_expect m.Assign us) (λ _ vs assign1. then_on (sound_expression depth 8 vs) (λ e ws p.
-      was_read ((tail ts, us, vs, key, (line_at (tail ts), is), assign1, p.0), p.1))))
+      was_read ((tail ts, us, vs, key, (line_of (tail ts), is), assign1, p.0), p.1))))
 
   on_assign : (ts : Lexemes) → On (KindAt ts) (reading.assign_kind depth inner ts)
   unfolding reading.assign_kind
-  on_assign ts = then_on (on_name ts) (λ x us is. then_on (on_expect m.Assign us) (λ _ vs assign1. then_on (sound_expression depth 8 vs) (λ e ws p. was_read ((us, vs, (line_at ts, is), assign1, p.0), p.1))))
+  on_assign ts = then_on (on_name ts) (λ x us is. then_on (on_expect m.Assign us) (λ _ vs assign1. then_on (sound_expression depth 8 vs) (λ e ws p. was_read ((us, vs, (line_of ts, is), assign1, p.0), p.1))))
 
   on_return : (ts : Lexemes) → IsKeyword w.Return ts (tail ts) → On (KindAt ts) (reading.return_kind depth inner ts)
   unfolding reading.return_kind
@@ -219,7 +219,7 @@ module _ (depth : ℕ) (inner : Reader (List StatementIs))
   kind_on _ ts h = on_value ts
 
   abbrev ItemAt : StatementIs → Lexemes → Lexemes → Type 0
-  ItemAt q ts us = (line_at ts ≡ q.1) × (vs : Lexemes) × SpellsKind q.0 ts vs × Separates (ends_with_brace q.0) vs us × (kind_nesting q.0 ≤ depth)
+  ItemAt q ts us = (line_of ts ≡ q.1) × (vs : Lexemes) × SpellsKind q.0 ts vs × Separates (ends_with_brace q.0) vs us × (kind_nesting q.0 ≤ depth)
 
   on_item : (ts : Lexemes) → On (λ q us. ItemAt q ts us) (reading.item depth inner ts)
   unfolding reading.item reading.kind
@@ -247,7 +247,7 @@ module _ (depth : ℕ) (inner : Reader (List StatementIs))
   on_function ts key =
       then_on (on_name (tail ts)) (λ x t1 is. then_on (on_opens_mark m.LeftParen depth t1) (λ _ t2 (left, room). then_on (on_params t2) (λ ps t3 params.
       then_on (on_expect m.RightParen t3) (λ _ t4 right. then_on (on_body t4) (λ b t5 p.
-      was_read ((refl, tail ts, t1, t2, t3, t4, key, (line_at (tail ts), is), left, params, right, p.0), omega (arith, p.1)))))))
+      was_read ((refl, tail ts, t1, t2, t3, t4, key, (line_of (tail ts), is), left, params, right, p.0), omega (arith, p.1)))))))
 
   -- the items that were found, and those that were read behind them
   record Found (fs : List Function) (ss : List StatementIs) (ts : Lexemes) (all : List Function × List StatementIs) (us : Lexemes) : Type 0 where

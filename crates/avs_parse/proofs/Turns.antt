@@ -1,14 +1,14 @@
 -- A recursion on a count of turns, beside a loop that counts up.
 use Rattle.std.proofs.Common.{◌≡◌, ℕ, suc, ◌+◌, ◌-◌, ◌<◌, ◌≤◌, ap, subst, sym, refl, arith, Bool, List, [], ◌∷◌, ◌++◌, length, Err}
-use Rattle.avs_parse.specs.Lexeme.{Lexemes}
+use Rattle.avs_tree.specs.Lexeme.{Lexemes}
 use Rattle.avs_parse.specs.Reading.{Reader, gather, gather_by, syntax_at}
 use Rattle.avs_parse.specs.ReadingExpr.{ranked, primary, at_rank, below, expression}
 use Rattle.avs_parse.specs.ReadingScript.{items, block_below, more_params, more_params_by, parameter, all_items, all_by, is_function, function_item, item}
-use Rattle.avs_parse.specs.Tree.{Function}
-use Rattle.avs_parse.specs.View.{StatementIs}
+use Rattle.avs_tree.specs.Tree.{Function}
+use Rattle.avs_tree.specs.View.{StatementIs}
 use Rattle.avs_parse.specs.Reading.{peek, tail, is_mark, closes}
-use Rattle.avs_parse.specs.declared.symbol.Mark.TheVariants.{Comma}
-use Rattle.avs_parse.specs.declared.tree.Parameter.{Parameter}
+use Rattle.avs_tree.specs.declared.symbol.Mark.TheVariants.{Comma}
+use Rattle.avs_tree.specs.declared.tree.Parameter.{Parameter}
 
 turn : (n i : ℕ) → i < n → n - i ≡ suc (n - (i + 1))
 turn n i h = omega arith

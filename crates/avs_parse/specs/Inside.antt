@@ -3,11 +3,11 @@ use Rattle.std.specs.Prelude.{ℕ, ◌-◌, ◌<◌, map, Result}
 use Rattle.std.specs.declared.alloc.Global.{Global}
 use Rattle.std.specs.declared.vec.Vec.{Vec}
 use Rattle.std.specs.Borrow.{MutBor}
-use Rattle.avs_parse.specs.Lexeme.{Lexemes}
-use Rattle.avs_parse.specs.View.{statement_view}
+use Rattle.avs_tree.specs.Lexeme.{Lexemes}
+use Rattle.avs_tree.specs.View.{statement_view}
 use Rattle.avs_parse.specs.ReadingScript.{block_below}
 use Rattle.avs_parse.specs.Reads.{Reads}
-use Rattle.avs_parse.specs.declared.tree.Statement.{Statement}
+use Rattle.avs_tree.specs.declared.tree.Statement.{Statement}
 use Rattle.avs_parse.specs.declared.fault.Stop.{Stop}
 
 pub record ReadsInside (depth : ℕ) (pre : Global → MutBor Lexemes → ℕ → Type 0)

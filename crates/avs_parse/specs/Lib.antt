@@ -1,13 +1,7 @@
-pub mod Lexeme
-pub mod Tree
-pub mod Grammar
-pub mod Script
-pub mod View
+pub mod Refused
 pub mod Reading
 pub mod ReadingExpr
 pub mod ReadingScript
 pub mod Reads
 pub mod Nests
 pub mod Inside
-pub mod Parses
-pub mod Printed

@@ -2,13 +2,13 @@
 use Rattle.std.specs.Prelude.{ℕ, ◌-◌, ◌<◌, ◌≤◌, Result}
 use Rattle.std.specs.declared.alloc.Global.{Global}
 use Rattle.std.specs.Borrow.{MutBor}
-use Rattle.avs_parse.specs.Lexeme.{Lexemes}
-use Rattle.avs_parse.specs.Tree as t
-use Rattle.avs_parse.specs.View.{expr_view}
+use Rattle.avs_tree.specs.Lexeme.{Lexemes}
+use Rattle.avs_tree.specs.Tree as t
+use Rattle.avs_tree.specs.View.{expr_view}
 use Rattle.avs_parse.specs.Reading.{Reader}
 use Rattle.avs_parse.specs.ReadingExpr.{below, expression}
 use Rattle.avs_parse.specs.Reads.{Reads}
-use Rattle.avs_parse.specs.declared.tree.Expr.{Expr}
+use Rattle.avs_tree.specs.declared.tree.Expr.{Expr}
 use Rattle.avs_parse.specs.declared.fault.Stop.{Stop}
 
 pub record ReadsExpr (reader : Reader t.Expr) (depth rank : ℕ) (pre : Global → MutBor Lexemes → ℕ → ℕ → Type 0)

@@ -1,13 +1,13 @@
 -- Reading, from the left to the right: what the parser computes.
 use Rattle.std.specs.Prelude.{ℕ, zero, suc, Bool, true, false, ◌||◌, List, [], ◌∷◌, ◌++◌, length, Option, Some, None, Result, Ok, Err, if◌then◌else◌, nat_eq}
 use denote.Enum.Bare.{sameb}
-use Rattle.avs_parse.specs.contracts.symbol.Mark.{the_type}
-use Rattle.avs_parse.specs.Lexeme.{Text, Lexemes, precedence_of}
-use Rattle.avs_parse.specs.declared.symbol.Symbol.{Symbol}
-use Rattle.avs_parse.specs.declared.symbol.Symbol.TheVariants as s
-use Rattle.avs_parse.specs.declared.symbol.Mark.{Mark}
-use Rattle.avs_parse.specs.declared.symbol.Mark.TheVariants as m
-use Rattle.avs_parse.specs.declared.tree.Operator.{Operator}
+use Rattle.avs_tree.specs.contracts.symbol.Mark.{the_type}
+use Rattle.avs_tree.specs.Lexeme.{Text, Lexemes, precedence_of}
+use Rattle.avs_tree.specs.declared.symbol.Symbol.{Symbol}
+use Rattle.avs_tree.specs.declared.symbol.Symbol.TheVariants as s
+use Rattle.avs_tree.specs.declared.symbol.Mark.{Mark}
+use Rattle.avs_tree.specs.declared.symbol.Mark.TheVariants as m
+use Rattle.avs_tree.specs.declared.tree.Operator.{Operator}
 
 -- a token that cannot stand in its place, or one that nests too deep, by the number of tokens from it on
 pub data Fault : Type 0 where
@@ -39,10 +39,6 @@ peek (t ∷ ts) = Some t.0
 abbrev pub content_at : Lexemes → Text
 content_at [] = []
 content_at (t ∷ ts) = t.1
-
-abbrev pub line_at : Lexemes → ℕ
-line_at [] = 0
-line_at (t ∷ ts) = t.2
 
 abbrev pub tail : Lexemes → Lexemes
 tail [] = []

@@ -1,16 +1,16 @@
 -- Reading expressions.
 use Rattle.std.specs.Prelude.{ℕ, zero, suc, Bool, true, false, List, [], ◌∷◌, length, Option, Some, None, is_some, option_map, Ok}
-use Rattle.avs_parse.specs.Lexeme.{Text}
-use Rattle.avs_parse.specs.Tree.{Expr, int, bool, str, call, dots, minus, not_, chain, compare, pick, group}
-use Rattle.avs_parse.specs.Tree as t
-use Rattle.avs_parse.specs.View.{ArgIs, DotIs, StepIs, args_of, dots_of, steps_of}
-use Rattle.avs_parse.specs.Reading.{Reader, and_then, pure, refuse, peek, tail, content_at, line_at, is_mark, assigns, operator_at, expect, opens, name, gather}
-use Rattle.avs_parse.specs.declared.symbol.Symbol.{Symbol}
-use Rattle.avs_parse.specs.declared.symbol.Symbol.TheVariants as s
-use Rattle.avs_parse.specs.declared.symbol.Keyword.TheVariants as w
-use Rattle.avs_parse.specs.declared.symbol.Mark.TheVariants as m
-use Rattle.avs_parse.specs.declared.tree.Operator.{Operator}
-use Rattle.avs_parse.specs.declared.tree.Operator.TheVariants as o
+use Rattle.avs_tree.specs.Lexeme.{Text, line_of}
+use Rattle.avs_tree.specs.Tree.{Expr, int, bool, str, call, dots, minus, not_, chain, compare, pick, group}
+use Rattle.avs_tree.specs.Tree as t
+use Rattle.avs_tree.specs.View.{ArgIs, DotIs, StepIs, args_of, dots_of, steps_of}
+use Rattle.avs_parse.specs.Reading.{Reader, and_then, pure, refuse, peek, tail, content_at, is_mark, assigns, operator_at, expect, opens, name, gather}
+use Rattle.avs_tree.specs.declared.symbol.Symbol.{Symbol}
+use Rattle.avs_tree.specs.declared.symbol.Symbol.TheVariants as s
+use Rattle.avs_tree.specs.declared.symbol.Keyword.TheVariants as w
+use Rattle.avs_tree.specs.declared.symbol.Mark.TheVariants as m
+use Rattle.avs_tree.specs.declared.tree.Operator.{Operator}
+use Rattle.avs_tree.specs.declared.tree.Operator.TheVariants as o
 
 abbrev pub named_as : Text → ℕ → Option (List ArgIs) → Expr
 named_as x line None = t.name x line
@@ -54,7 +54,7 @@ module _ (depth : ℕ) (inner : ℕ → Reader Expr) where
   optional_args ts = optional_args_by (is_mark m.LeftParen ts) ts
 
   unfoldable pub named : Reader Expr
-  named ts = and_then (name ts) (λ x us. and_then (optional_args us) (λ found. pure (named_as x (line_at ts) found)))
+  named ts = and_then (name ts) (λ x us. and_then (optional_args us) (λ found. pure (named_as x (line_of ts) found)))
 
   unfoldable pub grouped : Reader Expr
   grouped ts = and_then (opens depth ts) (λ _ us. and_then (inner 8 us) (λ e vs. and_then (expect m.RightParen vs) (λ _. pure (group e))))
@@ -72,7 +72,7 @@ module _ (depth : ℕ) (inner : ℕ → Reader Expr) where
   primary ts = primary_by (peek ts) ts
 
   unfoldable pub dot_call : Reader DotIs
-  dot_call ts = and_then (name (tail ts)) (λ x us. and_then (optional_args us) (λ found. pure (x, (option_map args_of found, line_at (tail ts)))))
+  dot_call ts = and_then (name (tail ts)) (λ x us. and_then (optional_args us) (λ found. pure (x, (option_map args_of found, line_of (tail ts)))))
 
   unfoldable pub dot_calls : ℕ → List DotIs → Reader (List DotIs)
   dot_calls = gather (is_mark m.Dot) dot_call
@@ -82,8 +82,8 @@ module _ (depth : ℕ) (inner : ℕ → Reader Expr) where
   dotted lower ts = and_then (lower ts) (λ e us. and_then (dot_calls (length us) [] us) (λ ds. pure (with_calls e ds)))
 
   abbrev pub prefixed_by : Option Symbol → Reader Expr → Reader Expr
-  prefixed_by (Some (s.Operator o.Minus)) lower = λ ts. and_then (opens depth ts) (λ _ us. and_then (inner 2 us) (λ e. pure (minus e (line_at ts))))
-  prefixed_by (Some (s.Mark m.Not)) lower = λ ts. and_then (opens depth ts) (λ _ us. and_then (inner 2 us) (λ e. pure (not_ e (line_at ts))))
+  prefixed_by (Some (s.Operator o.Minus)) lower = λ ts. and_then (opens depth ts) (λ _ us. and_then (inner 2 us) (λ e. pure (minus e (line_of ts))))
+  prefixed_by (Some (s.Mark m.Not)) lower = λ ts. and_then (opens depth ts) (λ _ us. and_then (inner 2 us) (λ e. pure (not_ e (line_of ts))))
   prefixed_by _ lower = lower
 
   unfoldable pub prefixed : Reader Expr → Reader Expr
@@ -91,7 +91,7 @@ module _ (depth : ℕ) (inner : ℕ → Reader Expr) where
 
   abbrev pub step_by : Option Operator → Reader Expr → Reader StepIs
   step_by None lower = refuse
-  step_by (Some op) lower = λ ts. and_then (lower (tail ts)) (λ e. pure (op, (e, line_at ts)))
+  step_by (Some op) lower = λ ts. and_then (lower (tail ts)) (λ e. pure (op, (e, line_of ts)))
 
   unfoldable pub one_step : ℕ → Reader Expr → Reader StepIs
   one_step r lower ts = step_by (operator_at r ts) lower ts
@@ -104,14 +104,14 @@ module _ (depth : ℕ) (inner : ℕ → Reader Expr) where
 
   abbrev pub compared_by : Option Operator → Expr → Reader Expr → Reader Expr
   compared_by None a lower = pure a
-  compared_by (Some op) a lower = λ ts. and_then (lower (tail ts)) (λ b. pure (compare op a b (line_at ts)))
+  compared_by (Some op) a lower = λ ts. and_then (lower (tail ts)) (λ b. pure (compare op a b (line_of ts)))
 
   unfoldable pub compared : Reader Expr → Reader Expr
   compared lower ts = and_then (lower ts) (λ a us. compared_by (operator_at 5 us) a lower us)
 
   abbrev pub chosen_by : Bool → Expr → Reader Expr
   chosen_by false c = pure c
-  chosen_by true c = λ ts. and_then (opens depth ts) (λ _ us. and_then (inner 8 us) (λ a vs. and_then (expect m.Colon vs) (λ _ ws. and_then (inner 8 ws) (λ b. pure (pick c a b (line_at ts))))))
+  chosen_by true c = λ ts. and_then (opens depth ts) (λ _ us. and_then (inner 8 us) (λ a vs. and_then (expect m.Colon vs) (λ _ ws. and_then (inner 8 ws) (λ b. pure (pick c a b (line_of ts))))))
 
   unfoldable pub chosen : Reader Expr → Reader Expr
   chosen lower ts = and_then (lower ts) (λ c us. chosen_by (is_mark m.Question us) c us)

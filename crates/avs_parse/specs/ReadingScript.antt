@@ -1,16 +1,16 @@
 -- Reading statements and scripts.
 use Rattle.std.specs.Prelude.{ℕ, zero, suc, Bool, true, false, not, List, [], ◌∷◌, ◌++◌, length, Option, Some, None, option_map, Ok, if◌then◌else◌}
-use Rattle.avs_parse.specs.Lexeme.{Lexemes, type_word_of, is_name}
-use Rattle.avs_parse.specs.Tree.{Expr, Kind, Function, Script, global, assign, return, if_, while, for, value, ends_with_brace}
-use Rattle.avs_parse.specs.View.{StatementIs, ArmIs, block_of, arms_of, else_of}
-use Rattle.avs_parse.specs.Reading.{Reader, Outcome, and_then, pure, refuse, peek, tail, content_at, line_at, is_mark, assigns, expect, opens_mark, name, gather, skip, closes, separate}
+use Rattle.avs_tree.specs.Lexeme.{Lexemes, type_word_of, is_name, line_of}
+use Rattle.avs_tree.specs.Tree.{Expr, Kind, Function, Script, global, assign, return, if_, while, for, value, ends_with_brace}
+use Rattle.avs_tree.specs.View.{StatementIs, ArmIs, block_of, arms_of, else_of}
+use Rattle.avs_parse.specs.Reading.{Reader, Outcome, and_then, pure, refuse, peek, tail, content_at, is_mark, assigns, expect, opens_mark, name, gather, skip, closes, separate}
 use Rattle.avs_parse.specs.ReadingExpr.{below, expression}
-use Rattle.avs_parse.specs.declared.symbol.Symbol.{Symbol}
-use Rattle.avs_parse.specs.declared.symbol.Symbol.TheVariants as s
-use Rattle.avs_parse.specs.declared.symbol.Keyword.TheVariants as w
-use Rattle.avs_parse.specs.declared.symbol.Mark.TheVariants as m
-use Rattle.avs_parse.specs.declared.tree.Parameter.{Parameter}
-use Rattle.avs_parse.specs.declared.tree.TypeWord.{TypeWord}
+use Rattle.avs_tree.specs.declared.symbol.Symbol.{Symbol}
+use Rattle.avs_tree.specs.declared.symbol.Symbol.TheVariants as s
+use Rattle.avs_tree.specs.declared.symbol.Keyword.TheVariants as w
+use Rattle.avs_tree.specs.declared.symbol.Mark.TheVariants as m
+use Rattle.avs_tree.specs.declared.tree.Parameter.{Parameter}
+use Rattle.avs_tree.specs.declared.tree.TypeWord.{TypeWord}
 
 abbrev pub else_if_by : Option Symbol → Option Symbol → Bool
 else_if_by (Some (s.Keyword w.Else)) (Some (s.Keyword w.If)) = true
@@ -130,7 +130,7 @@ module _ (depth : ℕ) (inner : Reader (List StatementIs)) where
 
   -- a statement and what separates it from the next
   unfoldable pub item : Reader StatementIs
-  item ts = and_then (kind ts) (λ k us. and_then (separate (ends_with_brace k) us) (λ _. pure (k, line_at ts)))
+  item ts = and_then (kind ts) (λ k us. and_then (separate (ends_with_brace k) us) (λ _. pure (k, line_of ts)))
 
   unfoldable pub more_items : ℕ → List StatementIs → Reader (List StatementIs)
   more_items = gather (λ ts. not (closes ts)) item
@@ -143,7 +143,7 @@ module _ (depth : ℕ) (inner : Reader (List StatementIs)) where
   unfoldable pub function : Reader Function
   function ts =
       and_then (name (tail ts)) (λ x t1. and_then (opens_mark m.LeftParen depth t1) (λ _ t2. and_then (params t2) (λ ps t3.
-      and_then (expect m.RightParen t3) (λ _ t4. and_then (body t4) (λ b. pure (record { name = x; params = ps; body = block_of b; line = line_at ts }))))))
+      and_then (expect m.RightParen t3) (λ _ t4. and_then (body t4) (λ b. pure (record { name = x; params = ps; body = block_of b; line = line_of ts }))))))
 
   -- a function and what separates it from what follows
   unfoldable pub function_item : Reader Function

@@ -2,7 +2,7 @@
 use Rattle.std.specs.Prelude.{◌≡◌, Result, Ok, Err}
 use Rattle.avs_parse.specs.declared.fault.Stop.{Stop}
 use Rattle.avs_parse.specs.declared.fault.Stop.TheVariants.{Syntax, NestLimit, Memory}
-use Rattle.avs_parse.specs.Lexeme.{Lexemes}
+use Rattle.avs_tree.specs.Lexeme.{Lexemes}
 use Rattle.avs_parse.specs.Reading.{Outcome, syntax_at, nest_at}
 
 -- what was answered is what reading gives, unless memory ran out

@@ -1,14 +1,13 @@
 // A cursor over the tokens of a text.
 ghost use Rattle.std.specs.Prelude.{◌≡◌, ◌<◌, length, All, OnOk};
 ghost use Rattle.avs_lex.specs.TokenList.{IsTokenOf};
-ghost use Rattle.avs_parse.specs.Lexeme.{lexemes};
+ghost use Rattle.avs_tree.specs.Lexeme.{lexemes, line_of};
 ghost use Rattle.avs_parse.specs.Reading as r;
 ghost use Rattle.avs_parse.specs.Reads.{Reads};
 
 use crate::fault::Stop;
-use crate::symbol::{Keyword, Mark, Symbol, content, precedence, symbol_of};
-use crate::tree::Operator;
 use avs_lex::Token;
+use avs_tree::{Mark, Operator, Symbol, content, precedence, symbol_of};
 use fv_io::Text;
 use std::alloc::Global;
 use std::marker::Model;
@@ -23,7 +22,7 @@ pub struct Tokens<'a> {
 impl<'a> Model for Tokens<'a> {
     ghost use Rattle.std.specs.Prelude.{All};
     ghost use Rattle.avs_lex.specs.TokenList.{IsTokenOf};
-    ghost use Rattle.avs_parse.specs.Lexeme.{Lexemes, lexemes};
+    ghost use Rattle.avs_tree.specs.Lexeme.{Lexemes, lexemes};
 
     ghost Value = { Lexemes };
 
@@ -48,7 +47,7 @@ impl<'a> Tokens<'a> {
     }
 
     /// What comes next.
-    #[tactic(auto, unfolding(crate::specs::Lexeme::lexeme_of))]
+    #[tactic(auto, unfolding(avs_tree::specs::Lexeme::lexeme_of))]
     pub fn peek(&self) -> Option<Symbol>
         ensures { result ≡ r.peek self.now }
     {
@@ -57,7 +56,7 @@ impl<'a> Tokens<'a> {
     }
 
     /// What comes after the next token.
-    #[tactic(auto, unfolding(crate::specs::Lexeme::lexeme_of))]
+    #[tactic(auto, unfolding(avs_tree::specs::Lexeme::lexeme_of))]
     pub fn peek_second(&self) -> Option<Symbol>
         ensures { result ≡ r.peek (r.tail self.now) }
     {
@@ -66,7 +65,7 @@ impl<'a> Tokens<'a> {
     }
 
     /// What the next token says.
-    #[tactic(auto, unfolding(crate::specs::Lexeme::lexeme_of))]
+    #[tactic(auto, unfolding(avs_tree::specs::Lexeme::lexeme_of))]
     pub fn content(&self) -> &'a str
         ensures { result.now ≡ r.content_at self.now }
     {
@@ -77,9 +76,9 @@ impl<'a> Tokens<'a> {
     }
 
     /// The line of the next token.
-    #[tactic(auto, unfolding(crate::specs::Lexeme::lexeme_of))]
+    #[tactic(auto, unfolding(avs_tree::specs::Lexeme::lexeme_of))]
     pub fn line(&self) -> u32
-        ensures { result ≡ r.line_at self.now }
+        ensures { result ≡ line_of self.now }
     {
         match self.rest.first() {
             Some(token) => token.line,

@@ -3,12 +3,11 @@ ghost use Rattle.std.specs.Prelude.{◌≡◌, ◌-◌, ◌<◌, ◌≤◌, [], 
 ghost use Rattle.avs_parse.specs.Nests.{ReadsDeeper, ReadsLower};
 ghost use Rattle.avs_parse.specs.ReadingExpr as r;
 ghost use Rattle.avs_parse.specs.Reads.{Reads};
-ghost use Rattle.avs_parse.specs.View.{expr_view, arg_view, dot_view, step_view};
+ghost use Rattle.avs_tree.specs.View.{expr_view, arg_view, dot_view, step_view};
 
 use crate::cursor::Tokens;
 use crate::fault::Stop;
-use crate::symbol::{Keyword, Mark, Symbol};
-use crate::tree::{Arg, DotCall, Expr, Operator, Step};
+use avs_tree::{Arg, DotCall, Expr, Keyword, Mark, Operator, Step, Symbol};
 use fv_io::Text;
 use std::alloc::{AllocError, Global};
 

@@ -2,19 +2,21 @@
 ghost use Rattle.std.specs.Prelude.{◌≡◌, [], map, length, IfOk, IfErr};
 ghost use Rattle.avs_parse.specs.Inside.{ReadsInside};
 ghost use Rattle.avs_lex.specs.TokenList.{IsTokenList};
-ghost use Rattle.avs_parse.specs.Lexeme.{lexemes};
-ghost use Rattle.avs_parse.specs.Parses.{HasTree, IsRefused};
+ghost use Rattle.avs_tree.specs.Lexeme.{lexemes};
+ghost use Rattle.avs_tree.specs.Script.{HasTree};
+ghost use Rattle.avs_parse.specs.Refused.{IsRefused};
 ghost use Rattle.avs_parse.specs.ReadingScript as r;
 ghost use Rattle.avs_parse.specs.Reading.{peek};
 ghost use Rattle.avs_parse.specs.Reads.{Reads};
-ghost use Rattle.avs_parse.specs.View.{statement_view, function_view, script_view};
+ghost use Rattle.avs_tree.specs.View.{statement_view, function_view, script_view};
 
 use crate::cursor::Tokens;
 use crate::fault::{ParseError, Stop};
 use crate::statement::{Blocks, block};
-use crate::symbol::{Keyword, Mark, Symbol, is_name, type_word};
-use crate::tree::{Function, Parameter, Script, Statement, TypeWord};
 use avs_lex::Token;
+use avs_tree::{
+    Function, Keyword, Mark, Parameter, Script, Statement, Symbol, TypeWord, is_name, type_word,
+};
 use fv_io::Text;
 use std::alloc::Global;
 

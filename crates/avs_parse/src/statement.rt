@@ -4,14 +4,13 @@ ghost use Rattle.avs_parse.specs.Inside.{ReadsInside};
 ghost use Rattle.avs_parse.specs.ReadingExpr.{below};
 ghost use Rattle.avs_parse.specs.ReadingScript as r;
 ghost use Rattle.avs_parse.specs.Reads.{Reads};
-ghost use Rattle.avs_parse.specs.Tree.{ends_with_brace};
-ghost use Rattle.avs_parse.specs.View.{expr_view, arm_view, kind_view, statement_view};
+ghost use Rattle.avs_tree.specs.Tree.{ends_with_brace};
+ghost use Rattle.avs_tree.specs.View.{expr_view, arm_view, kind_view, statement_view};
 
 use crate::cursor::Tokens;
 use crate::expression::{EXPRESSION, expression};
 use crate::fault::Stop;
-use crate::symbol::{Keyword, Mark, Symbol};
-use crate::tree::{Arm, Expr, Statement, StatementKind};
+use avs_tree::{Arm, Expr, Keyword, Mark, Statement, StatementKind, Symbol};
 use std::alloc::Global;
 
 /// The rules, over a function that reads the statements inside of braces, so deep.

@@ -1,4 +1,4 @@
-// Where scripts are refused, the trees of those that are not, and their text.
+// Where scripts are refused, and the trees of those that are not.
 use super::*;
 use avs_lex::lex;
 use std::alloc::{AllocError, Global};
@@ -156,39 +156,6 @@ fn each_rank_has_its_tree(rt: HostRuntime) -> Result<(), Fail> {
     for (text, wanted) in table {
         let script = tree(rt.alloc(), text)?;
         assert_eq!(rt; shape(&script), wanted, "{text}");
-    }
-    Ok(())
-}
-
-#[test]
-fn scripts_are_printed_token_by_token(rt: HostRuntime) -> Result<(), Fail> {
-    let table = [
-        ("a=1+2*3", "a = 1 + 2 * 3\n"),
-        ("a=$FFFFFFFF", "a = $FFFFFFFF\n"),
-        (
-            "f(x=-1,\"b\").g.h(2)",
-            "f ( x = - 1 , \"b\" ) . g . h ( 2 )\n",
-        ),
-        ("x=\"\"\"a\"b\"\"\"", "x = \"\"\"a\"b\"\"\"\n"),
-        ("return a?b:!c", "return a ? b : ! c\n"),
-        (
-            "if(a){b}else if(c){d\ne}else{}",
-            "if ( a ) { b\n} else if ( c ) { d\ne\n} else { }\n",
-        ),
-        (
-            "for(i=0,9,2){global j=i}",
-            "for ( i = 0 , 9 , 2 ) { global j = i\n}\n",
-        ),
-        (
-            "a\nfunction F(clip c,int \"n\"){c}\nb",
-            "function F ( clip c , int \"n\" ) { c\n}\na\nb\n",
-        ),
-        ("while(yes){}", "while ( true ) { }\n"),
-    ];
-    for (text, wanted) in table {
-        let script = tree(rt.alloc(), text)?;
-        let printed = print(rt.alloc(), &script)?;
-        assert_eq!(rt; printed.as_str(), wanted, "{text}");
     }
     Ok(())
 }

@@ -7,15 +7,15 @@ use Rattle.avs_lex.specs.declared.fault.LexKind.{LexKind}
 use Rattle.avs_lex.specs.declared.token.Token.{Token}
 use Rattle.avs_lex.specs.Tokens.{Tokens, LexFault}
 use Rattle.avs_lex.proofs.ReadingLemmas.{one_reading}
-use Rattle.avs_parse.specs.Lexeme.{lexemes}
-use Rattle.avs_parse.specs.Parses.{HasTree}
-use Rattle.avs_parse.specs.Tree.{Script as Tree}
+use Rattle.avs_tree.specs.Lexeme.{lexemes}
+use Rattle.avs_tree.specs.Script.{HasTree}
+use Rattle.avs_tree.specs.Tree.{Script as Tree}
 use Rattle.avs_parse.proofs.CompleteScript.{one_tree}
 use Rattle.y4m_stream.proofs.ReadingLemmas.{reads_one_way}
 use Rattle.serve_app.specs.declared.fault.InputFault.{InputFault}
 use Rattle.serve_app.specs.declared.fault.InputFault.TheVariants as of_input
 use Rattle.serve_app.specs.Script.{IsSourceCall, HasScript, Calls, IsUnparsed, Wrong, too_long, not_utf8, lexical, unparsed, unbuilt, IsWrong}
-use Rattle.serve_app.specs.Meaning.{Clip, Missing, Script, Input, CallsFor, MeansClip, IsScriptWrong, IsInputFault, Means, MeansOneThing}
+use Rattle.serve_app.specs.Meaning.{Clip, Missing, Script, Input, CallsFor, MeansClip, IsScriptWrong, IsInputFault, MeansOneThing}
 
 module _ (text : List ℕ) where
   -- a text has one tree

@@ -2,11 +2,11 @@
 use Rattle.std.proofs.Common.{◌≡◌, ◌≢◌, ℕ, ◌+◌, ◌<◌, ◌≤◌, List, [], ◌∷◌, map, length, take, drop, Option, Some, None, MatchOption, refl, sym, ◌∙◌, ap, arith}
 use Rattle.std.proofs.lemmas.List.{length-take-le, take_all}
 use Rattle.fv_io.specs.Reading.{Fills}
-use Rattle.avs_parse.specs.Tree.{Expr, str, arg, no_args, Kind, value, then_, no_more, Script}
-use Rattle.avs_parse.specs.View.{args_of, arg_view, StatementIs, block_view, statement_view, function_view}
-use Rattle.avs_parse.specs.declared.tree.Arg.{Arg}
-use Rattle.avs_parse.specs.declared.tree.Statement.{Statement}
-use Rattle.avs_parse.specs.declared.tree.Function.{Function}
+use Rattle.avs_tree.specs.Tree.{Expr, str, arg, no_args, Kind, value, then_, no_more, Script}
+use Rattle.avs_tree.specs.View.{args_of, arg_view, StatementIs, block_view, statement_view, function_view}
+use Rattle.avs_tree.specs.declared.tree.Arg.{Arg}
+use Rattle.avs_tree.specs.declared.tree.Statement.{Statement}
+use Rattle.avs_tree.specs.declared.tree.Function.{Function}
 use Rattle.serve_app.specs.Script.{IsSource, IsSourceCall}
 
 -- what came into a buffer that is not full is all

@@ -4,9 +4,9 @@ use Rattle.std.specs.Str.{IsUtf8, str_eq_ignore_ascii_case}
 use Rattle.avs_lex.specs.declared.fault.LexKind.{LexKind}
 use Rattle.avs_lex.specs.declared.token.Token.{Token}
 use Rattle.avs_lex.specs.Tokens.{Tokens, LexFault}
-use Rattle.avs_parse.specs.Lexeme.{lexemes}
-use Rattle.avs_parse.specs.Parses.{HasTree}
-use Rattle.avs_parse.specs.Tree.{Expr, str, call, arg, no_args, value, then_, no_more, Script}
+use Rattle.avs_tree.specs.Lexeme.{lexemes}
+use Rattle.avs_tree.specs.Script.{HasTree}
+use Rattle.avs_tree.specs.Tree.{Expr, str, call, arg, no_args, value, then_, no_more, Script}
 use Rattle.serve_app.specs.declared.fault.ScriptFault.{ScriptFault}
 use Rattle.serve_app.specs.declared.fault.ScriptFault.TheVariants as of_script
 use Rattle.serve_app.specs.declared.script.ScriptStop.{ScriptStop}

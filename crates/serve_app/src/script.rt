@@ -3,8 +3,8 @@ ghost use Rattle.std.specs.Prelude.{◌≡◌, ◌≤◌, ◌+◌, ◌^◌, leng
 ghost use Rattle.std.specs.Str.{str_eq_ignore_ascii_case};
 ghost use Rattle.fv_io.specs.Causes.{Rose};
 ghost use Rattle.fv_io.specs.Reading.{KeepsSource};
-ghost use Rattle.avs_parse.specs.Tree.{Expr as ExprTree, arg, str, no_args, value};
-ghost use Rattle.avs_parse.specs.View.{args_of, arg_view, expr_view, statement_view, script_view};
+ghost use Rattle.avs_tree.specs.Tree.{Expr as ExprTree, arg, str, no_args, value};
+ghost use Rattle.avs_tree.specs.View.{args_of, arg_view, expr_view, statement_view, script_view};
 ghost use Rattle.serve_app.specs.Script.{IsSource, IsSourceCall, HasScript, Calls, ExplainsStop};
 
 use crate::fault::ScriptFault;

@@ -1,7 +1,7 @@
 use Rattle.std.proofs.Common.{◌≡◌, ◌∙◌, [], ◌∷◌, map, length, ap, arith, rules}
 use Rattle.std.proofs.lemmas.Bool.Decides.{nat_tests}
-use Rattle.avs_parse.specs.Tree.{value, then_, no_more}
-use Rattle.avs_parse.specs.View.{expr_view, block_view, function_view, script_view}
+use Rattle.avs_tree.specs.Tree.{value, then_, no_more}
+use Rattle.avs_tree.specs.View.{expr_view, block_view, function_view, script_view}
 use Rattle.serve_app.proofs.ScriptLemmas.{one_statement, one_value, one_shown, no_function, of_value}
 use Rattle.serve_app.proofs.script.called_file.Goals as goal
 

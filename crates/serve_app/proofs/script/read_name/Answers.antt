@@ -1,6 +1,6 @@
 -- What is read is the whole script, or too much for one.
 use Rattle.std.proofs.Common.{◌≡◌, ◌∙◌, take, ◌+◌, ◌^◌, length, rules}
-use Rattle.avs_parse.specs.View.{script_view}
+use Rattle.avs_tree.specs.View.{script_view}
 use Rattle.serve_app.proofs.ScriptLemmas.{read_whole, longer, short_enough}
 use Rattle.serve_app.proofs.script.read_name.Goals as goal
 

@@ -1,6 +1,6 @@
 use Rattle.std.proofs.Common.{◌≡◌, ◌-◌, map, length}
 use Rattle.avs_parse.specs.ReadingExpr as r
-use Rattle.avs_parse.specs.View.{arg_view}
+use Rattle.avs_tree.specs.View.{arg_view}
 use Rattle.avs_parse.proofs.expression.Grammar.more_args.Given as goal
 
 abbrev pub invariant-loop-turn : goal.invariant-loop-turn

@@ -1,6 +1,6 @@
 use Rattle.std.proofs.Common.{◌≡◌, ◌-◌, [], map, length}
 use Rattle.avs_parse.specs.ReadingExpr as r
-use Rattle.avs_parse.specs.View.{step_view}
+use Rattle.avs_tree.specs.View.{step_view}
 use Rattle.avs_parse.proofs.expression.Grammar.steps.Given as goal
 
 abbrev pub invariant-loop-turn : goal.invariant-loop-turn

@@ -1,6 +1,6 @@
 use Rattle.std.proofs.Common.{◌≡◌, ◌-◌, [], map, length}
 use Rattle.avs_parse.specs.ReadingScript as r
-use Rattle.avs_parse.specs.View.{function_view, statement_view}
+use Rattle.avs_tree.specs.View.{function_view, statement_view}
 use Rattle.avs_parse.proofs.script.Outer.all_items.Given as goal
 
 abbrev pub invariant-loop-turn : goal.invariant-loop-turn

@@ -1,6 +1,6 @@
 use Rattle.std.proofs.Common.{◌≡◌, ◌-◌, map, length}
 use Rattle.avs_parse.specs.ReadingScript as r
-use Rattle.avs_parse.specs.View.{arm_view}
+use Rattle.avs_tree.specs.View.{arm_view}
 use Rattle.avs_parse.proofs.statement.Blocks.more_arms.Given as goal
 
 abbrev pub invariant-loop-turn : goal.invariant-loop-turn

@@ -1,0 +1,11 @@
+pub mod PrintLemmas
+pub mod Plain
+pub mod NumberLemmas
+pub mod WordLemmas
+pub mod PlainLemmas
+pub mod NestingLemmas
+pub mod WordsLemmas
+pub mod Shows
+pub mod AgainExpr
+pub mod AgainScript
+pub mod ReadBack

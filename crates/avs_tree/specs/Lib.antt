@@ -1,0 +1,5 @@
+pub mod Lexeme
+pub mod Tree
+pub mod View
+pub mod Grammar
+pub mod Script
