@@ -16,7 +16,7 @@ fn tree(alloc: Global, text: &str) -> Result<Script, Fail> {
 }
 
 #[test]
-fn scripts_are_printed_token_by_token(rt: HostRuntime) -> Result<(), Fail> {
+fn scripts_are_printed_and_read_again(rt: HostRuntime) -> Result<(), Fail> {
     let table = [
         ("a=1+2*3", "a = 1 + 2 * 3\n"),
         ("a=$FFFFFFFF", "a = $FFFFFFFF\n"),
@@ -44,6 +44,9 @@ fn scripts_are_printed_token_by_token(rt: HostRuntime) -> Result<(), Fail> {
         let script = tree(rt.alloc(), text)?;
         let printed = print(rt.alloc(), &script)?;
         assert_eq!(rt; printed.as_str(), wanted, "{text}");
+        let again = tree(rt.alloc(), printed.as_str())?;
+        let printed_again = print(rt.alloc(), &again)?;
+        assert_eq!(rt; printed_again.as_str(), wanted, "{text}");
     }
     Ok(())
 }
