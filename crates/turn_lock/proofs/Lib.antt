@@ -1,0 +1,5 @@
+pub mod CallerLemmas
+pub mod EntryLemmas
+pub mod RuleLemmas
+pub mod TurnLemmas
+pub mod SeatLemmas

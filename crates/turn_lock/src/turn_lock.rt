@@ -1,0 +1,253 @@
+// The lock.
+ghost use Rattle.std.specs.Prelude.{◌≡◌, ℕ, ◌+◌, ◌%◌, ◌^◌, ◌<◌, ◌≤◌, List, [], ◌∷◌, ◌++◌, All, Some, None, IsSome, IfOk, IfErr, IfSome};
+ghost use Rattle.turn_lock.specs.Entries.{IsPrefix, entries_of, AddsOnly};
+ghost use Rattle.turn_lock.specs.SeatView.{first_seat, joined_seat, HasAllNumbers};
+ghost use Rattle.turn_lock.specs.Steps.{holding, Finds};
+ghost use Rattle.turn_lock.specs.Places.{IsLockTable};
+ghost use Rattle.turn_lock.specs.declared.view.Stage.TheVariants.{Waits};
+
+use crate::booked::Booked;
+use crate::rule::{
+    Board, DrawTicket, GiveOut, LookAtServing, Place, SERVING, ServeNext, Start, TICKET, TakeIn,
+    VALUE,
+};
+use crate::seat::{LockSeat, Turn};
+use atomic_table::{Refused, Table};
+use std::alloc::{AllocFailed, Global};
+use std::marker::Model;
+use std::snapshot::Snapshot;
+use std::sync::Wait;
+use std::thread::yield_now;
+
+// How often a seat that waits looks again before it sleeps. To sleep and to be woken takes longer than a short turn.
+const LOOKS: u32 = 16;
+
+/// A lock that its seats take turns at, in the order of their tickets.
+pub struct TurnLock<V: Booked> {
+    board: Board<V>,
+}
+
+impl<V: Booked> Model for TurnLock<V> {
+    ghost use Rattle.atomic_table.specs.Seated.{TableId};
+    ghost use Rattle.turn_lock.specs.Places.{IsLockTable};
+
+    // Which lock it is.
+    ghost Value = { TableId };
+
+    ghost view = { λ l. l.board.shared.table_id };
+
+    ghost invariant = { λ l. IsLockTable l.board.shared.table_id };
+}
+
+/// Out of memory. The value comes back.
+#[derive(Drop)]
+pub struct NoLock<V> {
+    pub value: V,
+}
+
+impl<V: Booked> TurnLock<V> {
+    /// A lock over a value without entries, and its first seat, which may give out the numbers from 1 to `seats` - 1.
+    pub fn new(alloc: Global, value: V, seats: u32) -> Result<(TurnLock<V>, LockSeat<V>), NoLock<V>>
+        requires bare { V.entries value ≡ [] }
+        requires stands { V.stands_for value (V.opening value) }
+        requires seats { 0 < seats }
+        ensures seat { IfOk result (λ made. made.1 ≡ first_seat made.0 seats (V.opening value)) }
+        ensures value { IfErr result (λ refused. refused.value ≡ value) }
+    {
+        let start = Start {
+            value: Snapshot::of(&value),
+            seats,
+        };
+        let mut slots = Vec::new(alloc);
+        if let Err(failed) = slots.push(Some(value)) {
+            let AllocFailed { value } = failed;
+            slots.destroy_empty();
+            return Err(NoLock {
+                value: value.unwrap(),
+            });
+        }
+        match Table::new(alloc, &[0, 0], slots, &start) {
+            Ok((board, place)) => Ok((
+                TurnLock { board },
+                LockSeat {
+                    place,
+                    number: 0,
+                    next: 1,
+                },
+            )),
+            Err(Refused { mut slots }) => {
+                let value = slots.pop().unwrap().unwrap();
+                slots.destroy_empty();
+                Err(NoLock { value })
+            }
+        }
+    }
+
+    /// Waits for a turn, and takes the value out for it.
+    pub fn enter<R: Wait>(&self, rt: &R, seat: LockSeat<V>) -> (V, Turn<V>)
+        requires lock { seat.lock ≡ self.now }
+        ensures seen { IsPrefix seat.seen (V.entries result.0) }
+        ensures own { entries_of V.by seat.number (V.entries result.0) ≡ seat.own }
+        ensures ended { All (λ x. entries_of V.by x.number (V.entries result.0) ≡ x.entries) seat.ended }
+        ensures stands { IfSome seat.tag (V.stands_for result.0) }
+        ensures turn { result.1 ≡ record seat { seen = V.entries result.0 } }
+    {
+        let LockSeat {
+            mut place,
+            number,
+            next,
+        } = seat;
+        let ticket = self
+            .board
+            .shared
+            .fetch_add::<DrawTicket>(&mut place, TICKET, 1);
+        let value = wait(rt, &self.board, &mut place, ticket);
+        (
+            value,
+            Turn {
+                place,
+                number,
+                next,
+            },
+        )
+    }
+
+    /// Ends a turn: gives the value back, with the entries that this turn added.
+    pub fn leave(&self, turn: Turn<V>, value: V) -> LockSeat<V>
+        requires lock { turn.lock ≡ self.now }
+        requires stands { IfSome turn.tag (V.stands_for value) }
+        requires added { AddsOnly V.by turn.number turn.seen (V.entries value) }
+        ensures seat { result ≡
+            record turn { seen = V.entries value; own = entries_of V.by turn.number (V.entries value) } }
+        ensures own { (added : List V.Entry) → V.entries value ≡ turn.seen ++ added → result.own ≡ turn.own ++ added }
+    {
+        let Turn {
+            mut place,
+            number,
+            next,
+        } = turn;
+        let taken = self.board.shared.exchange(&mut place, VALUE, Some(value));
+        let None = taken else { unreachable!() };
+        let served = self
+            .board
+            .shared
+            .fetch_add::<ServeNext<V>>(&mut place, SERVING, 1);
+        wake_waiting(&self.board, served);
+        LockSeat {
+            place,
+            number,
+            next,
+        }
+    }
+
+    /// The seat, and a seat with the next number that it may give out. The second has no entries yet, and may itself
+    /// give out no number.
+    pub fn split(&self, seat: LockSeat<V>) -> (LockSeat<V>, LockSeat<V>)
+        requires lock { seat.lock ≡ self.now }
+        requires more { seat.next < seat.limit }
+        ensures first { result.0 ≡ record seat { next = seat.next + 1 } }
+        ensures second { result.1 ≡ record seat { number = seat.next; own = []; ended = []; next = 0; limit = 0 } }
+    {
+        let LockSeat {
+            mut place,
+            number,
+            next,
+        } = seat;
+        let other = self.board.shared.split_seat::<GiveOut>(&mut place);
+        (
+            LockSeat {
+                place,
+                number,
+                next: next + 1,
+            },
+            LockSeat {
+                place: other,
+                number: next,
+                next: 0,
+            },
+        )
+    }
+
+    /// The first seat, into which the second was joined: it has seen what either saw, and keeps the entries of the
+    /// second's number and of those that had been joined into it.
+    pub fn join(&self, seat: LockSeat<V>, ended: LockSeat<V>) -> LockSeat<V>
+        requires seat { seat.lock ≡ self.now }
+        requires ended { ended.lock ≡ self.now }
+        ensures joined { result ≡ joined_seat seat ended }
+    {
+        let LockSeat {
+            mut place,
+            number,
+            next,
+        } = seat;
+        let LockSeat {
+            place: other,
+            number: _,
+            next: last,
+        } = ended;
+        self.board.shared.join_seat::<TakeIn>(&mut place, other);
+        LockSeat {
+            place,
+            number,
+            next: next.max(last),
+        }
+    }
+
+    /// The value at the end, for the seat into which every number given out was joined. It has no entries but those
+    /// that the seat has seen.
+    pub fn close(self, seat: LockSeat<V>) -> V
+        requires lock { seat.lock ≡ self }
+        requires all { HasAllNumbers seat }
+        ensures seen { V.entries result ≡ seat.seen }
+        ensures own { entries_of V.by seat.number (V.entries result) ≡ seat.own }
+        ensures ended { All (λ x. entries_of V.by x.number (V.entries result) ≡ x.entries) seat.ended }
+        ensures others { (n : ℕ) → seat.next ≤ n → entries_of V.by n (V.entries result) ≡ [] }
+        ensures stands { IfSome seat.tag (V.stands_for result) }
+    {
+        let TurnLock { board } = self;
+        let LockSeat {
+            place,
+            number: _,
+            next: _,
+        } = seat;
+        let mut closed = board.close_with(place);
+        let value = closed.take(VALUE).unwrap();
+        closed.free();
+        value
+    }
+}
+
+// Wakes the seats that sleep, if any may: some seat drew a ticket after the one that was served. A seat sleeps only
+// while the served ticket is the one it found, and it drew its own before that look, so none sleeps past its turn.
+fn wake_waiting<V: Booked>(board: &Board<V>, served: u64)
+    requires { IsLockTable board.now.shared.table_id }
+{
+    if board.shared.peek(TICKET) != served.wrapping_add(1) {
+        board.shared.wake_all(SERVING);
+    }
+}
+
+// Waits until a ticket is served, and takes the value out of the slot.
+fn wait<V: Booked, R: Wait>(rt: &R, board: &Board<V>, place: &mut Place<V>, ticket: u64) -> V
+    requires table { IsLockTable board.now.shared.table_id × (place.old.table_id ≡ board.now.shared.table_id) }
+    requires live { IsSome place.old.me.0.tag }
+    requires waits { (k : ℕ) × (place.old.me.0.stage ≡ Waits k) × (place.old.me.1 ≡ []) × (k % 2 ^ 64 ≡ ticket) }
+    ensures table { place.new.table_id ≡ place.old.table_id }
+    ensures holds { (k : ℕ) × (place.new.me ≡ (holding place.old.me.0 k (V.entries result), (0, None) ∷ [])) }
+    ensures finds { Finds V.entries V.by V.stands_for place.old.me.0 result }
+{
+    let mut looks: u32 = 0;
+    for _ in rt.forever() {
+        let served = board.shared.load::<LookAtServing<V>>(place, SERVING);
+        if served == ticket {
+            return board.shared.exchange(place, VALUE, None).unwrap();
+        }
+        if looks < LOOKS {
+            looks += 1;
+            yield_now();
+        } else {
+            board.shared.park(rt, SERVING, (served % (1 << 32)) as u32);
+        }
+    }
+    unreachable!()
+}
