@@ -1,4 +1,4 @@
--- One read more into a buffer.
+-- Another read into a buffer.
 use Rattle.std.proofs.Common.{◌≡◌, ℕ, ◌+◌, ◌-◌, ◌≤◌, List, ◌++◌, length, take, drop, sym, ◌∙◌, ap, arith}
 use Rattle.std.proofs.lemmas.List.{length-take, length-drop, length-append, length-take-le, take_at, drop_at, take-append-le, drop-drop}
 use Rattle.std.proofs.Math.Seq.{take-add}

@@ -1,4 +1,6 @@
 mod BufferLemmas
-mod ShelfLemmas
-mod TapeLemmas
+pub mod CallerLemmas
+mod FilesStateLemmas
+mod SourceStateLemmas
 mod TripLemmas
+mod WaitingLemmas

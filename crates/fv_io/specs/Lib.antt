@@ -1,9 +1,13 @@
-pub mod Causes
+pub mod Faults
 pub mod Told
 pub mod Reading
 pub mod World
+pub mod Source
+pub mod Sink
+pub mod Files
 pub mod Shared
 pub mod Trips
-pub mod Tape
-pub mod Shelf
-pub mod Sheet
+pub mod SourceState
+pub mod FilesState
+pub mod SinkState
+pub mod Laws

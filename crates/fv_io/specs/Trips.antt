@@ -3,21 +3,21 @@ use Rattle.std.specs.Prelude.{ℕ, List, Bool, false, ◌&&◌, ◌==◌, nat_le
 use Rattle.fv_io.specs.declared.memory.trip.Trip.{Trip}
 use Rattle.fv_io.specs.declared.memory.trip.Trip.TheVariants.{Read, Rewind}
 
--- a read from this place fails, after so many rewinds
+-- after this many rewinds a read from this place fails
 abbrev pub trips_read : ℕ → ℕ → Trip → Bool
-trips_read turns from (Read rewinds place) = rewinds == turns && nat_le place from
-trips_read turns from (Rewind rewinds) = false
+trips_read rewinds from (Read after place) = after == rewinds && nat_le place from
+trips_read rewinds from (Rewind after) = false
 
--- a rewind fails, after so many
+-- after this many rewinds the next one fails
 abbrev pub trips_rewind : ℕ → Trip → Bool
-trips_rewind turns (Read rewinds place) = false
-trips_rewind turns (Rewind rewinds) = rewinds == turns
+trips_rewind rewinds (Read after place) = false
+trips_rewind rewinds (Rewind after) = after == rewinds
 
 -- where a read that could go up to the end has to stop for a trip
 abbrev pub stop_of : ℕ → ℕ → Trip → ℕ
-stop_of turns end (Read rewinds place) = if rewinds == turns then min end place else end
-stop_of turns end (Rewind rewinds) = end
+stop_of rewinds end (Read after place) = if after == rewinds then min end place else end
+stop_of rewinds end (Rewind after) = end
 
 -- how far a read may go: to the end, or to the first place at which a trip waits
 abbrev pub reach : ℕ → List Trip → ℕ → ℕ
-reach turns trips end = fold (stop_of turns) end trips
+reach rewinds trips end = fold (stop_of rewinds) end trips

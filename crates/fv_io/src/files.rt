@@ -1,8 +1,8 @@
 // Files by name.
-ghost use Rattle.std.specs.Prelude.{◌≡◌, ◌≤◌, ◌+◌, ◌-◌, ◌^◌, min, ℕ, Option, Some, None, IfOk, OnOk, OnErr, IsErrOf};
+ghost use Rattle.std.specs.Prelude.{◌≡◌, ◌≤◌, ◌+◌, ◌-◌, ◌^◌, min, ℕ, Option, None, IfOk, OnOk, OnErr, IsErrOf};
 ghost use Rattle.std.specs.FinMap.{get};
-ghost use Rattle.fv_io.specs.Causes.{Rose};
-ghost use Rattle.fv_io.specs.World.{World, IsHonest};
+ghost use Rattle.fv_io.specs.Faults.{HasRisen};
+ghost use Rattle.fv_io.specs.World.{World, InWorld};
 
 use crate::{Source, Text};
 
@@ -13,7 +13,7 @@ pub enum FetchFault {
     NotThere,
     /// The outside failed: the files' count of faults rose.
     Failed,
-    /// No memory was found.
+    /// Out of memory.
     Memory,
 }
 
@@ -21,26 +21,28 @@ pub enum FetchFault {
 pub trait Files {
     type Src: Source + Send;
 
-    /// What each name stands for, where they tell it.
+    /// The bytes of each name, where they tell them.
     ghost world: { Self → Option World };
 
     /// How often they failed, with the faults of the sources that were closed.
     ghost faults: { Self → ℕ };
 
-    /// How many sources are fetched and not closed.
+    /// How many sources were fetched and not closed yet.
     ghost given: { Self → ℕ };
 
-    /// Opens the file of this name, at its first byte.
+    /// Opens the file of this name, at its first byte. The caller gives the source back by `close`. After an `Err` no
+    /// source was opened.
     fn fetch(&mut self, name: &Text) -> Result<Self::Src, FetchFault>
         ensures given { OnOk result (given self.new ≡ given self.old + 1) }
         ensures not_given { OnErr result (given self.new ≡ given self.old) }
         ensures start { IfOk result (λ source. Self.Src.place source ≡ 0) }
         ensures fresh { IfOk result (λ source. Self.Src.faults source ≡ 0) }
-        ensures told { IfOk result (λ source. (told : World) → IsHonest (world self.old) told →
-            Self.Src.bytes source ≡ get told name.now) }
-        ensures there { OnOk result ((told : World) → IsHonest (world self.old) told → get told name.now ≡ None → ⊥) }
-        ensures not_there { IsErrOf result FetchFault.NotThere → (told : World) → IsHonest (world self.old) told → get told name.now ≡ None }
-        ensures failed { IsErrOf result FetchFault.Failed → Rose (faults self.old) (faults self.new) }
+        ensures told { IfOk result (λ source. InWorld (world self.old) (λ told.
+            Self.Src.bytes source ≡ get told name.now)) }
+        ensures there { OnOk result (InWorld (world self.old) (λ told. get told name.now ≡ None → ⊥)) }
+        ensures not_there { IsErrOf result FetchFault.NotThere →
+            InWorld (world self.old) (λ told. get told name.now ≡ None) }
+        ensures failed { IsErrOf result FetchFault.Failed → HasRisen (faults self.old) (faults self.new) }
         ensures later { faults self.old ≤ faults self.new }
         ensures world { world self.new ≡ world self.old };
 

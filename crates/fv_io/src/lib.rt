@@ -4,6 +4,7 @@
 #![tactic(auto)]
 
 mod files;
+pub mod laws;
 mod memory;
 mod reading;
 mod sink;
@@ -14,7 +15,7 @@ mod text;
 
 pub use files::{FetchFault, Files};
 pub use memory::{MemFiles, MemSink, MemSource, Trip};
-pub use reading::{read_full, skip};
+pub use reading::read_full;
 pub use sink::Sink;
 pub use source::{Failed, Source};
 pub use text::Text;

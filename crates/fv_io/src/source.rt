@@ -1,7 +1,12 @@
 // A source of bytes that can be read again from its start.
-ghost use Rattle.std.specs.Prelude.{◌≡◌, ◌≤◌, ◌+◌, List, ℕ, length, Option, Some, IfOk, OnOk, OnErr};
-ghost use Rattle.fv_io.specs.Causes.{Rose};
+ghost use Rattle.std.specs.Prelude.{◌≡◌, ◌≤◌, ◌+◌, List, ℕ, length, Option, IfOk, OnOk, OnErr};
+ghost use Rattle.std.specs.Option.{ForSome};
+ghost use Rattle.fv_io.specs.Faults.{risen, HasRisen};
 ghost use Rattle.fv_io.specs.Told.{Reads};
+ghost use Rattle.fv_io.specs.Reading.{Skips};
+
+/// How many bytes are read at a time to skip them.
+const SKIP_PIECE: usize = 4_096;
 
 /// The outside failed: a count of faults rose in this call.
 #[derive(Clone, Copy, Debug, PartialEq, Eq)]
@@ -21,23 +26,47 @@ pub trait Source {
     /// How often it was rewound.
     ghost rewinds: { Self → ℕ };
 
-    /// Reads into the front of a buffer, and answers how many bytes came. The answer 0 for a buffer that isn't empty
-    /// means the end.
+    /// Reads into the front of a buffer, and answers how many bytes were read. The answer 0 for a buffer that isn't
+    /// empty means the end of the bytes. An answer may be smaller than the buffer before the end, too.
     fn read(&mut self, buf: &mut [u8]) -> Result<usize, Failed>
         ensures bound { IfOk result (λ count. count ≤ length buf.new) }
-        ensures told { IfOk result (λ count. (told : List ℕ) → bytes self.old ≡ Some told →
-            Reads told (place self.old) (place self.new) count buf.new) }
+        ensures told { IfOk result (λ count. ForSome (bytes self.old) (λ told.
+            Reads told (place self.old) (place self.new) count buf.new)) }
         ensures bytes { bytes self.new ≡ bytes self.old }
         ensures rewinds { rewinds self.new ≡ rewinds self.old }
         ensures later { faults self.old ≤ faults self.new }
-        ensures failed { OnErr result (Rose (faults self.old) (faults self.new)) };
+        ensures failed { OnErr result (HasRisen (faults self.old) (faults self.new)) };
 
     /// Goes back to the first byte.
     fn rewind(&mut self) -> Result<(), Failed>
         ensures start { OnOk result (place self.new ≡ 0) }
-        ensures counted { OnOk result (Rose (rewinds self.old) (rewinds self.new)) }
+        ensures counted { OnOk result (rewinds self.new ≡ risen (rewinds self.old)) }
         ensures not_counted { OnErr result (rewinds self.new ≡ rewinds self.old) }
         ensures bytes { bytes self.new ≡ bytes self.old }
         ensures later { faults self.old ≤ faults self.new }
-        ensures failed { OnErr result (Rose (faults self.old) (faults self.new)) };
+        ensures failed { OnErr result (HasRisen (faults self.old) (faults self.new)) };
+
+    /// Goes past the next `size` bytes, and answers how many there were: fewer than `size` only at the end. Where a
+    /// type doesn't do it in a way of its own, the bytes are read and dropped.
+    fn skip(&mut self, size: u64) -> Result<u64, Failed>
+        ensures bound { IfOk result (λ count. count ≤ size) }
+        ensures told { IfOk result (λ count. ForSome (bytes self.old) (λ told.
+            Skips told (place self.old) (place self.new) size count)) }
+        ensures bytes { bytes self.new ≡ bytes self.old }
+        ensures rewinds { rewinds self.new ≡ rewinds self.old }
+        ensures later { faults self.old ≤ faults self.new }
+        ensures failed { OnErr result (HasRisen (faults self.old) (faults self.new)) }
+    {
+        let mut scratch = [0; SKIP_PIECE];
+        let mut passed = 0;
+        while passed < size {
+            let wanted = (size - passed).min(SKIP_PIECE as u64);
+            let count = self.read(&mut scratch[..wanted as usize])?;
+            if count == 0 {
+                break;
+            }
+            passed += count as u64;
+        }
+        Ok(passed)
+    }
 }

@@ -1,4 +1,4 @@
-// What the objects in memory do, on their happy paths and where they are to fail.
+// What the objects in memory do where nothing fails and where they are to fail.
 use super::*;
 use std::process::Abort;
 use std::sync::Arc;
@@ -33,6 +33,27 @@ fn a_source_fails_at_its_trips(rt: HostRuntime) -> Result<(), Fail> {
     assert_eq!(rt; source.read(&mut buf), Ok(3));
     assert_eq!(rt; buf, [10, 11, 12, 0]);
     assert_eq!(rt; source.faults(), 2);
+    Ok(())
+}
+
+#[test]
+fn a_source_skips_up_to_its_trips_and_its_end(rt: HostRuntime) -> Result<(), Fail> {
+    let alloc = rt.alloc();
+    let bytes = Arc::new(alloc, [10, 11, 12, 13, 14, 15, 16, 17].to_vec(alloc)?)?;
+    let trip = Trip::Read {
+        rewinds: 0,
+        place: 5,
+    };
+    let mut source = MemSource::new(bytes, 3, [trip].to_vec(alloc)?);
+    let mut buf = [0; 1];
+    assert_eq!(rt; source.skip(2), Ok(2));
+    assert_eq!(rt; source.read(&mut buf), Ok(1));
+    assert_eq!(rt; buf, [12]);
+    assert_eq!(rt; source.skip(4), Err(Failed));
+    assert_eq!(rt; source.rewind(), Ok(()));
+    assert_eq!(rt; source.skip(7), Ok(7));
+    assert_eq!(rt; source.skip(7), Ok(1));
+    assert_eq!(rt; source.skip(7), Ok(0));
     Ok(())
 }
 

@@ -18,8 +18,18 @@ impl Model for Text {
     ghost view = { λ t. string_bytes t.inner };
 }
 
+impl From<String> for Text {
+    ghost use Rattle.std.specs.Prelude.{◌≡◌, string_bytes};
+
+    ghost from_gives = { λ string text. text ≡ string_bytes string };
+
+    fn from(inner: String) -> Text {
+        Text { inner }
+    }
+}
+
 impl Text {
-    /// A copy of a text. An `Err` is want of memory.
+    /// A copy of a text. An `Err` means out of memory.
     pub fn from_str(alloc: Global, text: &str) -> Result<Text, AllocError>
         ensures { IfOk result (λ made. made ≡ text.now) }
     {
@@ -28,6 +38,7 @@ impl Text {
         })
     }
 
+    /// The text.
     pub fn as_str(&self) -> &str
         ensures { result.now ≡ self.now }
     {

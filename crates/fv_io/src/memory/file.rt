@@ -24,26 +24,33 @@ impl Model for MemFile {
     ghost use Rattle.std.specs.Prelude.{◌<◌};
     ghost use Rattle.std.specs.Option.{option_map};
     ghost use Rattle.fv_io.specs.Shared.{shared_bytes};
-    ghost use Rattle.fv_io.specs.Shelf.{Entry};
+    ghost use Rattle.fv_io.specs.FilesState.{Entry};
 
     ghost Value = { Entry };
 
-    ghost view = { λ f. record { name = f.name; first = shared_bytes f.first; later = option_map shared_bytes f.later; piece = f.piece; trips = f.trips.items } };
+    ghost view = { λ f. record {
+      name = f.name;
+      first = shared_bytes f.first;
+      later = option_map shared_bytes f.later;
+      piece = f.piece;
+      trips = f.trips.items;
+    } };
 
     ghost invariant = { λ f. 0 < f.piece };
 }
 
 impl MemFile {
     ghost use Rattle.std.specs.Prelude.{◌≡◌, IfOk};
-    ghost use Rattle.fv_io.specs.Shelf.{opened};
+    ghost use Rattle.fv_io.specs.FilesState.{opened};
 
+    /// The name under which it was added.
     pub fn name(&self) -> &str
         ensures { result.now ≡ self.now.name }
     {
         self.name.as_str()
     }
 
-    /// A source over the file.
+    /// A source over the file, at its start. An `Err` means out of memory.
     pub fn open(&self, alloc: Global) -> Result<MemSource, AllocError>
         ensures { IfOk result (λ source. source ≡ opened self.now) }
     {
@@ -54,6 +61,7 @@ impl MemFile {
     }
 }
 
+// The same bytes, shared once more.
 fn share(bytes: &Option<Arc<Vec<u8>>>) -> Result<Option<Arc<Vec<u8>>>, AllocError>
     ensures { IfOk result (λ shared. option_map shared_bytes shared ≡ option_map shared_bytes bytes.now) }
 {

@@ -2,10 +2,10 @@
 ghost use Rattle.std.specs.Prelude.{◌≡◌, ◌≤◌, ◌<◌, ◌+◌, ◌-◌, ◌^◌, ◌↔◌, [], min, IfOk, OnOk, OnErr, IsErrOf, Some, None, true, false, option_copied};
 ghost use Rattle.std.specs.FinMap.{get};
 ghost use Rattle.std.specs.Option.{option_map};
-ghost use Rattle.fv_io.specs.Causes.{Rose};
-ghost use Rattle.fv_io.specs.World.{World, IsHonest};
-ghost use Rattle.fv_io.specs.Tape.{told_bytes};
-ghost use Rattle.fv_io.specs.Shelf.{Shelf, entry_among, entry_of, told_world, opened, with_entry, with_stop, fetch_fails, failed, called, lent, closed};
+ghost use Rattle.fv_io.specs.Faults.{HasRisen};
+ghost use Rattle.fv_io.specs.World.{InWorld};
+ghost use Rattle.fv_io.specs.SourceState.{told_bytes};
+ghost use Rattle.fv_io.specs.FilesState.{entry_among, entry_of, told_world, with_entry, with_stop, fetch_fails, failed, called, closed, Fetches};
 
 use crate::memory::file::MemFile;
 use crate::memory::source::MemSource;
@@ -28,11 +28,17 @@ pub struct MemFiles {
 
 impl Model for MemFiles {
     ghost use Rattle.std.specs.Prelude.{◌≤◌};
-    ghost use Rattle.fv_io.specs.Shelf.{Shelf};
+    ghost use Rattle.fv_io.specs.FilesState.{FilesState};
 
-    ghost Value = { Shelf };
+    ghost Value = { FilesState };
 
-    ghost view = { λ f. record { entries = f.files.items; stops = f.stops.items; calls = f.calls; given = f.given; faults = f.faults } };
+    ghost view = { λ f. record {
+      entries = f.files.items;
+      stops = f.stops.items;
+      calls = f.calls;
+      given = f.given;
+      faults = f.faults;
+    } };
 
     ghost invariant = { λ f. f.given ≤ f.calls };
 }
@@ -60,7 +66,7 @@ impl MemFiles {
     }
 
     /// Adds a file, in place of one of its name. Its sources give at most `piece` bytes a read and fail where the trips
-    /// say. An `Err` is want of memory.
+    /// say. An `Err` means out of memory.
     pub fn add(
         &mut self,
         name: Text,
@@ -69,7 +75,8 @@ impl MemFiles {
         trips: Vec<Trip>,
     ) -> Result<(), AllocError>
         requires { 0 < piece }
-        ensures added { OnOk result (self.new ≡ with_entry self.old (record { name = name; first = bytes.items; later = None; piece = piece; trips = trips.items })) }
+        ensures added { OnOk result (self.new ≡ with_entry self.old
+            (record { name = name; first = bytes.items; later = None; piece = piece; trips = trips.items })) }
         ensures err { OnErr result (self.new ≡ self.old) }
     {
         let file = MemFile {
@@ -84,14 +91,15 @@ impl MemFiles {
     }
 
     /// Adds a file, in place of one of its name, whose sources give `first` up to the first rewind and `later`
-    /// afterwards. From then on no world is told. An `Err` is want of memory.
+    /// afterwards. From then on no world is told. An `Err` means out of memory.
     pub fn add_shrinking(
         &mut self,
         name: Text,
         first: Vec<u8>,
         later: Vec<u8>,
     ) -> Result<(), AllocError>
-        ensures added { OnOk result (self.new ≡ with_entry self.old (record { name = name; first = first.items; later = Some later.items; piece = usize.MAX; trips = [] })) }
+        ensures added { OnOk result (self.new ≡ with_entry self.old
+            (record { name = name; first = first.items; later = Some later.items; piece = usize.MAX; trips = [] })) }
         ensures err { OnErr result (self.new ≡ self.old) }
     {
         let file = MemFile {
@@ -105,7 +113,7 @@ impl MemFiles {
         Ok(())
     }
 
-    /// Lets the fetch of this number fail, counted from 1. An `Err` is want of memory.
+    /// Makes the fetch of this number fail. Fetches are counted from 1. An `Err` means out of memory.
     pub fn fail_fetch(&mut self, call: u64) -> Result<(), AllocError>
         ensures added { OnOk result (self.new ≡ with_stop self.old call) }
         ensures err { OnErr result (self.new ≡ self.old) }
@@ -114,14 +122,14 @@ impl MemFiles {
         Ok(())
     }
 
-    /// How many sources are fetched and not closed.
+    /// How many sources were fetched and not closed yet.
     pub fn given(&self) -> u64
         ensures { result ≡ self.now.given }
     {
         self.given
     }
 
-    /// How often a fetch or a source that was closed failed.
+    /// How often a fetch failed, with the faults of the sources that were closed.
     pub fn faults(&self) -> u64
         ensures { result ≡ self.now.faults }
     {
@@ -150,19 +158,25 @@ impl Files for MemFiles {
         ensures not_given { OnErr result (self.new.given ≡ self.old.given) }
         ensures start { IfOk result (λ source. source.place ≡ 0) }
         ensures fresh { IfOk result (λ source. source.faults ≡ 0) }
-        ensures told { IfOk result (λ source. (told : World) → IsHonest (told_world self.old) told → told_bytes source ≡ get told name.now) }
-        ensures there { OnOk result ((told : World) → IsHonest (told_world self.old) told → get told name.now ≡ None → ⊥) }
-        ensures not_there { IsErrOf result FetchFault.NotThere → (told : World) → IsHonest (told_world self.old) told → get told name.now ≡ None }
-        ensures failed { IsErrOf result FetchFault.Failed → Rose self.old.faults self.new.faults }
+        ensures told { IfOk result (λ source. InWorld (told_world self.old) (λ told.
+            told_bytes source ≡ get told name.now)) }
+        ensures there { OnOk result (InWorld (told_world self.old) (λ told. get told name.now ≡ None → ⊥)) }
+        ensures not_there { IsErrOf result FetchFault.NotThere →
+            InWorld (told_world self.old) (λ told. get told name.now ≡ None) }
+        ensures failed { IsErrOf result FetchFault.Failed → HasRisen self.old.faults self.new.faults }
         ensures later { self.old.faults ≤ self.new.faults }
         ensures world { told_world self.new ≡ told_world self.old }
 
-        // A call that is to fail fails, and no other; then a name that wasn't added isn't there, and no other.
-        ensures stopped { fetch_fails self.old ≡ true → (result ≡ Err FetchFault.Failed) × (self.new ≡ failed self.old) }
+        // Exactly the calls that are to fail answer `Failed`. Of the others exactly those of a name that wasn't added
+        // answer `NotThere`.
+        ensures only_missing { IsErrOf result FetchFault.NotThere → entry_of self.old name.now ≡ None }
+        ensures stopped { fetch_fails self.old ≡ true →
+            (result ≡ Err FetchFault.Failed) × (self.new ≡ failed self.old) }
         ensures not_stopped { fetch_fails self.old ≡ false → IsErrOf result FetchFault.Failed → ⊥ }
-        ensures missing { fetch_fails self.old ≡ false → entry_of self.old name.now ≡ None → (result ≡ Err FetchFault.NotThere) × (self.new ≡ called self.old) }
+        ensures missing { fetch_fails self.old ≡ false → entry_of self.old name.now ≡ None →
+            (result ≡ Err FetchFault.NotThere) × (self.new ≡ called self.old) }
         ensures memory { IsErrOf result FetchFault.Memory → self.new ≡ called self.old }
-        ensures opened { IfOk result (λ source. (fetch_fails self.old ≡ false) × (option_map opened (entry_of self.old name.now) ≡ Some source) × (self.new ≡ lent self.old)) }
+        ensures opened { IfOk result (Fetches self.old self.new name.now) }
     {
         if self.fetch_fails() {
             self.calls = self.calls.saturating_add(1);

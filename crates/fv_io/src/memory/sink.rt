@@ -1,14 +1,14 @@
 // A sink in memory with a limit.
 ghost use Rattle.std.specs.Prelude.{◌≡◌, ◌≤◌, ◌↔◌, IfOk, IsOk, OnOk, OnErr, Some};
-ghost use Rattle.fv_io.specs.Causes.{Rose};
+ghost use Rattle.fv_io.specs.Faults.{HasRisen};
 ghost use Rattle.fv_io.specs.Told.{with_piece, GetsPrefix};
-ghost use Rattle.fv_io.specs.Sheet.{blank, Fits, with_all, with_part};
+ghost use Rattle.fv_io.specs.SinkState.{empty, Fits, with_all, with_part};
 
 use crate::{Failed, Sink};
 use std::alloc::{AllocError, Global};
 use std::marker::Model;
 
-/// A sink in memory that holds so many bytes, and fails at a put that would pass them.
+/// A sink in memory that holds up to a limit of bytes, and fails at a put that would pass it.
 #[derive(Drop)]
 pub struct MemSink {
     bytes: Vec<u8>,
@@ -18,9 +18,9 @@ pub struct MemSink {
 
 impl Model for MemSink {
     ghost use Rattle.std.specs.Prelude.{◌≤◌, length, vec_capacity};
-    ghost use Rattle.fv_io.specs.Sheet.{Sheet};
+    ghost use Rattle.fv_io.specs.SinkState.{SinkState};
 
-    ghost Value = { Sheet };
+    ghost Value = { SinkState };
 
     ghost view = { λ s. record { bytes = s.bytes.items; limit = s.limit; faults = s.faults } };
 
@@ -28,9 +28,9 @@ impl Model for MemSink {
 }
 
 impl MemSink {
-    /// An empty sink with room for so many bytes. An `Err` is want of memory.
+    /// An empty sink with room for `limit` bytes. An `Err` means out of memory.
     pub fn new(alloc: Global, limit: usize) -> Result<MemSink, AllocError>
-        ensures { IfOk result (λ sink. sink ≡ blank limit) }
+        ensures { IfOk result (λ sink. sink ≡ empty limit) }
     {
         Ok(MemSink {
             bytes: Vec::with_capacity(alloc, limit)?,
@@ -39,7 +39,7 @@ impl MemSink {
         })
     }
 
-    /// What was written.
+    /// All bytes that were put.
     pub fn bytes(&self) -> &[u8]
         ensures { result.now ≡ self.now.bytes }
     {
@@ -63,7 +63,7 @@ impl Sink for MemSink {
         ensures put { OnOk result (Some self.new.bytes ≡ with_piece (Some self.old.bytes) piece.now) }
         ensures cut { OnErr result (GetsPrefix (Some self.old.bytes) (Some self.new.bytes) piece.now) }
         ensures later { self.old.faults ≤ self.new.faults }
-        ensures failed { OnErr result (Rose self.old.faults self.new.faults) }
+        ensures failed { OnErr result (HasRisen self.old.faults self.new.faults) }
 
         // A put fails exactly where it would pass the limit, and then fills the sink up to it.
         ensures fits { IsOk result ↔ Fits self.old piece.now }

@@ -1,11 +1,11 @@
 // A source over bytes in memory, which fails where its trips say.
 ghost use Rattle.std.specs.Prelude.{◌≡◌, ◌<◌, ◌≤◌, ◌+◌, ◌++◌, List, [], ℕ, IfOk, IfSome, OnOk, OnErr, is_err, is_some, length, take, drop, Some, None, MatchOption};
 ghost use Rattle.fv_io.specs.Shared.{shared_bytes};
-ghost use Rattle.std.specs.Option.{option_map};
-ghost use Rattle.fv_io.specs.Causes.{Rose};
+ghost use Rattle.std.specs.Option.{option_map, ForSome};
+ghost use Rattle.fv_io.specs.Faults.{risen, HasRisen};
 ghost use Rattle.fv_io.specs.Told.{Reads};
 ghost use Rattle.fv_io.specs.Trips.{reach as reach_of};
-ghost use Rattle.fv_io.specs.Tape.{bytes_now, told_bytes, wound, read_trip, rewind_trip, tripped, read_amount, read_on, rewound};
+ghost use Rattle.fv_io.specs.SourceState.{bytes_now, told_bytes, at_start, read_trip, rewind_trip, after_trip, read_amount, read_on, rewound};
 
 use crate::memory::trip::Trip;
 use crate::{Failed, Source};
@@ -27,34 +27,43 @@ pub struct MemSource {
 impl Model for MemSource {
     ghost use Rattle.std.specs.Option.{option_map};
     ghost use Rattle.fv_io.specs.Shared.{shared_bytes};
-    ghost use Rattle.fv_io.specs.Tape.{Tape, IsSound};
+    ghost use Rattle.fv_io.specs.SourceState.{SourceState, bytes_after, IsSound};
 
-    ghost Value = { Tape };
+    ghost Value = { SourceState };
 
-    ghost view = { λ s. record { first = shared_bytes s.first; later = option_map shared_bytes s.later; piece = s.piece; trips = s.trips.items; place = s.place; rewinds = s.rewinds; faults = s.faults } };
+    ghost view = { λ s. record {
+      first = shared_bytes s.first;
+      later = option_map shared_bytes s.later;
+      piece = s.piece;
+      trips = s.trips.items;
+      place = s.place;
+      rewinds = s.rewinds;
+      faults = s.faults;
+    } };
 
-    ghost invariant = { λ s. IsSound (record { first = shared_bytes s.first; later = option_map shared_bytes s.later; piece = s.piece; trips = s.trips.items; place = s.place; rewinds = s.rewinds; faults = s.faults }) };
+    ghost invariant = { λ s. IsSound (bytes_after s.rewinds (shared_bytes s.first) (option_map shared_bytes s.later))
+        s.place s.piece };
 }
 
 // How far a read may go: to the end, or to the first place at which a trip waits.
-fn reach(trips: &[Trip], turns: u64, end: usize) -> usize
-    ensures { result ≡ reach_of turns trips.now end }
+fn reach(trips: &[Trip], rewinds: u64, end: usize) -> usize
+    ensures { result ≡ reach_of rewinds trips.now end }
 {
-    trips.iter().fold(end, |end, trip| trip.stop(turns, end))
+    trips.iter().fold(end, |end, trip| trip.stop(rewinds, end))
 }
 
 impl MemSource {
     /// A source that gives these bytes, at most `piece` of them a read, and fails where the trips say.
     pub fn new(bytes: Arc<Vec<u8>>, piece: usize, trips: Vec<Trip>) -> MemSource
         requires { 0 < piece }
-        ensures { result ≡ wound (shared_bytes bytes) None piece trips.items }
+        ensures { result ≡ at_start (shared_bytes bytes) None piece trips.items }
     {
         MemSource::over(bytes, None, piece, trips)
     }
 
     /// A source that gives `first` up to the first rewind and `later` afterwards, and tells no bytes.
     pub fn shrinking(first: Arc<Vec<u8>>, later: Arc<Vec<u8>>) -> MemSource
-        ensures { result ≡ wound (shared_bytes first) (Some (shared_bytes later)) usize.MAX [] }
+        ensures { result ≡ at_start (shared_bytes first) (Some (shared_bytes later)) usize.MAX [] }
     {
         let trips = Vec::new(*first.allocator());
         MemSource::over(first, Some(later), usize::MAX, trips)
@@ -68,7 +77,7 @@ impl MemSource {
         trips: Vec<Trip>,
     ) -> MemSource
         requires { 0 < piece }
-        ensures { result ≡ wound (shared_bytes first) (option_map shared_bytes later) piece trips.items }
+        ensures { result ≡ at_start (shared_bytes first) (option_map shared_bytes later) piece trips.items }
     {
         MemSource {
             first,
@@ -103,10 +112,10 @@ impl MemSource {
         ensures trip { result ≡ read_trip self.now }
         ensures inside { IfSome result (λ i. i < length self.now.trips) }
     {
-        let (turns, place) = (self.rewinds, self.place);
+        let (rewinds, place) = (self.rewinds, self.place);
         self.trips
             .iter()
-            .position(|trip| trip.trips_read(turns, place))
+            .position(|trip| trip.trips_read(rewinds, place))
     }
 
     // The trip at which a rewind fails now.
@@ -114,24 +123,27 @@ impl MemSource {
         ensures trip { result ≡ rewind_trip self.now }
         ensures inside { IfSome result (λ i. i < length self.now.trips) }
     {
-        let turns = self.rewinds;
-        self.trips.iter().position(|trip| trip.trips_rewind(turns))
+        let rewinds = self.rewinds;
+        self.trips
+            .iter()
+            .position(|trip| trip.trips_rewind(rewinds))
     }
 
     // How many bytes a read gives into a buffer of this size, where no trip is met.
     fn amount(&self, room: usize) -> usize
         ensures amount { result ≡ read_amount self.now room }
         ensures inside { self.now.place + result ≤ length (bytes_now self.now) }
-        ensures ended { read_trip self.now ≡ None → result ≡ 0 → 0 < room → length (bytes_now self.now) ≤ self.now.place }
+        ensures ended { read_trip self.now ≡ None → result ≡ 0 → 0 < room →
+            length (bytes_now self.now) ≤ self.now.place }
     {
         let end = reach(&self.trips, self.rewinds, self.bytes().len());
         room.min(self.piece).min(end.saturating_sub(self.place))
     }
 
-    // Spends a trip.
+    // Counts a failure at a trip, and removes the trip, so that it fails once only.
     fn trip(&mut self, i: usize) -> Failed
         requires { i < length self.old.trips }
-        ensures { self.new ≡ tripped self.old i }
+        ensures { self.new ≡ after_trip self.old i }
     {
         self.trips.remove(i);
         self.faults = self.faults.saturating_add(1);
@@ -150,20 +162,21 @@ impl Source for MemSource {
 
     fn read(&mut self, buf: &mut [u8]) -> Result<usize, Failed>
         ensures bound { IfOk result (λ count. count ≤ length buf.new) }
-        ensures told { IfOk result (λ count. (told : List ℕ) → told_bytes self.old ≡ Some told →
-            Reads told self.old.place self.new.place count buf.new) }
+        ensures told { IfOk result (λ count. ForSome (told_bytes self.old) (λ told.
+            Reads told self.old.place self.new.place count buf.new)) }
         ensures bytes { told_bytes self.new ≡ told_bytes self.old }
         ensures rewinds { self.new.rewinds ≡ self.old.rewinds }
         ensures later { self.old.faults ≤ self.new.faults }
-        ensures failed { OnErr result (Rose self.old.faults self.new.faults) }
+        ensures failed { OnErr result (HasRisen self.old.faults self.new.faults) }
 
-        // A read fails exactly at a trip, and spends it.
+        // A read fails exactly at a trip, and removes it.
         ensures trips { is_err result ≡ is_some (read_trip self.old) }
-        ensures spent { OnErr result (MatchOption (read_trip self.old) (self.new ≡ self.old) (λ i. self.new ≡ tripped self.old i)) }
+        ensures spent { OnErr result (ForSome (read_trip self.old) (λ i. self.new ≡ after_trip self.old i)) }
         ensures kept { OnErr result (buf.new ≡ buf.old) }
         ensures amount { IfOk result (λ count. count ≡ read_amount self.old (length buf.old)) }
         ensures place { IfOk result (λ count. self.new ≡ read_on self.old count) }
-        ensures given { IfOk result (λ count. buf.new ≡ take count (drop self.old.place (bytes_now self.old)) ++ drop count buf.old) }
+        ensures given { IfOk result (λ count.
+            buf.new ≡ take count (drop self.old.place (bytes_now self.old)) ++ drop count buf.old) }
     {
         if let Some(i) = self.read_trip() {
             return Err(self.trip(i));
@@ -176,15 +189,15 @@ impl Source for MemSource {
 
     fn rewind(&mut self) -> Result<(), Failed>
         ensures start { OnOk result (self.new.place ≡ 0) }
-        ensures counted { OnOk result (Rose self.old.rewinds self.new.rewinds) }
+        ensures counted { OnOk result (self.new.rewinds ≡ risen self.old.rewinds) }
         ensures not_counted { OnErr result (self.new.rewinds ≡ self.old.rewinds) }
         ensures bytes { told_bytes self.new ≡ told_bytes self.old }
         ensures later { self.old.faults ≤ self.new.faults }
-        ensures failed { OnErr result (Rose self.old.faults self.new.faults) }
+        ensures failed { OnErr result (HasRisen self.old.faults self.new.faults) }
 
-        // A rewind fails exactly at a trip, and spends it.
+        // A rewind fails exactly at a trip, and removes it.
         ensures trips { is_err result ≡ is_some (rewind_trip self.old) }
-        ensures spent { OnErr result (MatchOption (rewind_trip self.old) (self.new ≡ self.old) (λ i. self.new ≡ tripped self.old i)) }
+        ensures spent { OnErr result (ForSome (rewind_trip self.old) (λ i. self.new ≡ after_trip self.old i)) }
         ensures back { OnOk result (self.new ≡ rewound self.old) }
     {
         if let Some(i) = self.rewind_trip() {

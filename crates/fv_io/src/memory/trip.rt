@@ -4,9 +4,9 @@ ghost use Rattle.std.specs.Prelude.{◌≡◌};
 /// A failure that waits in a source.
 #[derive(Clone, Copy, Debug, PartialEq, Eq)]
 pub enum Trip {
-    /// After so many rewinds, no read passes this place, and the first that begins at or past it fails.
+    /// After this many rewinds, no read passes this place, and the first that begins at or past it fails.
     Read { rewinds: u32, place: u64 },
-    /// After so many rewinds, the next one fails.
+    /// After this many rewinds, the next one fails.
     Rewind { rewinds: u32 },
 }
 
@@ -14,31 +14,37 @@ impl Trip {
     ghost use Rattle.fv_io.specs.Trips.{trips_read, trips_rewind, stop_of};
 
     // Whether a read from this place fails.
-    pub(crate) fn trips_read(&self, turns: u64, from: usize) -> bool
-        ensures { result ≡ trips_read turns from self.now }
+    pub(crate) fn trips_read(&self, rewinds: u64, from: usize) -> bool
+        ensures { result ≡ trips_read rewinds from self.now }
     {
         match *self {
-            Trip::Read { rewinds, place } => rewinds as u64 == turns && place <= from as u64,
+            Trip::Read {
+                rewinds: after,
+                place,
+            } => after as u64 == rewinds && place <= from as u64,
             Trip::Rewind { .. } => false,
         }
     }
 
     // Whether a rewind fails.
-    pub(crate) fn trips_rewind(&self, turns: u64) -> bool
-        ensures { result ≡ trips_rewind turns self.now }
+    pub(crate) fn trips_rewind(&self, rewinds: u64) -> bool
+        ensures { result ≡ trips_rewind rewinds self.now }
     {
         match *self {
             Trip::Read { .. } => false,
-            Trip::Rewind { rewinds } => rewinds as u64 == turns,
+            Trip::Rewind { rewinds: after } => after as u64 == rewinds,
         }
     }
 
     // Where a read that could go up to the end has to stop.
-    pub(crate) fn stop(&self, turns: u64, end: usize) -> usize
-        ensures { result ≡ stop_of turns end self.now }
+    pub(crate) fn stop(&self, rewinds: u64, end: usize) -> usize
+        ensures { result ≡ stop_of rewinds end self.now }
     {
         match *self {
-            Trip::Read { rewinds, place } if rewinds as u64 == turns => end.min(place as usize),
+            Trip::Read {
+                rewinds: after,
+                place,
+            } if after as u64 == rewinds => end.min(place as usize),
             _ => end,
         }
     }

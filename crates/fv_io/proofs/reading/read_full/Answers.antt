@@ -1,4 +1,4 @@
--- One read more keeps what was said of the buffer's front.
+-- Another read keeps what was said of the buffer's front.
 use Rattle.std.proofs.Common.{◌≡◌, ◌+◌, ◌-◌, length, ap, ◌∙◌, rules, arith}
 use Rattle.std.proofs.lemmas.List.{length-append, length-take, length-drop}
 use Rattle.fv_io.proofs.BufferLemmas.{more_given, more_inside, put_from}
@@ -16,7 +16,7 @@ loop-have-preserved g c =
       given = λ told is. more_given told c.loop-have.buf c.read.new.buf _ _ _ c.loop-have.have c.in_ok-count.count i.fits room (i.given told is) (i.moved told is) read.bound (read.told told (i.keeps.told ∙ is));
       inside = λ told is. more_inside told c.loop-have.buf c.read.new.buf _ _ _ c.loop-have.have c.in_ok-count.count i.fits room (i.given told is) (i.moved told is) read.bound (read.told told (i.keeps.told ∙ is)) (i.inside told is);
       moved = λ told is. (read.told told (i.keeps.told ∙ is)).moved ∙ ap (λ n. n + c.in_ok-count.count) (i.moved told is) ∙ omega arith;
-      keeps = record { told = read.bytes ∙ i.keeps.told; turns = read.rewinds ∙ i.keeps.turns; later = omega (arith, read.later, i.keeps.later) };
+      keeps = record { told = read.bytes ∙ i.keeps.told; rewinds = read.rewinds ∙ i.keeps.rewinds; later = omega (arith, read.later, i.keeps.later) };
     }
 
 pub returns-then-count-eq0-clause-moved : goal.returns-then-count-eq0-clause-moved

@@ -1,8 +1,8 @@
 -- What the opened source tells is what the world has under the name.
 use Rattle.std.proofs.Common.{◌≡◌, Some, None, ◌∙◌, ap, rules}
-use Rattle.fv_io.specs.Shelf.{entry_among}
-use Rattle.fv_io.specs.Tape.{told_bytes}
-use Rattle.fv_io.proofs.ShelfLemmas.{not_there, tells_its_bytes, is_there}
+use Rattle.fv_io.specs.FilesState.{entry_among}
+use Rattle.fv_io.specs.SourceState.{told_bytes}
+use Rattle.fv_io.proofs.FilesStateLemmas.{not_there, tells_its_bytes, is_there}
 use Rattle.fv_io.proofs.memory.files.MemFilesFiles.fetch.Goals as goal
 
 pub returns-in-None-clause-not_there : goal.returns-in-None-clause-not_there

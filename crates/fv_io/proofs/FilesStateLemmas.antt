@@ -7,9 +7,9 @@ use Rattle.std.specs.Ordering.{nat_cmp}
 use Rattle.std.specs.Cmp.Lexicographic.{slice_cmp, nat_list_cmp_total}
 use Rattle.std.proofs.lemmas.Map.Text.{is_eq-slice_cmp}
 use Rattle.std.specs.FinMap.{find, get, get-from_entries}
-use Rattle.fv_io.specs.Shelf.{Entry, entry_among, world_of, told_world, opened, Shelf}
-use Rattle.fv_io.specs.Tape.{told_bytes}
-use Rattle.fv_io.specs.World.{World, IsHonest}
+use Rattle.fv_io.specs.FilesState.{Entry, entry_among, world_of, told_world, opened, FilesState}
+use Rattle.fv_io.specs.SourceState.{told_bytes}
+use Rattle.fv_io.specs.World.{World}
 
 first_of_name : (entries : List Entry) (name : List ℕ) → find (slice_cmp nat_cmp) name (map (λ entry. (entry.name, entry.first)) entries) ≡ option_map (λ entry. entry.first) (entry_among entries name)
 first_of_name [] name = refl
@@ -42,22 +42,22 @@ tells : (whole : Bool) (world told : World) → cond whole (Some world) None ≡
 tells true world told is = (refl, cc)
 tells false world told is = absurd (let no : ⊥ = cc in no)
 
-module _ (shelf : Shelf) (told : World) (name : List ℕ) (honest : IsHonest (told_world shelf) told) where
-  answers : get told name ≡ option_map (λ entry. entry.first) (entry_among shelf.entries name)
-  answers = ap (λ world. get world name) (sym (tells _ (world_of shelf.entries) told honest).1) ∙ get-world_of shelf.entries name
+module _ (state : FilesState) (told : World) (name : List ℕ) (honest : told_world state ≡ Some told) where
+  answers : get told name ≡ option_map (λ entry. entry.first) (entry_among state.entries name)
+  answers = ap (λ world. get world name) (sym (tells _ (world_of state.entries) told honest).1) ∙ get-world_of state.entries name
 
   -- a name that isn't found isn't in the world
-  pub not_there : None ≡ entry_among shelf.entries name → get told name ≡ None
+  pub not_there : None ≡ entry_among state.entries name → get told name ≡ None
   not_there none = answers ∙ ap (option_map (λ entry. entry.first)) (sym none)
 
-  module _ (entry : Entry) (found : Some entry ≡ entry_among shelf.entries name) where
+  module _ (entry : Entry) (found : Some entry ≡ entry_among state.entries name) where
     there : get told name ≡ Some entry.first
     there = answers ∙ ap (option_map (λ entry. entry.first)) (sym found)
 
     -- a source over the file that was found tells what the world has
     pub tells_its_bytes : told_bytes (opened entry) ≡ get told name
     tells_its_bytes =
-        ap (λ later. cond (is_none later) (Some entry.first) None) (keeps shelf.entries name entry (tells _ (world_of shelf.entries) told honest).0 (sym found)) ∙ sym there
+        ap (λ later. cond (is_none later) (Some entry.first) None) (keeps state.entries name entry (tells _ (world_of state.entries) told honest).0 (sym found)) ∙ sym there
 
     pub is_there : get told name ≡ None → ⊥
     is_there none = let no : ⊥ = cc (there, none) in no
