@@ -1,0 +1,96 @@
+-- What other crates may cite: frames and their bytes.
+use Rattle.std.proofs.Common.{◌≡◌, ℕ, ◌<◌, ◌≤◌, ◌*◌, ◌/◌, ◌%◌, ◌==◌, Bool, true, false, nat_le, if◌then◌else◌, eqb-true, eq-eqb, List, [], length, get_or, take, refl, sym, ◌∙◌, ap, arith}
+use Rattle.std.proofs.lemmas.Bool.{and_parts, and_from, leb-true, le-leb}
+use Rattle.fv_plane.specs.declared.format.PixelType.{PixelType}
+use Rattle.fv_plane.specs.declared.format.PixelType.TheVariants.{Y8, YV12, YV16, YV24, YV411}
+use Rattle.fv_plane.specs.declared.format.Shape.{Shape}
+use Rattle.fv_plane.specs.Format.{IsLegal, has_whole_sides, planes, plane_height, sub_w, sub_h, frame_bytes}
+use Rattle.fv_plane.specs.Picture.{Picture, IsPicture}
+use Rattle.fv_plane.specs.Bytes.{bytes_of, picture_of}
+use Rattle.fv_plane.proofs.CutLemmas as cut
+
+-- the bytes of luma alone are some
+some_luma : (w h : ℕ) → 0 < w → 0 < h → 0 < w * h
+some_luma w h some_w some_h = grind arith
+
+-- a legal frame has a byte
+pub some_bytes : (shape : Shape) → IsLegal shape → 0 < frame_bytes shape
+some_bytes shape legal = omega (arith, some_luma shape.width shape.height legal.some_width legal.some_height)
+
+-- whole sides, and bytes that are not too many, are a legal shape
+pub legal_by : (shape : Shape) → has_whole_sides shape ≡ true → frame_bytes shape ≤ 16777216 → IsLegal shape
+legal_by shape whole small =
+    let a = and_parts (nat_le 1 shape.width) _ whole in
+    let b = and_parts (nat_le shape.width 65535) _ a.1 in
+    let c = and_parts (nat_le 1 shape.height) _ b.1 in
+    let d = and_parts (nat_le shape.height 65535) _ c.1 in
+    let e = and_parts (shape.width % sub_w shape.kind == 0) (shape.height % sub_h shape.kind == 0) d.1 in
+    record {
+      some_width = leb-true 1 shape.width a.0;
+      some_height = leb-true 1 shape.height c.0;
+      most_width = leb-true shape.width 65535 b.0;
+      most_height = leb-true shape.height 65535 d.0;
+      whole_width = eqb-true (shape.width % sub_w shape.kind) 0 e.0;
+      whole_height = eqb-true (shape.height % sub_h shape.kind) 0 e.1;
+      most_bytes = small;
+    }
+
+-- a legal shape has whole sides
+pub whole_sides : (shape : Shape) → IsLegal shape → has_whole_sides shape ≡ true
+whole_sides shape legal =
+    and_from (nat_le 1 shape.width) _ (le-leb 1 shape.width legal.some_width) (and_from (nat_le shape.width 65535) _ (le-leb shape.width 65535 legal.most_width)
+    (and_from (nat_le 1 shape.height) _ (le-leb 1 shape.height legal.some_height) (and_from (nat_le shape.height 65535) _ (le-leb shape.height 65535 legal.most_height)
+    (and_from (shape.width % sub_w shape.kind == 0) (shape.height % sub_h shape.kind == 0) (eq-eqb (shape.width % sub_w shape.kind) 0 legal.whole_width)
+    (eq-eqb (shape.height % sub_h shape.kind) 0 legal.whole_height)))))
+
+-- the frame that is cut has the shape
+pub shape-picture_of : (shape : Shape) (bytes : List ℕ) → (picture_of shape bytes).shape ≡ shape
+shape-picture_of shape bytes = refl
+
+-- the planes that are cut are as many as the format has
+pub length-picture_of : (shape : Shape) (bytes : List ℕ) → length (picture_of shape bytes).planes ≡ planes shape.kind
+length-picture_of shape bytes = cut.length-picture_of shape bytes
+
+-- a frame that is cut from its bytes is a picture
+pub IsPicture-picture_of : (shape : Shape) (bytes : List ℕ) → IsLegal shape → frame_bytes shape ≤ length bytes → ((k : ℕ) → get_or bytes k 0 ≤ 255) → IsPicture (picture_of shape bytes)
+IsPicture-picture_of shape bytes legal whole bounded = cut.IsPicture-picture_of shape bytes legal whole bounded
+
+-- a frame is cut from the first bytes alone, as many as it has
+pub picture_of-take : (shape : Shape) (bytes : List ℕ) → picture_of shape (take (frame_bytes shape) bytes) ≡ picture_of shape bytes
+picture_of-take shape bytes = cut.picture_of-take shape bytes
+
+-- the bytes of a frame that was cut from bytes are these bytes
+pub bytes_of-picture_of : (shape : Shape) (bytes : List ℕ) → length bytes ≡ frame_bytes shape → bytes_of (picture_of shape bytes) ≡ bytes
+bytes_of-picture_of shape bytes whole = cut.bytes_of-picture_of shape bytes whole
+
+-- cutting the bytes of a frame gives the frame
+pub picture_of-bytes_of : (picture : Picture) → IsPicture picture → picture_of picture.shape (bytes_of picture) ≡ picture
+picture_of-bytes_of picture is = cut.picture_of-bytes_of picture is
+
+-- a frame has the bytes of its shape
+pub length-bytes_of : (picture : Picture) → IsPicture picture → length (bytes_of picture) ≡ frame_bytes picture.shape
+length-bytes_of picture is = cut.length-bytes_of picture is
+
+-- frames of one shape with equal bytes are equal
+pub same_bytes : (a b : Picture) → IsPicture a → IsPicture b → a.shape ≡ b.shape → bytes_of a ≡ bytes_of b → a ≡ b
+same_bytes a b a_is b_is shapes same =
+    sym (picture_of-bytes_of a a_is) ∙ ap (λ s. picture_of s (bytes_of a)) shapes ∙ ap (λ l. picture_of b.shape l) same ∙ picture_of-bytes_of b b_is
+
+some_down : (kind : PixelType) (n : ℕ) → 0 < n → n % sub_h kind ≡ 0 → 0 < n / sub_h kind
+some_down Y8 n some whole = omega arith
+some_down YV12 n some whole = omega arith
+some_down YV16 n some whole = omega arith
+some_down YV24 n some whole = omega arith
+some_down YV411 n some whole = omega arith
+
+some_either : (b : Bool) (x y : ℕ) → 0 < x → 0 < y → 0 < (if b then x else y)
+some_either true x y first second = first
+some_either false x y first second = second
+
+-- a plane of a legal frame has a row
+pub some_rows : (shape : Shape) (p : ℕ) → IsLegal shape → 0 < plane_height shape p
+some_rows shape p legal = some_either (p == 0) _ _ legal.some_height (some_down shape.kind shape.height legal.some_height legal.whole_height)
+
+-- a plane has as many rows as its height
+pub length-plane : (picture : Picture) (p : ℕ) → IsPicture picture → p < planes picture.shape.kind → length (get_or picture.planes p []) ≡ plane_height picture.shape p
+length-plane picture p is there = let plane = is.sizes p (let count = is.count in omega arith) in plane.count

@@ -1,0 +1,35 @@
+use Rattle.std.proofs.Common.{◌≡◌, ◌∷◌, map, ◌∙◌, ap, arith}
+use Rattle.fv_plane.specs.Picture.{IsPicture, with_rows}
+use Rattle.fv_plane.specs.Bytes.{decoded_rows, chroma_list, frame_of, rows_of_bytes}
+use Rattle.fv_plane.proofs.FrameLemmas.{whole_rows, frame_put, IsPicture-put, IsPicture-new}
+use Rattle.fv_plane.proofs.builder.FrameBuilder.put_rows.Goals as goal
+use Rattle.fv_plane.proofs.builder.FrameBuilder.put_rows.Goals.{After-put_rows_in}
+
+pub put_rows_in-requires-clause-whole : goal.put_rows_in-requires-clause-whole
+put_rows_in-requires-clause-whole c =
+    let p = c.self.inside in
+    whole_rows p.shape p.luma p.chroma c.args.self.now c.self.view_is c.self.invariant c.args.plane c.requires.plane c.args.y c.args.count c.args.rows.now c.requires.inside c.requires.whole
+
+-- the planes with the new rows
+planes_are : (c : After-put_rows_in) → map (decoded_rows c.self.inside.shape) (c.put_rows_in.new.luma ∷ chroma_list c.put_rows_in.new.chroma)
+    ≡ with_rows c.args.self.now.planes c.args.plane c.args.y (rows_of_bytes c.args.self.now.shape c.args.plane c.args.count c.args.rows.now)
+planes_are c =
+    let p = c.self.inside in
+    ap (map (decoded_rows p.shape)) c.put_rows_in.ensures
+    ∙ frame_put p.shape p.luma p.chroma c.args.self.now c.self.view_is c.self.invariant c.args.plane c.requires.plane c.args.y c.args.count c.args.rows.now c.requires.inside
+
+-- they are a picture
+written : (c : After-put_rows_in) → IsPicture (frame_of c.self.inside.shape c.put_rows_in.new.luma c.put_rows_in.new.chroma)
+written c =
+    let p = c.self.inside in
+    IsPicture-new p.shape p.luma p.chroma c.args.self.now c.self.view_is c.self.invariant c.args.plane c.requires.plane c.put_rows_in.new.luma c.put_rows_in.new.chroma _ (planes_are c)
+    (IsPicture-put p.shape p.luma p.chroma c.args.self.now c.self.view_is c.self.invariant c.args.plane c.requires.plane c.args.y c.args.count c.args.rows.now c.requires.inside c.requires.whole (λ k. omega (arith, c.type_inv.rows k)))
+
+pub invariant_of-self : goal.invariant_of-self
+invariant_of-self c = written c
+
+pub returns-clause-rows : goal.returns-clause-rows
+returns-clause-rows c = planes_are c
+
+pub returns-clause-sizes : goal.returns-clause-sizes
+returns-clause-sizes c = written c
