@@ -19,8 +19,8 @@ pub no_line : (bytes : List ℕ) → has_magic bytes ≡ true → position is_ne
 no_line bytes magic_is is = rw (magic_is, is) refl
 
 -- the first line is as long as the magic word
-behind_magic : (bytes : List ℕ) (end : ℕ) → has_magic bytes ≡ true → position is_newline (take 4096 bytes) ≡ Some end → 9 ≤ end
-behind_magic bytes end magic_is is =
+after_magic : (bytes : List ℕ) (end : ℕ) → has_magic bytes ≡ true → position is_newline (take 4096 bytes) ≡ Some end → 9 ≤ end
+after_magic bytes end magic_is is =
     let front : take 9 bytes ≡ magic = ap (λ (l : List ℕ). take 9 l) ((starts_is Decides-eqb bytes magic (starts_with nat_eq bytes magic) refl).0 (and_parts (starts_with nat_eq bytes magic) (is_break (slice_index bytes 9)) magic_is).0) in
     let at = line_found bytes end is in
     let size : position_or_len is_newline (take 9 bytes) ≡ 9 = ap (position_or_len is_newline) front in
@@ -30,7 +30,7 @@ behind_magic bytes end magic_is is =
 -- the line that was found
 pub is_line : (bytes : List ℕ) (end : ℕ) → has_magic bytes ≡ true → position is_newline (take 4096 bytes) ≡ Some end → IsLine bytes end
 is_line bytes end magic_is is =
-    let more = behind_magic bytes end magic_is is in
+    let more = after_magic bytes end magic_is is in
     let at = line_found bytes end is in
     let whole : end ≡ 9 + (end - 9) = omega (arith, more) in
     record {

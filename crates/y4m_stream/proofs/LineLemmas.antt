@@ -17,7 +17,8 @@ use Rattle.fv_plane.specs.declared.format.Field.{Field}
 use Rattle.fv_plane.specs.declared.format.Field.TheVariants.{Progressive, Top, Bottom, Unknown}
 use Rattle.fv_plane.specs.declared.format.Info.{Info}
 use Rattle.fv_plane.specs.Info.{IsLawful}
-use Rattle.y4m_stream.specs.Head.{magic, field_name, colour_name, ratio, written, head_line}
+use Rattle.y4m_stream.specs.Colourspace.{colourspace_name}
+use Rattle.y4m_stream.specs.Head.{magic, field_name, ratio, written, head_line}
 use Rattle.y4m_stream.specs.Stream.{is_space, is_newline}
 use Rattle.y4m_stream.proofs.NumberLemmas.{decimal_digits}
 
@@ -53,7 +54,7 @@ field_stays Top = refl
 field_stays Bottom = refl
 field_stays Unknown = refl
 
-colour_stays : (kind : PixelType) (tag : Tag) → IsWord (colour_name kind tag)
+colour_stays : (kind : PixelType) (tag : Tag) → IsWord (colourspace_name kind tag)
 colour_stays Y8 tag = refl
 colour_stays YV12 Jpeg = refl
 colour_stays YV12 Mpeg2 = refl

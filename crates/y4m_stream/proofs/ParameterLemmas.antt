@@ -17,7 +17,7 @@ copied_or : (one other : Option (Bor (List ℕ))) → option_copied (option_or o
 copied_or None other = refl
 copied_or (Some x) other = refl
 
--- one parameter more counts before the others
+-- a later parameter counts before the others
 last_value : (letter : ℕ) (parameters : List (List ℕ)) (last : List ℕ) → value letter (parameters ++ last ∷ []) ≡ option_or (value_in letter last) (value letter parameters)
 last_value letter [] last = sym (or_none (value_in letter last))
 last_value letter (parameter ∷ parameters) last =

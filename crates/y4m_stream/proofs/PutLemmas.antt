@@ -1,19 +1,23 @@
--- A piece more is put.
-use Rattle.std.proofs.Common.{◌≡◌, ℕ, ◌+◌, ◌<◌, List, ◌++◌, length, take, drop, get_or, Option, Result, Ok, Err, OnErr, sym, ◌∙◌, ap}
+-- Another piece is put.
+use Rattle.std.proofs.Common.{◌≡◌, ℕ, ◌+◌, ◌<◌, List, ◌++◌, length, take, drop, get_or, ◌*◌, ◌≤◌, arith, Option, Result, Ok, Err, OnErr, sym, ◌∙◌, ap}
 use Rattle.std.proofs.lemmas.List.{drop_more, take-append-drop, append-nil}
 use Rattle.std.proofs.Math.Seq.{take-add}
 use Rattle.std.specs.List.{flat_map}
 use Rattle.std.proofs.lemmas.List.Concat.{flat_map-append}
-use Rattle.fv_io.specs.Told.{with_piece, with_piece_twice, GetsPrefix, gets_after, gets_more}
+use Rattle.std.proofs.lemmas.Bool.Decides.{nat_tests}
+use Rattle.fv_plane.specs.declared.format.Shape.{Shape}
+use Rattle.fv_plane.specs.Format.{IsLegal, row_bytes, frame_bytes}
+use Rattle.fv_io.specs.Told.{with_piece, GetsPrefix}
+use Rattle.fv_io.proofs.CallerLemmas.{with_piece_twice, gets_after, gets_more}
 
 module _ {X : Type 0} (text : X → List ℕ) (xs : List X) (i n : ℕ) (old mid new : Option (List ℕ)) (before : mid ≡ with_piece old (flat_map text (take i xs))) where
-  -- the texts of n more are put
+  -- the texts of n others are put
   pub put_more : new ≡ with_piece mid (flat_map text (take n (drop i xs))) → new ≡ with_piece old (flat_map text (take (i + n) xs))
   put_more put =
       put ∙ ap (λ (o : Option (List ℕ)). with_piece o (flat_map text (take n (drop i xs)))) before ∙ with_piece_twice old (flat_map text (take i xs)) (flat_map text (take n (drop i xs)))
       ∙ ap (λ (l : List ℕ). with_piece old l) (sym (flat_map-append text (take i xs) (take n (drop i xs))) ∙ ap (λ (l : List X). flat_map text l) (sym (take-add i n xs)))
 
-  -- the texts of n more are cut short
+  -- the texts of n others are cut short
   pub put_cut : GetsPrefix mid new (flat_map text (take n (drop i xs))) → GetsPrefix old new (flat_map text xs)
   put_cut cut =
       let rest = drop n (drop i xs) in
@@ -25,6 +29,25 @@ module _ {X : Type 0} (text : X → List ℕ) (xs : List X) (i n : ℕ) (old mid
 -- the text of one is that of a list of one
 pub one_more : {X : Type 0} (text : X → List ℕ) (xs : List X) (i : ℕ) (d : X) → i < length xs → flat_map text (take 1 (drop i xs)) ≡ text (get_or xs i d)
 one_more {X = X} text xs i d within = ap (λ (l : List X). flat_map text (take 1 l)) (drop_more xs i d within) ∙ append-nil (text (get_or xs i d))
+
+-- another text after those before
+pub text_more : {X : Type 0} (text : X → List ℕ) (xs : List X) (i : ℕ) (d : X) → i < length xs → flat_map text (take (i + 1) xs) ≡ flat_map text (take i xs) ++ text (get_or xs i d)
+text_more {X = X} text xs i d within =
+    ap (λ (l : List X). flat_map text l) (take-add i 1 xs) ∙ flat_map-append text (take i xs) (take 1 (drop i xs)) ∙ ap (λ (l : List ℕ). flat_map text (take i xs) ++ l) (one_more text xs i d within)
+
+-- a row is no longer than the frame is wide
+row_width : (shape : Shape) (p : ℕ) → row_bytes shape p ≤ shape.width
+row_width shape p = grind (arith, nat_tests)
+
+wide : (w h : ℕ) → 0 < h → w ≤ w * h
+wide w h some = grind arith
+
+-- a row of a legal frame is no longer than 64 KiB, nor than the frame
+pub row_room : (shape : Shape) (p : ℕ) → IsLegal shape → row_bytes shape p ≤ 65536
+row_room shape p legal = let row = row_width shape p in let width = legal.most_width in omega arith
+
+pub row_inside : (shape : Shape) (p : ℕ) → IsLegal shape → row_bytes shape p ≤ frame_bytes shape
+row_inside shape p legal = let row = row_width shape p in let luma = wide shape.width shape.height legal.some_height in omega arith
 
 -- what holds of an answer that is no success
 pub on_err : {T E P : Type 0} (r : Result T E) → P → OnErr r P

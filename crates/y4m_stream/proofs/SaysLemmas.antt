@@ -1,13 +1,14 @@
 -- What the parameters say, and their first fault.
-use Rattle.std.proofs.Common.{◌≡◌, ℕ, ◌<◌, ◌≤◌, ◌%◌, ◌==◌, List, Some, None, true, false, inl, inr, nat_le, refl, eqb-true}
-use Rattle.std.proofs.lemmas.Bool.{and_parts, leb-true, lt-ltb, le-ltb, cases_lt}
+use Rattle.std.proofs.Common.{◌≡◌, ℕ, ◌<◌, ◌≤◌, List, Some, None, true, false, inl, inr, refl}
+use Rattle.std.proofs.lemmas.Bool.{lt-ltb, le-ltb, cases_lt}
 use Rattle.fv_plane.specs.declared.format.PixelType.{PixelType}
 use Rattle.fv_plane.specs.declared.format.Tag.{Tag}
 use Rattle.fv_plane.specs.declared.format.Shape.{Shape}
 use Rattle.fv_plane.specs.declared.format.Info.{Info}
-use Rattle.fv_plane.specs.Format.{IsLegal, frame_bytes, sub_w, sub_h}
+use Rattle.fv_plane.specs.Format.{IsLegal, frame_bytes, has_whole_sides}
 use Rattle.y4m_stream.specs.declared.fault.Y4mFault.TheVariants.{NoSize, BadNumber, UnknownColour, BadSize, TooLarge}
-use Rattle.y4m_stream.specs.Parameters.{value, number, rate, par, colour, field_of, has_good_sides, info_of, parameter_fault}
+use Rattle.fv_plane.proofs.CallerLemmas.{legal_by}
+use Rattle.y4m_stream.specs.Parameters.{value, number, rate, par, colour, field_of, info_of, parameter_fault}
 
 module _ (ps : List (List ℕ)) where
   pub no_width : value 87 ps ≡ None → parameter_fault ps ≡ Some NoSize
@@ -51,37 +52,20 @@ module _ (ps : List (List ℕ)) where
               unfolding info_of
               info_is = rw (has_w, has_h, is_x, is_y, is_r, is_p, is_k) refl
 
-              pub bad_sides : has_good_sides said.shape ≡ false → parameter_fault ps ≡ Some BadSize
+              pub bad_sides : has_whole_sides said.shape ≡ false → parameter_fault ps ≡ Some BadSize
               unfolding parameter_fault
               bad_sides is = rw (info_is, has_w, has_h, is_x, is_y, is_r, is_p, is_k, is) refl
 
-              pub too_large : has_good_sides said.shape ≡ true → 16777216 < frame_bytes said.shape → parameter_fault ps ≡ Some TooLarge
+              pub too_large : has_whole_sides said.shape ≡ true → 16777216 < frame_bytes said.shape → parameter_fault ps ≡ Some TooLarge
               unfolding parameter_fault
               too_large good large = rw (info_is, has_w, has_h, is_x, is_y, is_r, is_p, is_k, good, lt-ltb 16777216 (frame_bytes said.shape) large) refl
 
-              pub no_fault : has_good_sides said.shape ≡ true → frame_bytes said.shape ≤ 16777216 → parameter_fault ps ≡ None
+              pub no_fault : has_whole_sides said.shape ≡ true → frame_bytes said.shape ≤ 16777216 → parameter_fault ps ≡ None
               unfolding parameter_fault
               no_fault good small = rw (info_is, has_w, has_h, is_x, is_y, is_r, is_p, is_k, good, le-ltb 16777216 (frame_bytes said.shape) small) refl
 
-pub legal_by : (shape : Shape) → has_good_sides shape ≡ true → frame_bytes shape ≤ 16777216 → IsLegal shape
-legal_by shape good small =
-    let a = and_parts (nat_le 1 shape.width) _ good in
-    let b = and_parts (nat_le shape.width 65535) _ a.1 in
-    let c = and_parts (nat_le 1 shape.height) _ b.1 in
-    let d = and_parts (nat_le shape.height 65535) _ c.1 in
-    let e = and_parts (shape.width % sub_w shape.kind == 0) (shape.height % sub_h shape.kind == 0) d.1 in
-    record {
-      some_width = leb-true 1 shape.width a.0;
-      some_height = leb-true 1 shape.height c.0;
-      most_width = leb-true shape.width 65535 b.0;
-      most_height = leb-true shape.height 65535 d.0;
-      whole_width = eqb-true (shape.width % sub_w shape.kind) 0 e.0;
-      whole_height = eqb-true (shape.height % sub_h shape.kind) 0 e.1;
-      most_bytes = small;
-    }
-
 -- sides that are good and no legal shape: a frame is too large
-pub large_by : (shape : Shape) → has_good_sides shape ≡ true → (IsLegal shape → ⊥) → 16777216 < frame_bytes shape
+pub large_by : (shape : Shape) → has_whole_sides shape ≡ true → (IsLegal shape → ⊥) → 16777216 < frame_bytes shape
 large_by shape good illegal = elim (cases_lt 16777216 (frame_bytes shape)) [
   | inl large ↦ large
   | inr small ↦ absurd (illegal (legal_by shape good small))

@@ -1,4 +1,4 @@
--- Bytes that were read are the front of what is left, and enough of it to tell what stands first.
+-- Bytes that were read are the front of what is left, and enough of it to tell what comes first.
 use Rattle.std.proofs.Common.{◌≡◌, ℕ, ◌+◌, ◌<◌, ◌≤◌, List, [], ◌++◌, length, take, drop, Option, Some, None, is_some, codes, if◌then◌else◌, Bool, true, false, not, ◌&&◌, ◌||◌, nat_le, nat_eq, inl, inr, ◌⊎◌, refl, sym, ◌∙◌, ap, arith, slice_index}
 use Rattle.std.specs.Str.{bytes_eq}
 use Rattle.std.specs.List.{position, position_or_len, starts_with, slice_split}

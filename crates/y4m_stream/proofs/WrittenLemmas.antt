@@ -1,13 +1,13 @@
--- What is written for an info and its frames is a stream of them.
-use Rattle.std.proofs.Common.{◌≡◌, ◌⊎◌, ℕ, ◌+◌, ◌<◌, ◌^◌, List, [], ◌∷◌, ◌++◌, length, take, drop, Some, None, is_none, Bool, true, false, ◌&&◌, ◌||◌, ◌==◌, ◌%◌, ◌/◌, nat_le, inl, inr, refl, sym, ◌∙◌, ap, arith, codes, eq-eqb, rules}
+-- What is written for a clip is a stream of it.
+use Rattle.std.proofs.Common.{map, suc, ◌≡◌, ◌⊎◌, ℕ, ◌+◌, ◌<◌, ◌^◌, List, [], ◌∷◌, ◌++◌, length, take, drop, Some, None, is_none, Bool, true, false, ◌&&◌, ◌||◌, ◌/◌, nat_le, inl, inr, refl, sym, ◌∙◌, ap, arith, codes, rules}
 use Rattle.std.specs.List.{All, AllByRecursion, list_all, position, position_or_len, before_first, after_first, slice_split, join_with_byte}
 use Rattle.std.specs.Fmt.{decimal}
 use Rattle.std.specs.Char.{is_ascii_digit}
-use Rattle.std.proofs.lemmas.List.{append_assoc, length-append, length-take, take_at, drop_at, get_or_append_left, get_or_at}
+use Rattle.std.proofs.lemmas.List.{append_assoc, length-map, length-append, length-take, take_at, drop_at, get_or_append_left, get_or_at}
 use Rattle.std.proofs.lemmas.List.Elements.{All-nil, All-cons}
 use Rattle.std.proofs.lemmas.List.Sums.{position_or_len_is}
 use Rattle.std.proofs.lemmas.List.Splits.{slice_split-cons_yes}
-use Rattle.std.proofs.lemmas.Bool.{and_parts, and_from, le-leb, lt-ltb, le-ltb}
+use Rattle.std.proofs.lemmas.Bool.{and_parts, lt-ltb, le-ltb}
 use Rattle.std.proofs.Math.Nat.{div-one}
 use Rattle.fv_plane.specs.declared.format.PixelType.{PixelType}
 use Rattle.fv_plane.specs.declared.format.PixelType.TheVariants.{Y8, YV12, YV16, YV24, YV411}
@@ -15,14 +15,18 @@ use Rattle.fv_plane.specs.declared.format.Tag.{Tag}
 use Rattle.fv_plane.specs.declared.format.Tag.TheVariants.{Jpeg, Mpeg2, Paldv, Plain}
 use Rattle.fv_plane.specs.declared.format.Field.{Field}
 use Rattle.fv_plane.specs.declared.format.Field.TheVariants.{Progressive, Top, Bottom, Unknown}
-use Rattle.fv_plane.specs.declared.format.Shape.{Shape}
 use Rattle.fv_plane.specs.declared.format.Info.{Info}
-use Rattle.fv_plane.specs.Format.{IsLegal, frame_bytes, sub_w, sub_h}
+use Rattle.fv_plane.specs.Format.{frame_bytes}
 use Rattle.fv_plane.specs.Info.{IsRate, IsLawful}
-use Rattle.y4m_stream.specs.Head.{field_name, colour_name, ratio, written, head_line, head}
+use Rattle.y4m_stream.specs.Colourspace.{colourspace_name, colourspace_named}
+use Rattle.y4m_stream.specs.Head.{field_name, ratio, written, head_line, head}
+use Rattle.fv_plane.specs.Picture.{Picture}
+use Rattle.fv_plane.specs.Bytes.{bytes_of, picture_of}
+use Rattle.fv_plane.specs.Clip.{IsPictureOf}
+use Rattle.fv_plane.proofs.CallerLemmas.{length-bytes_of, picture_of-bytes_of, whole_sides}
 use Rattle.y4m_stream.specs.Laws.{WrittenIsStream}
-use Rattle.y4m_stream.specs.Parameters.{value, number, is_colon, ratio_in, rate_of, field_of, colour_named, has_good_sides, info_of, parameter_fault}
-use Rattle.y4m_stream.specs.Stream.{is_space, is_newline, has_magic, has_line, parameters, head_fault, head_info, size_of, body, may_begin, IsFrame, FramesThen, frames_text}
+use Rattle.y4m_stream.specs.Parameters.{value, number, is_colon, ratio_in, rate_of, field_of, info_of, parameter_fault}
+use Rattle.y4m_stream.specs.Stream.{is_space, is_newline, has_magic, has_line, parameters, head_fault, head_info, size_of, body, may_begin, IsFrame, FramesThen, ConsistsOf, frames_text}
 use Rattle.y4m_stream.proofs.GcdLemmas.{lowest_is}
 use Rattle.y4m_stream.proofs.LineLemmas.{written_words, split_words, head_is_line, line_ends}
 use Rattle.y4m_stream.proofs.NumberLemmas.{decimal_digits, number-decimal}
@@ -68,11 +72,11 @@ field_read Bottom = refl
 field_read Unknown = refl
 
 -- a format that has a name of its own
-named : (kind : PixelType) (tag : Tag) → colour_named (colour_name kind tag) ≡ Some (kind, Jpeg) → (tag ≡ Jpeg) ⊎ (kind ≡ YV12) → (kind ≡ YV12 → ⊥) → colour_named (colour_name kind tag) ≡ Some (kind, tag)
+named : (kind : PixelType) (tag : Tag) → colourspace_named (colourspace_name kind tag) ≡ Some (kind, Jpeg) → (tag ≡ Jpeg) ⊎ (kind ≡ YV12) → (kind ≡ YV12 → ⊥) → colourspace_named (colourspace_name kind tag) ≡ Some (kind, tag)
 named kind tag is (inl jpeg) other = is ∙ ap (λ (t : Tag). Some (kind, t)) (sym jpeg)
 named kind tag is (inr yv12) other = absurd (other yv12)
 
-colour_read : (kind : PixelType) (tag : Tag) → (tag ≡ Jpeg) ⊎ (kind ≡ YV12) → colour_named (colour_name kind tag) ≡ Some (kind, tag)
+colour_read : (kind : PixelType) (tag : Tag) → (tag ≡ Jpeg) ⊎ (kind ≡ YV12) → colourspace_named (colourspace_name kind tag) ≡ Some (kind, tag)
 colour_read Y8 tag own = named Y8 tag refl own (λ is. let no : ⊥ = cc in no)
 colour_read YV12 Jpeg own = refl
 colour_read YV12 Mpeg2 own = refl
@@ -81,12 +85,6 @@ colour_read YV12 Plain own = refl
 colour_read YV16 tag own = named YV16 tag refl own (λ is. let no : ⊥ = cc in no)
 colour_read YV24 tag own = named YV24 tag refl own (λ is. let no : ⊥ = cc in no)
 colour_read YV411 tag own = named YV411 tag refl own (λ is. let no : ⊥ = cc in no)
-
-good_sides : (shape : Shape) → IsLegal shape → has_good_sides shape ≡ true
-good_sides shape legal =
-    and_from (nat_le 1 shape.width) _ (le-leb 1 shape.width legal.some_width) (and_from (nat_le shape.width 65535) _ (le-leb shape.width 65535 legal.most_width)
-    (and_from (nat_le 1 shape.height) _ (le-leb 1 shape.height legal.some_height) (and_from (nat_le shape.height 65535) _ (le-leb shape.height 65535 legal.most_height)
-    (and_from (shape.width % sub_w shape.kind == 0) (shape.height % sub_h shape.kind == 0) (eq-eqb (shape.width % sub_w shape.kind) 0 legal.whole_width) (eq-eqb (shape.height % sub_h shape.kind) 0 legal.whole_height)))))
 
 -- a line that is short enough is found
 line_early : (bytes : List ℕ) → position_or_len is_newline bytes < 4096 → position_or_len is_newline bytes < length bytes → has_line bytes ≡ true
@@ -118,13 +116,13 @@ module _ (info : Info) (rest : List ℕ) (lawful : IsLawful info) (own : (info.t
   unfolding head_line
   magic_first = refl
 
-  behind_magic : drop 9 (head_line info) ≡ 32 ∷ join_with_byte 32 (written info)
+  after_magic : drop 9 (head_line info) ≡ 32 ∷ join_with_byte 32 (written info)
   unfolding head_line
-  behind_magic = refl
+  after_magic = refl
 
   words : parameters bytes ≡ [] ∷ written info
   words =
-      ap (λ (l : List ℕ). slice_split is_space (drop 9 l)) line ∙ ap (slice_split is_space) behind_magic ∙ slice_split-cons_yes is_space 32 (join_with_byte 32 (written info)) refl
+      ap (λ (l : List ℕ). slice_split is_space (drop 9 l)) line ∙ ap (slice_split is_space) after_magic ∙ slice_split-cons_yes is_space 32 (join_with_byte 32 (written info)) refl
       ∙ ap (λ (l : List (List ℕ)). [] ∷ l) (split_words _ _ (written_words info lawful))
 
   abbrev ps : List (List ℕ)
@@ -156,7 +154,7 @@ module _ (info : Info) (rest : List ℕ) (lawful : IsLawful info) (own : (info.t
   no_fault_said : parameter_fault ps ≡ None
   no_fault_said =
       no_fault ps (decimal info.shape.width) (decimal info.shape.height) has_w has_h info.shape.width wide info.shape.height high (info.num, info.den) rate_is (info.par.num, info.par.den) par_is (info.shape.kind, info.tag) (colour_read info.shape.kind info.tag own)
-      (good_sides info.shape lawful.shape) lawful.shape.most_bytes
+      (whole_sides info.shape lawful.shape) lawful.shape.most_bytes
 
   pub sound : head_fault bytes ≡ None
   sound =
@@ -174,38 +172,39 @@ and_false : (b : Bool) → (b && false) ≡ false
 and_false true = refl
 and_false false = refl
 
--- a frame that is written stands first
-module _ (size : ℕ) (samples rest : List ℕ) (whole : length samples ≡ size) where
+-- a frame that is written comes first
+module _ (size : ℕ) (content rest : List ℕ) (whole : length content ≡ size) where
   abbrev text : List ℕ
-  text = codes "FRAME\n" ++ (samples ++ rest)
+  text = codes "FRAME\n" ++ (content ++ rest)
 
   newline_at : position_or_len is_newline text ≡ 5
   newline_at = refl
 
-  long : length text ≡ 6 + length samples + length rest
-  long = omega (arith, length-append samples rest)
+  long : length text ≡ 6 + length content + length rest
+  long = omega (arith, length-append content rest)
 
   begins : may_begin text ≡ true
   begins = or_true (nat_le (length text) 5)
 
-  behind : after_first is_newline text ≡ samples ++ rest
-  behind = refl
+  after : after_first is_newline text ≡ content ++ rest
+  after = refl
 
-  pub is_frame : IsFrame size text samples rest
+  pub is_frame : IsFrame size text content rest
   is_frame = record {
     good = rw (begins, line_early text (omega (arith, newline_at)) (omega (arith, newline_at, long))) (and_false (nat_le 4096 (length text)));
-    whole = rw (found text (omega (arith, newline_at, long)), le-ltb (length (after_first is_newline text)) size (omega (arith, ap length behind, length-append samples rest, whole))) refl;
-    samples_are = sym (take_at samples rest size whole);
-    rest_is = sym (drop_at samples rest size whole);
+    whole = rw (found text (omega (arith, newline_at, long)), le-ltb (length (after_first is_newline text)) size (omega (arith, ap length after, length-append content rest, whole))) refl;
+    frame_is = sym (take_at content rest size whole);
+    rest_is = sym (drop_at content rest size whole);
   }
 
-are_frames : (size : ℕ) (frames : List (List ℕ)) → AllByRecursion (λ samples. length samples ≡ size) frames → FramesThen size (frames_text frames) frames []
+are_frames : (size : ℕ) (frames : List (List ℕ)) → AllByRecursion (λ content. length content ≡ size) frames → FramesThen size (frames_text frames) frames []
 are_frames size [] sizes = refl
-are_frames size (samples ∷ frames) sizes =
-    (frames_text frames, rw (append_assoc (codes "FRAME\n") samples (frames_text frames)) (is_frame size samples (frames_text frames) sizes.0), are_frames size frames sizes.1)
+are_frames size (content ∷ frames) sizes =
+    (frames_text frames, rw (append_assoc (codes "FRAME\n") content (frames_text frames)) (is_frame size content (frames_text frames) sizes.0), are_frames size frames sizes.1)
 
-pub written_is_stream : WrittenIsStream
-written_is_stream info frames lawful own count sizes =
+written_consists : (info : Info) (frames : List (List ℕ)) → IsLawful info → (info.tag ≡ Jpeg) ⊎ (info.shape.kind ≡ YV12) → length frames ≡ info.frames → AllByRecursion (λ frame. length frame ≡ frame_bytes info.shape) frames
+    → ConsistsOf (head info ++ frames_text frames) info frames
+written_consists info frames lawful own count sizes =
     let rest : List ℕ = frames_text frames in
     let said : info ≡ head_info (head info ++ rest) (length frames) = ap (λ n. record info { frames = n }) (sym count) ∙ info_said info rest lawful own (length frames) in
     let size_is : frame_bytes info.shape ≡ size_of (head info ++ rest) = ap (λ (i : Info). frame_bytes i.shape) said in
@@ -216,3 +215,24 @@ written_is_stream info frames lawful own count sizes =
       some = (let some = lawful.some in omega arith);
       most = (let most = lawful.most in omega arith);
     }
+
+sizes_of : (info : Info) (pictures : List Picture) → All (IsPictureOf info) pictures → AllByRecursion (λ frame. length frame ≡ frame_bytes info.shape) (map bytes_of pictures)
+sizes_of info [] all = tt
+sizes_of info (picture ∷ pictures) all =
+    let first = all 0 picture (omega arith) in
+    (length-bytes_of picture first.whole ∙ ap frame_bytes first.shape, sizes_of info pictures (λ k d inside. all (suc k) d (omega arith)))
+
+pictures_again : (info : Info) (pictures : List Picture) → All (IsPictureOf info) pictures → pictures ≡ map (picture_of info.shape) (map bytes_of pictures)
+pictures_again info [] all = refl
+pictures_again info (picture ∷ pictures) all =
+    let first = all 0 picture (omega arith) in
+    let again : picture ≡ picture_of info.shape (bytes_of picture) = sym (ap (λ shape. picture_of shape (bytes_of picture)) (sym first.shape) ∙ picture_of-bytes_of picture first.whole) in
+    let later = pictures_again info pictures (λ k d inside. all (suc k) d (omega arith)) in
+    ap (λ p. p ∷ pictures) again ∙ ap (λ (l : List Picture). picture_of info.shape (bytes_of picture) ∷ l) later
+
+pub written_is_stream : WrittenIsStream
+written_is_stream clip is own = record {
+  frames = map bytes_of clip.pictures;
+  consists = written_consists clip.info (map bytes_of clip.pictures) is.info own (length-map clip.pictures bytes_of ∙ is.count) (sizes_of clip.info clip.pictures is.pictures);
+  pictures_are = pictures_again clip.info clip.pictures is.pictures;
+}

@@ -1,14 +1,11 @@
--- The head of a stream as it is written: the word YUV4MPEG2, and parameters behind a space each (yuv4mpeg(5) of mjpegtools).
+-- The head of a stream as it is written: the word YUV4MPEG2, and parameters, each after a space (yuv4mpeg(5) of mjpegtools).
 use Rattle.std.specs.Prelude.{ℕ, List, [], ◌∷◌, ◌++◌, codes}
 use Rattle.std.specs.List.{join_with_byte}
 use Rattle.std.specs.Fmt.{decimal}
-use Rattle.fv_plane.specs.declared.format.PixelType.{PixelType}
-use Rattle.fv_plane.specs.declared.format.PixelType.TheVariants.{Y8, YV12, YV16, YV24, YV411}
 use Rattle.fv_plane.specs.declared.format.Field.{Field}
 use Rattle.fv_plane.specs.declared.format.Field.TheVariants.{Progressive, Top, Bottom, Unknown}
-use Rattle.fv_plane.specs.declared.format.Tag.{Tag}
-use Rattle.fv_plane.specs.declared.format.Tag.TheVariants.{Jpeg, Mpeg2, Paldv, Plain}
 use Rattle.fv_plane.specs.declared.format.Info.{Info}
+use Rattle.y4m_stream.specs.Colourspace.{colourspace_name}
 
 abbrev pub magic : List ℕ
 magic = codes "YUV4MPEG2"
@@ -19,19 +16,6 @@ field_name Top = codes "t"
 field_name Bottom = codes "b"
 field_name Unknown = codes "?"
 
-abbrev pub tag_name : Tag → List ℕ
-tag_name Jpeg = codes "420jpeg"
-tag_name Mpeg2 = codes "420mpeg2"
-tag_name Paldv = codes "420paldv"
-tag_name Plain = codes "420"
-
-abbrev pub colour_name : PixelType → Tag → List ℕ
-colour_name Y8 tag = codes "mono"
-colour_name YV12 tag = tag_name tag
-colour_name YV16 tag = codes "422"
-colour_name YV24 tag = codes "444"
-colour_name YV411 tag = codes "411"
-
 -- two numbers around a colon
 abbrev pub ratio : ℕ → ℕ → List ℕ
 ratio num den = decimal num ++ (codes ":" ++ decimal den)
@@ -40,7 +24,7 @@ ratio num den = decimal num ++ (codes ":" ++ decimal den)
 abbrev pub written : Info → List (List ℕ)
 written info =
     (codes "W" ++ decimal info.shape.width) ∷ (codes "H" ++ decimal info.shape.height) ∷ (codes "F" ++ ratio info.num info.den)
-    ∷ (codes "I" ++ field_name info.field) ∷ (codes "A" ++ ratio info.par.num info.par.den) ∷ (codes "C" ++ colour_name info.shape.kind info.tag) ∷ []
+    ∷ (codes "I" ++ field_name info.field) ∷ (codes "A" ++ ratio info.par.num info.par.den) ∷ (codes "C" ++ colourspace_name info.shape.kind info.tag) ∷ []
 
 -- the head without its newline
 unfoldable pub head_line : Info → List ℕ

@@ -4,15 +4,14 @@ use Rattle.std.specs.List.{list_all, before_first, after_first}
 use Rattle.std.specs.Option.{option_or, option_zip, option_and_then}
 use Rattle.std.specs.Char.{is_ascii_digit}
 use Rattle.std.specs.Str.{byte, bytes_eq}
-use Rattle.fv_plane.specs.declared.format.PixelType.{PixelType}
-use Rattle.fv_plane.specs.declared.format.PixelType.TheVariants.{Y8, YV12, YV16, YV24, YV411}
+use Rattle.fv_plane.specs.declared.format.PixelType.TheVariants.{YV12}
 use Rattle.fv_plane.specs.declared.format.Field.{Field}
 use Rattle.fv_plane.specs.declared.format.Field.TheVariants.{Progressive, Top, Bottom, Unknown}
-use Rattle.fv_plane.specs.declared.format.Tag.{Tag}
-use Rattle.fv_plane.specs.declared.format.Tag.TheVariants.{Jpeg, Mpeg2, Paldv, Plain}
-use Rattle.fv_plane.specs.declared.format.Shape.{Shape}
+use Rattle.fv_plane.specs.declared.format.Tag.TheVariants.{Jpeg}
 use Rattle.fv_plane.specs.declared.format.Info.{Info}
-use Rattle.fv_plane.specs.Format.{sub_w, sub_h, frame_bytes}
+use Rattle.fv_plane.specs.Format.{has_whole_sides, frame_bytes}
+use Rattle.fv_plane.specs.Refusals.{Refusals, first_fault}
+use Rattle.y4m_stream.specs.Colourspace.{Colourspace, colourspace_named}
 use Rattle.y4m_stream.specs.declared.fault.Y4mFault.{Y4mFault}
 use Rattle.y4m_stream.specs.declared.fault.Y4mFault.TheVariants.{NoSize, BadNumber, UnknownColour, BadSize, TooLarge}
 
@@ -26,17 +25,17 @@ abbrev pub value : ℕ → List (List ℕ) → Option (List ℕ)
 value letter [] = None
 value letter (parameter ∷ later) = option_or (value letter later) (value_in letter parameter)
 
--- the number that decimal digits write, behind those of n
-abbrev pub digits_behind : ℕ → List ℕ → ℕ
-digits_behind n [] = n
-digits_behind n (digit ∷ digits) = digits_behind (10 * n + (digit - 48)) digits
+-- the number that decimal digits write, after those of n
+abbrev pub digits_after : ℕ → List ℕ → ℕ
+digits_after n [] = n
+digits_after n (digit ∷ digits) = digits_after (10 * n + (digit - 48)) digits
 
 -- 1 to 10 decimal digits that write at most 2147483647
 abbrev pub is_number : List ℕ → Bool
-is_number text = list_all is_ascii_digit text && (nat_le 1 (length text) && (nat_le (length text) 10 && nat_lt (digits_behind 0 text) (2 ^ 31)))
+is_number text = list_all is_ascii_digit text && (nat_le 1 (length text) && (nat_le (length text) 10 && nat_lt (digits_after 0 text) (2 ^ 31)))
 
 abbrev pub number : List ℕ → Option ℕ
-number text = if is_number text then Some (digits_behind 0 text) else None
+number text = if is_number text then Some (digits_after 0 text) else None
 
 abbrev pub is_colon : ℕ → Bool
 is_colon byte = byte == 58
@@ -53,7 +52,7 @@ common_divisor num den (suc n) = if num % suc n == 0 && den % suc n == 0 then su
 unfoldable pub gcd : ℕ → ℕ → ℕ
 gcd num den = common_divisor num den num
 
--- a rate in lowest terms: 0:0 stands for 25:1, and no other part may be 0
+-- a rate in lowest terms: 0:0 means 25:1, and no other part may be 0
 abbrev pub lowest : ℕ × ℕ → Option (ℕ × ℕ)
 lowest (num, den) =
     if num == 0 && den == 0 then Some (25, 1)
@@ -64,7 +63,7 @@ abbrev pub rate_of : Option (List ℕ) → Option (ℕ × ℕ)
 rate_of None = Some (25, 1)
 rate_of (Some text) = option_and_then lowest (ratio_in text)
 
--- the shape of a pixel, kept as it stands
+-- the shape of a pixel, kept as it is given
 abbrev pub par_of : Option (List ℕ) → Option (ℕ × ℕ)
 par_of None = Some (0, 0)
 par_of (Some text) = ratio_in text
@@ -77,21 +76,9 @@ field_of (Some text) =
     else (if bytes_eq text (codes "b") then Bottom
     else Unknown))
 
-abbrev pub colour_named : List ℕ → Option (PixelType × Tag)
-colour_named name =
-    if bytes_eq name (codes "420jpeg") then Some (YV12, Jpeg)
-    else (if bytes_eq name (codes "420mpeg2") then Some (YV12, Mpeg2)
-    else (if bytes_eq name (codes "420paldv") then Some (YV12, Paldv)
-    else (if bytes_eq name (codes "420") then Some (YV12, Plain)
-    else (if bytes_eq name (codes "422") then Some (YV16, Jpeg)
-    else (if bytes_eq name (codes "444") then Some (YV24, Jpeg)
-    else (if bytes_eq name (codes "411") then Some (YV411, Jpeg)
-    else (if bytes_eq name (codes "mono") then Some (Y8, Jpeg)
-    else None)))))))
-
-abbrev pub colour_of : Option (List ℕ) → Option (PixelType × Tag)
+abbrev pub colour_of : Option (List ℕ) → Option Colourspace
 colour_of None = Some (YV12, Jpeg)
-colour_of (Some name) = colour_named name
+colour_of (Some name) = colourspace_named name
 
 module _ (parameters : List (List ℕ)) where
   abbrev pub width : Option ℕ
@@ -106,7 +93,7 @@ module _ (parameters : List (List ℕ)) where
   abbrev pub par : Option (ℕ × ℕ)
   par = par_of (value (byte "A") parameters)
 
-  abbrev pub colour : Option (PixelType × Tag)
+  abbrev pub colour : Option Colourspace
   colour = colour_of (value (byte "C") parameters)
 
   -- what they say, where they have no fault; no frames are counted
@@ -121,21 +108,19 @@ module _ (parameters : List (List ℕ)) where
     tag = (unwrap_or colour (YV12, Jpeg)).1;
   }
 
--- the sides are from 1 to 65,535, and whole chroma samples cover them
-abbrev pub has_good_sides : Shape → Bool
-has_good_sides shape =
-    nat_le 1 shape.width && (nat_le shape.width 65535 && (nat_le 1 shape.height && (nat_le shape.height 65535
-    && (shape.width % sub_w shape.kind == 0 && shape.height % sub_h shape.kind == 0))))
+-- what may be wrong with the parameters, in the order in which it is told
+abbrev pub parameter_refusals : List (List ℕ) → Refusals Y4mFault
+parameter_refusals parameters =
+    (NoSize, is_none (value (byte "W") parameters) || is_none (value (byte "H") parameters))
+    ∷ (BadNumber (byte "W"), is_none (width parameters))
+    ∷ (BadNumber (byte "H"), is_none (height parameters))
+    ∷ (BadNumber (byte "F"), is_none (rate parameters))
+    ∷ (BadNumber (byte "A"), is_none (par parameters))
+    ∷ (UnknownColour, is_none (colour parameters))
+    ∷ (BadSize, not (has_whole_sides (info_of parameters).shape))
+    ∷ (TooLarge, nat_lt 16777216 (frame_bytes (info_of parameters).shape))
+    ∷ []
 
 -- the first fault of the parameters
 unfoldable pub parameter_fault : List (List ℕ) → Option Y4mFault
-parameter_fault parameters =
-    if is_none (value (byte "W") parameters) || is_none (value (byte "H") parameters) then Some NoSize
-    else (if is_none (width parameters) then Some (BadNumber (byte "W"))
-    else (if is_none (height parameters) then Some (BadNumber (byte "H"))
-    else (if is_none (rate parameters) then Some (BadNumber (byte "F"))
-    else (if is_none (par parameters) then Some (BadNumber (byte "A"))
-    else (if is_none (colour parameters) then Some UnknownColour
-    else (if not (has_good_sides (info_of parameters).shape) then Some BadSize
-    else (if nat_lt 16777216 (frame_bytes (info_of parameters).shape) then Some TooLarge
-    else None)))))))
+parameter_fault parameters = first_fault (parameter_refusals parameters)

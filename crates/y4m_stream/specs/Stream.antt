@@ -1,9 +1,11 @@
--- YUV4MPEG2 streams: which info and frames the bytes of a file are, and what is wrong with bytes that are no stream
--- (yuv4mpeg(5) of mjpegtools). A frame is the list of its samples here, plane after plane and row by row.
-use Rattle.std.specs.Prelude.{◌≡◌, ◌⊎◌, ℕ, ◌≤◌, ◌<◌, nat_eq, nat_le, nat_lt, List, [], ◌∷◌, ◌++◌, length, take, drop, codes, Option, Some, None, is_some, is_none, Bool, false, ◌==◌, not, ◌&&◌, ◌||◌, if◌then◌else◌, slice_index}
+-- YUV4MPEG2 streams: which clip the bytes of a file are, and what is wrong with bytes that are no stream (yuv4mpeg(5) of
+-- mjpegtools). A frame is a list of bytes here, plane after plane and row by row; the clip has its picture.
+use Rattle.std.specs.Prelude.{◌≡◌, ◌⊎◌, ℕ, ◌≤◌, ◌<◌, nat_eq, nat_le, nat_lt, List, [], ◌∷◌, ◌++◌, length, take, drop, codes, Option, Some, None, is_some, is_none, Bool, false, ◌==◌, not, ◌&&◌, ◌||◌, if◌then◌else◌, slice_index, map}
 use Rattle.std.specs.List.{flat_map, position, starts_with, slice_split, before_first, after_first}
 use Rattle.fv_plane.specs.declared.format.Info.{Info}
 use Rattle.fv_plane.specs.Format.{frame_bytes}
+use Rattle.fv_plane.specs.Bytes.{bytes_of, picture_of}
+use Rattle.fv_plane.specs.Clip.{Clip}
 use Rattle.y4m_stream.specs.declared.fault.Y4mFault.{Y4mFault}
 use Rattle.y4m_stream.specs.declared.fault.Y4mFault.TheVariants.{NotY4m, HeadTooLong, NoFrames, TooManyFrames, BadFrame, Truncated}
 use Rattle.y4m_stream.specs.Head.{magic, head}
@@ -37,11 +39,11 @@ head_fault bytes =
     else (if not (has_line bytes) then Some HeadTooLong
     else parameter_fault (parameters bytes))
 
--- the info of the head, with so many frames
+-- the info of the head, with this number of frames
 abbrev pub head_info : List ℕ → ℕ → Info
 head_info bytes frames = record (info_of (parameters bytes)) { frames = frames }
 
--- as far as there are so many bytes, the first five are FRAME and the next is a space or a newline
+-- as far as they go, the first five bytes are FRAME and the next is a space or a newline
 abbrev pub may_begin : List ℕ → Bool
 may_begin left = starts_with nat_eq (codes "FRAME") (take 5 left) && (nat_le (length left) 5 || is_break (slice_index left 5))
 
@@ -53,62 +55,68 @@ is_bad left = not (may_begin left) || (nat_le 4096 (length left) && not (has_lin
 abbrev pub is_cut : ℕ → List ℕ → Bool
 is_cut size left = is_none (position is_newline left) || nat_lt (length (after_first is_newline left)) size
 
--- what is wrong where a frame should begin behind so many others
-abbrev pub fault_behind : ℕ → ℕ → List ℕ → Option Y4mFault
-fault_behind size k [] = if k == 0 then Some NoFrames else None
-fault_behind size k (byte ∷ left) =
+-- what is wrong where a frame should begin after k others
+abbrev pub fault_after : ℕ → ℕ → List ℕ → Option Y4mFault
+fault_after size k [] = if k == 0 then Some NoFrames else None
+fault_after size k (byte ∷ left) =
     if k == 1000000 then Some TooManyFrames
     else (if is_bad (byte ∷ left) then Some (BadFrame k)
     else (if is_cut size (byte ∷ left) then Some (Truncated k)
     else None))
 
--- a frame: a head that ends at the first newline, its samples, and then the rest
-pub record IsFrame (size : ℕ) (text samples rest : List ℕ) : Type 0 where
+-- a frame: a head that ends at the first newline, its bytes, and then the rest
+pub record IsFrame (size : ℕ) (text frame rest : List ℕ) : Type 0 where
   pub good : is_bad text ≡ false
   pub whole : is_cut size text ≡ false
-  pub samples_are : samples ≡ take size (after_first is_newline text)
+  pub frame_is : frame ≡ take size (after_first is_newline text)
   pub rest_is : rest ≡ drop size (after_first is_newline text)
 
 -- these frames, one after the other, and then the rest
 abbrev pub FramesThen : ℕ → List ℕ → List (List ℕ) → List ℕ → Type 0
 FramesThen size text [] rest = rest ≡ text
-FramesThen size text (samples ∷ frames) rest = (behind : List ℕ) × IsFrame size text samples behind × FramesThen size behind frames rest
+FramesThen size text (frame ∷ frames) rest = (after : List ℕ) × IsFrame size text frame after × FramesThen size after frames rest
 
--- the samples of a frame of this head, in bytes
+-- the bytes of a frame of this head
 abbrev pub size_of : List ℕ → ℕ
 size_of bytes = frame_bytes (info_of (parameters bytes)).shape
 
--- what stands behind the head
+-- what comes after the head
 abbrev pub body : List ℕ → List ℕ
 body bytes = after_first is_newline bytes
 
--- the bytes are a stream of this info and these frames
-pub record Stream (bytes : List ℕ) (info : Info) (frames : List (List ℕ)) : Type 0 where
+-- the bytes are a head of this info, and these frames
+pub record ConsistsOf (bytes : List ℕ) (info : Info) (frames : List (List ℕ)) : Type 0 where
   pub head : head_fault bytes ≡ None
   pub info_is : info ≡ head_info bytes (length frames)
   pub frames_are : FramesThen (size_of bytes) (body bytes) frames []
   pub some : 0 < length frames
   pub most : length frames ≤ 1000000
 
--- behind so many whole frames this is wrong
+-- the bytes are a stream of this clip: a head of its info, and frames that are its pictures
+pub record Stream (bytes : List ℕ) (clip : Clip) : Type 0 where
+  pub frames : List (List ℕ)
+  pub consists : ConsistsOf bytes clip.info frames
+  pub pictures_are : clip.pictures ≡ map (picture_of clip.info.shape) frames
+
+-- after these whole frames this is wrong
 pub record BreaksBy (size : ℕ) (text : List ℕ) (fault : Y4mFault) : Type 0 where
   pub frames : List (List ℕ)
   pub rest : List ℕ
   pub before : FramesThen size text frames rest
   pub most : length frames ≤ 1000000
-  pub fault_is : fault_behind size (length frames) rest ≡ Some fault
+  pub fault_is : fault_after size (length frames) rest ≡ Some fault
 
--- the first fault of bytes that are no stream: one of the head, or else the first behind it
+-- the first fault of bytes that are no stream: one of the head, or else the first after it
 abbrev pub HasFault : List ℕ → Y4mFault → Type 0
 HasFault bytes fault = (head_fault bytes ≡ Some fault) ⊎ ((head_fault bytes ≡ None) × BreaksBy (size_of bytes) (body bytes) fault)
 
 -- how a frame is written
 abbrev pub frame_text : List ℕ → List ℕ
-frame_text samples = codes "FRAME\n" ++ samples
+frame_text frame = codes "FRAME\n" ++ frame
 
 abbrev pub frames_text : List (List ℕ) → List ℕ
 frames_text frames = flat_map frame_text frames
 
--- how a stream is written
-abbrev pub stream : Info → List (List ℕ) → List ℕ
-stream info frames = head info ++ frames_text frames
+-- how a clip is written
+abbrev pub stream : Clip → List ℕ
+stream clip = head clip.info ++ frames_text (map bytes_of clip.pictures)

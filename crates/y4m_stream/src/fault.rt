@@ -1,8 +1,11 @@
-// Why a stream is not read.
+// Faults of a stream.
+use fv_io::Failed;
+use std::alloc::{AllocError, AllocFailed};
 use thiserror::Error;
 
 /// What is wrong with a stream: the first fault of its head, in the order of the variants, or else the first in its
-/// frames, which are counted from 0.
+/// frames, which are counted from 0. The format is that of yuv4mpeg(5) of mjpegtools. The limits on lengths, numbers and
+/// counts are this crate's own.
 #[derive(Clone, Copy, Debug, PartialEq, Eq, Error)]
 pub enum Y4mFault {
     /// It doesn't begin with `YUV4MPEG2` and a space or a newline.
@@ -14,7 +17,7 @@ pub enum Y4mFault {
     /// The head has no width or no height.
     #[error("the head of the stream gives no width or no height")]
     NoSize,
-    /// The value of this parameter is no number, or no two numbers, within its bounds.
+    /// The value of this parameter is no number, or no pair of numbers, within its bounds.
     #[error("the parameter {0} of the stream's head is no number within its bounds")]
     BadNumber(char),
     /// The chroma has a format that isn't known here.
@@ -26,10 +29,10 @@ pub enum Y4mFault {
     /// A frame has more than 16,777,216 bytes.
     #[error("a frame of the stream has more than 16777216 bytes")]
     TooLarge,
-    /// No frame stands behind the head.
+    /// No frame comes after the head.
     #[error("the stream has no frames")]
     NoFrames,
-    /// More than 1,000,000 frames stand behind the head.
+    /// More than 1,000,000 frames come after the head.
     #[error("the stream has more than 1000000 frames")]
     TooManyFrames,
     /// The bytes where this frame should begin aren't the head of a frame.
@@ -40,6 +43,30 @@ pub enum Y4mFault {
     Truncated(u32),
 }
 
+impl Y4mFault {
+    ghost use Rattle.std.specs.Prelude.{◌≡◌};
+    ghost use Rattle.y4m_stream.specs.FaultNames.{fault_name};
+
+    /// The name of the fault as it is printed, without its letter or number.
+    pub fn name(self) -> &'static str
+        ensures { result.now ≡ fault_name self }
+    {
+        match self {
+            Y4mFault::NotY4m => "NotY4m",
+            Y4mFault::HeadTooLong => "HeadTooLong",
+            Y4mFault::NoSize => "NoSize",
+            Y4mFault::BadNumber(_) => "BadNumber",
+            Y4mFault::UnknownColour => "UnknownColour",
+            Y4mFault::BadSize => "BadSize",
+            Y4mFault::TooLarge => "TooLarge",
+            Y4mFault::NoFrames => "NoFrames",
+            Y4mFault::TooManyFrames => "TooManyFrames",
+            Y4mFault::BadFrame(_) => "BadFrame",
+            Y4mFault::Truncated(_) => "Truncated",
+        }
+    }
+}
+
 /// Why a stream has no index.
 #[derive(Clone, Copy, Debug, PartialEq, Eq)]
 pub enum IndexFault {
@@ -47,6 +74,50 @@ pub enum IndexFault {
     Y4m(Y4mFault),
     /// The source failed.
     Read,
-    /// No memory was found.
+    /// Out of memory.
     Memory,
+}
+
+impl From<Y4mFault> for IndexFault {
+    ghost use Rattle.std.specs.Prelude.{◌≡◌};
+    ghost use Rattle.y4m_stream.specs.declared.fault.IndexFault.TheVariants.{Y4m};
+
+    ghost from_gives = { λ fault index_fault. index_fault ≡ Y4m fault };
+
+    fn from(fault: Y4mFault) -> IndexFault {
+        IndexFault::Y4m(fault)
+    }
+}
+
+impl From<Failed> for IndexFault {
+    ghost use Rattle.std.specs.Prelude.{◌≡◌};
+    ghost use Rattle.y4m_stream.specs.declared.fault.IndexFault.TheVariants.{Read};
+
+    ghost from_gives = { λ _ fault. fault ≡ Read };
+
+    fn from(_: Failed) -> IndexFault {
+        IndexFault::Read
+    }
+}
+
+impl From<AllocError> for IndexFault {
+    ghost use Rattle.std.specs.Prelude.{◌≡◌};
+    ghost use Rattle.y4m_stream.specs.declared.fault.IndexFault.TheVariants.{Memory};
+
+    ghost from_gives = { λ _ fault. fault ≡ Memory };
+
+    fn from(_: AllocError) -> IndexFault {
+        IndexFault::Memory
+    }
+}
+
+impl<T: Drop> From<AllocFailed<T>> for IndexFault {
+    ghost use Rattle.std.specs.Prelude.{◌≡◌};
+    ghost use Rattle.y4m_stream.specs.declared.fault.IndexFault.TheVariants.{Memory};
+
+    ghost from_gives = { λ _ fault. fault ≡ Memory };
+
+    fn from(_: AllocFailed<T>) -> IndexFault {
+        IndexFault::Memory
+    }
 }

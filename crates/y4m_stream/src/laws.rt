@@ -1,13 +1,13 @@
-// Laws of the definitions, each the contract of a function with nothing to do.
+// Laws of the definitions, each the contract of a function with an empty body.
 ghost use Rattle.y4m_stream.specs.Laws.{ReadsOneWay, WrittenIsStream};
 
-/// Bytes have either a fault, or one info and one list of frames.
+/// Bytes have either one fault, or are the stream of one clip.
 pub fn bytes_read_one_way()
     ensures { ReadsOneWay }
 {}
 
-/// What is written for an info and its frames is a stream of them. The info is one whose tag is `Jpeg` or whose format
-/// is YV12: any other tag is written without its name.
+/// What is written for a clip is a stream of it. This is of clips whose tag is `Jpeg` or whose format is YV12: with
+/// another format no tag is written.
 pub fn what_is_written_is_a_stream()
     ensures { WrittenIsStream }
 {}

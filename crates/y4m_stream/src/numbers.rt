@@ -41,7 +41,7 @@ fn first_colon(text: &[u8]) -> Option<usize>
     text.iter().position(|byte| *byte == b':')
 }
 
-// What stands before the first colon and behind it.
+// The bytes before the first colon, and those after it.
 fn around_colon(text: &[u8]) -> (&[u8], &[u8])
     ensures front { result.0.now ≡ before_first is_colon text.now }
     ensures back { result.1.now ≡ after_first is_colon text.now }
@@ -75,7 +75,7 @@ fn gcd(a: u32, b: u32) -> u32
     x
 }
 
-/// A rate in lowest terms. `0:0` stands for 25:1; None comes where one part alone is 0.
+/// A rate in lowest terms. `0:0` means 25:1. The answer is None where only one part is 0.
 pub(crate) fn lowest(num: u32, den: u32) -> Option<(u32, u32)>
     requires num { num < 2 ^ 31 }
     requires den { den < 2 ^ 31 }

@@ -2,12 +2,12 @@
 ghost use Rattle.std.specs.Prelude.{◌≡◌, ◌<◌, ◌^◌, IfOk, IfErr, IfSome, None, Some};
 ghost use Rattle.std.specs.List.{slice_split};
 ghost use Rattle.std.specs.Option.{option_copied};
-ghost use Rattle.std.specs.Str.{bytes_eq};
 ghost use Rattle.fv_plane.specs.Format.{IsLegal};
 ghost use Rattle.fv_plane.specs.Info.{IsRate, IsPar};
-ghost use Rattle.y4m_stream.specs.Parameters.{value_in, value, rate_of, par_of, field_of, colour_named, colour_of, has_good_sides, info_of, parameter_fault};
+ghost use Rattle.y4m_stream.specs.Parameters.{value_in, value, rate_of, par_of, field_of, colour_of, info_of, parameter_fault};
 ghost use Rattle.y4m_stream.specs.Stream.{is_space};
 
+use crate::colourspace::colourspace_named;
 use crate::fault::Y4mFault;
 use crate::numbers::{lowest, number, ratio};
 use fv_plane::{Field, Info, Par, PixelType, Shape, Tag};
@@ -47,7 +47,7 @@ fn rate(text: Option<&[u8]>) -> Option<(u32, u32)>
     }
 }
 
-// The shape of a pixel, as it stands.
+// The shape of a pixel, as it is given.
 fn par(text: Option<&[u8]>) -> Option<(u32, u32)>
     ensures par { result ≡ par_of (option_copied text.entry) }
     ensures small { IfSome result (λ par. (par.0 < 2 ^ 31) × (par.1 < 2 ^ 31)) }
@@ -69,55 +69,13 @@ fn field(text: Option<&[u8]>) -> Field
     }
 }
 
-fn is_word(name: &[u8], word: &str) -> bool
-    ensures { result ≡ bytes_eq name.now word.now }
-{
-    name == word.as_bytes()
-}
-
-fn colour_named(name: &[u8]) -> Option<(PixelType, Tag)>
-    ensures { result ≡ colour_named name.now }
-{
-    if is_word(name, "420jpeg") {
-        Some((PixelType::YV12, Tag::Jpeg))
-    } else if is_word(name, "420mpeg2") {
-        Some((PixelType::YV12, Tag::Mpeg2))
-    } else if is_word(name, "420paldv") {
-        Some((PixelType::YV12, Tag::Paldv))
-    } else if is_word(name, "420") {
-        Some((PixelType::YV12, Tag::Plain))
-    } else if is_word(name, "422") {
-        Some((PixelType::YV16, Tag::Jpeg))
-    } else if is_word(name, "444") {
-        Some((PixelType::YV24, Tag::Jpeg))
-    } else if is_word(name, "411") {
-        Some((PixelType::YV411, Tag::Jpeg))
-    } else if is_word(name, "mono") {
-        Some((PixelType::Y8, Tag::Jpeg))
-    } else {
-        None
-    }
-}
-
 fn colour(name: Option<&[u8]>) -> Option<(PixelType, Tag)>
     ensures { result ≡ colour_of (option_copied name.entry) }
 {
     match name {
         None => Some((PixelType::YV12, Tag::Jpeg)),
-        Some(name) => colour_named(name),
+        Some(name) => colourspace_named(name),
     }
-}
-
-// Whether the sides are within their bounds and whole chroma samples cover them.
-fn has_good_sides(shape: Shape) -> bool
-    ensures { result ≡ has_good_sides shape }
-{
-    shape.width >= 1
-        && shape.width <= Shape::MAX_SIDE
-        && shape.height >= 1
-        && shape.height <= Shape::MAX_SIDE
-        && shape.width % shape.kind.sub_w() == 0
-        && shape.height % shape.kind.sub_h() == 0
 }
 
 /// The info that the parameters of a head say, with no frames counted, or their first fault.
@@ -152,7 +110,7 @@ pub(crate) fn read_parameters(line: &[u8]) -> Result<Info, Y4mFault>
         width,
         height,
     };
-    if !has_good_sides(shape) {
+    if !shape.has_whole_sides() {
         return Err(Y4mFault::BadSize);
     }
     if !shape.is_legal() {

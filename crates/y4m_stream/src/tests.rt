@@ -1,7 +1,8 @@
+// Heads and frames, read and written; faults of streams; sources and sinks that fail.
 ghost use Rattle.std.specs.Prelude.{◌<◌};
 
 use crate::{Index, IndexFault, Y4mFault, index, print_head, read_frame, read_head, write_frame};
-use fv_io::{MemSink, MemSource, Trip};
+use fv_io::{Failed, MemSink, MemSource, Trip};
 use fv_plane::{Field, Info, Par, PixelType, Shape, Tag};
 use std::alloc::{AllocError, Global};
 use std::sync::Arc;
@@ -25,7 +26,7 @@ const INFO: Info = Info {
     tag: Tag::Jpeg,
 };
 
-// One behind the other.
+// The parts, one after the other.
 fn joined(alloc: Global, parts: &[&[u8]]) -> Result<Vec<u8>, AllocError> {
     let mut bytes = Vec::new(alloc);
     for part in parts {
@@ -34,7 +35,7 @@ fn joined(alloc: Global, parts: &[&[u8]]) -> Result<Vec<u8>, AllocError> {
     Ok(bytes)
 }
 
-// A stream of one frame whose head has so many bytes before its newline.
+// A stream of one frame whose head has `size` bytes before its newline.
 fn padded(alloc: Global, size: usize) -> Result<Vec<u8>, AllocError> {
     let mut bytes = b"YUV4MPEG2 W2 H2 F25:1 Ip A1:1 C420jpeg X".to_vec(alloc)?;
     bytes.resize(size, b'z')?;
@@ -223,7 +224,7 @@ fn names_the_fault_of_each_prefix(rt: HostRuntime) -> Result<(), Fail> {
     Ok(())
 }
 
-// Heads of frames, and the first fault behind them.
+// Heads of frames, and the first fault after them.
 #[test]
 fn reads_heads_of_frames(rt: HostRuntime) -> Result<(), Fail> {
     let alloc = rt.alloc();
@@ -267,6 +268,36 @@ fn goes_past_large_frames(rt: HostRuntime) -> Result<(), Fail> {
         let trips = vec![in alloc; Trip::Read { rewinds: 0, place }]?;
         let answer = indexed(alloc, large(alloc)?, 4_096, trips)?;
         assert_eq!(rt; answer.err(), Some(IndexFault::Read), "at {place}");
+    }
+    Ok(())
+}
+
+// A frame that is put plane by plane, and sinks that are full inside its line and inside each plane.
+#[test]
+fn writes_a_large_frame(rt: HostRuntime) -> Result<(), Fail> {
+    let alloc = rt.alloc();
+    let shape = Shape {
+        kind: PixelType::YV12,
+        width: 160,
+        height: 120,
+    };
+    let mut bytes = b"FRAME\n".to_vec(alloc)?;
+    for (end, sample) in [(19_206, 1), (24_006, 2), (28_806, 3)] {
+        bytes.resize(end, sample)?;
+    }
+    assert_eq!(rt; bytes.len() as u64, 6 + shape.bytes());
+    let frame = read_frame(alloc, shape, &bytes[6..])?;
+    for (limit, want) in [
+        (4, Err(Failed)),
+        (19_000, Err(Failed)),
+        (24_000, Err(Failed)),
+        (28_805, Err(Failed)),
+        (28_806, Ok(())),
+    ] {
+        let mut sink = MemSink::new(alloc, limit)?;
+        assert_eq!(rt; write_frame(&mut sink, &frame), want, "into {limit} bytes");
+        assert_eq!(rt; sink.bytes().len(), limit);
+        assert!(rt; bytes.starts_with(sink.bytes()), "into {limit} bytes");
     }
     Ok(())
 }

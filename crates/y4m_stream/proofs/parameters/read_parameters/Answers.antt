@@ -33,16 +33,16 @@ returns-in_default-colour-clause-fault c =
     (c.in-Some-rate.num, c.in-Some-rate.den) (ap rate_of (sym c.value-3.ensures) ∙ sym c.in-Some-rate.ensures.rate)
     (c.in-Some-par.par_num, c.in-Some-par.par_den) (ap par_of (sym c.value-4.ensures) ∙ sym c.in-Some-par.ensures.par) (ap colour_of (sym c.value-5.ensures) ∙ sym c.in_default-colour.ensures)
 
-pub returns-then-not-has_good_sides-clause-fault : goal.returns-then-not-has_good_sides-clause-fault
-returns-then-not-has_good_sides-clause-fault c =
+pub returns-then-not-has_whole_sides-clause-fault : goal.returns-then-not-has_whole_sides-clause-fault
+returns-then-not-has_whole_sides-clause-fault c =
     bad_sides _ _ _ (sym c.in-Some-Some.ensures) (sym c.in-Some-Some.ensures') c.in-Some.width (sym c.in-Some.ensures.number) c.in-Some-number.height (sym c.in-Some-number.ensures.number)
     (c.in-Some-rate.num, c.in-Some-rate.den) (ap rate_of (sym c.value-3.ensures) ∙ sym c.in-Some-rate.ensures.rate)
     (c.in-Some-par.par_num, c.in-Some-par.par_den) (ap par_of (sym c.value-4.ensures) ∙ sym c.in-Some-par.ensures.par)
-    (c.in-Some-colour.kind, c.in-Some-colour.tag) (ap colour_of (sym c.value-5.ensures) ∙ sym c.in-Some-colour.ensures) (sym c.has_good_sides.ensures ∙ c.if-not-has_good_sides.true)
+    (c.in-Some-colour.kind, c.in-Some-colour.tag) (ap colour_of (sym c.value-5.ensures) ∙ sym c.in-Some-colour.ensures) (sym c.has_whole_sides.ensures ∙ c.if-not-has_whole_sides.true)
 
 pub returns-then-not-is_legal-clause-fault : goal.returns-then-not-is_legal-clause-fault
 returns-then-not-is_legal-clause-fault c =
-    let good = sym c.has_good_sides.ensures ∙ c.if-not-has_good_sides.false in
+    let good = sym c.has_whole_sides.ensures ∙ c.if-not-has_whole_sides.false in
     too_large _ _ _ (sym c.in-Some-Some.ensures) (sym c.in-Some-Some.ensures') c.in-Some.width (sym c.in-Some.ensures.number) c.in-Some-number.height (sym c.in-Some-number.ensures.number)
     (c.in-Some-rate.num, c.in-Some-rate.den) (ap rate_of (sym c.value-3.ensures) ∙ sym c.in-Some-rate.ensures.rate)
     (c.in-Some-par.par_num, c.in-Some-par.par_den) (ap par_of (sym c.value-4.ensures) ∙ sym c.in-Some-par.ensures.par)
@@ -51,7 +51,7 @@ returns-then-not-is_legal-clause-fault c =
 
 pub returns-clause-sound : goal.returns-clause-sound
 returns-clause-sound c =
-    let good = sym c.has_good_sides.ensures ∙ c.if-not-has_good_sides.false in
+    let good = sym c.has_whole_sides.ensures ∙ c.if-not-has_whole_sides.false in
     no_fault _ _ _ (sym c.in-Some-Some.ensures) (sym c.in-Some-Some.ensures') c.in-Some.width (sym c.in-Some.ensures.number) c.in-Some-number.height (sym c.in-Some-number.ensures.number)
     (c.in-Some-rate.num, c.in-Some-rate.den) (ap rate_of (sym c.value-3.ensures) ∙ sym c.in-Some-rate.ensures.rate)
     (c.in-Some-par.par_num, c.in-Some-par.par_den) (ap par_of (sym c.value-4.ensures) ∙ sym c.in-Some-par.ensures.par)
