@@ -1,3 +1,4 @@
-pub mod FaultLemmas
+pub mod CallerLemmas
 pub mod FrameLemmas
+pub mod KeepingLemmas
 pub mod PlaceLemmas

@@ -1,13 +1,13 @@
--- Where a source stands that read on.
-use Rattle.std.proofs.Common.{◌≡◌, ℕ, ◌+◌, ◌≤◌, List, length, Option, Some, sym, ◌∙◌, arith}
-use Rattle.seq_source.specs.Reader.{StandsAt}
+-- The place of a source after a read.
+use Rattle.std.proofs.Common.{◌≡◌, ℕ, ◌+◌, ◌≤◌, List, length, Some, sym, ◌∙◌, arith}
+use Rattle.fv_io.specs.declared.source.Source.{Ghosts}
+use Rattle.seq_source.specs.FrameSource.{IsAt}
 
-module _ {S : Type 0} (bytes : S → Option (List ℕ)) (place : S → ℕ) (old new : S) where
-  -- it stands by as much further as it read
-  pub stands_further : (at count : ℕ) → StandsAt bytes place old at → bytes new ≡ bytes old
-      → ((told : List ℕ) → bytes old ≡ Some told → place new ≡ place old + count)
-      → ((told : List ℕ) → bytes old ≡ Some told → at + count ≤ length told) → StandsAt bytes place new (at + count)
-  stands_further at count stands same moved inside = record {
-    here = λ told is. omega (arith, moved told (sym same ∙ is), stands.here told (sym same ∙ is));
-    inside = λ told is. inside told (sym same ∙ is);
-  }
+-- it is further by the number of bytes read
+pub is_further : {S : Type 0} (source : Ghosts S) (old new : S) (place count : ℕ) → IsAt source old place → source.bytes new ≡ source.bytes old
+    → ((told : List ℕ) → source.bytes old ≡ Some told → source.place new ≡ source.place old + count)
+    → ((told : List ℕ) → source.bytes old ≡ Some told → place + count ≤ length told) → IsAt source new (place + count)
+is_further source old new place count is_at same moved inside = record {
+  here = λ told is. omega (arith, moved told (sym same ∙ is), is_at.here told (sym same ∙ is));
+  inside = λ told is. inside told (sym same ∙ is);
+}

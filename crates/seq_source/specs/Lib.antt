@@ -1,2 +1,2 @@
-pub mod Reader
+pub mod FrameSource
 pub mod Faults

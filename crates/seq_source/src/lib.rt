@@ -1,7 +1,7 @@
 //! The frames of a source of bytes, by their numbers.
 //!
 //! Over bytes that are a stream, `SeqSource::frame` answers the stream's frame from any place and after any fault. It
-//! goes forwards where it can, and rewinds only where a frame lies behind or the source's place is unknown.
+//! reads on where it can, and rewinds only where the frame is before the source's place or that place isn't known.
 #![tactic(auto)]
 
 mod fault;

@@ -1,133 +1,146 @@
-// A frame's samples, read forwards.
-ghost use Rattle.std.specs.Prelude.{◌≡◌, [], ◌+◌, ◌<◌, ◌≤◌, ◌^◌, List, ℕ, length, take, drop, min, Some, IfSome, IfOk, IfErr, OnOk, OnErr, IsErrOf, slice_index, slice_index_or};
+// The bytes of a frame, read forwards.
+ghost use Rattle.std.specs.Prelude.{◌≡◌, ◌+◌, ◌<◌, ◌≤◌, ◌^◌, ℕ, length, take, drop, IfSome, IfOk, IfErr, OnOk, slice_index};
 ghost use Rattle.std.specs.Option.{ForSome};
-ghost use Rattle.fv_io.specs.Causes.{Rose};
-ghost use Rattle.fv_io.specs.Reading.{KeepsSource};
-ghost use Rattle.fv_plane.specs.Format.{frame_bytes};
-ghost use Rattle.y4m_stream.specs.Index.{IsIndex, Indexes};
-ghost use Rattle.seq_source.specs.Reader.{StandsAt, end_of};
-ghost use Rattle.seq_source.specs.Faults.{IsFaultOf, EndsAt, IsUnchanged};
+ghost use Rattle.fv_io.specs.Source.{KeepsSource};
+ghost use Rattle.seq_source.specs.FrameSource.{IsAt, ReadsFrame, RewindsOnce, end_of};
+ghost use Rattle.seq_source.specs.Faults.{Shows};
 
 use crate::fault::SeqFault;
-use fv_io::{Failed, Source, read_full, skip};
+use fv_io::{Source, read_full};
+use fv_plane::Frame;
 use y4m_stream::Index;
 
-// Answers a place not past the start at which the source stands. It stays where it is if it can, and rewinds else.
+/// At most this many bytes before a frame are read with it. More are skipped. The head of a stream and the head of a
+/// frame have no more together.
+const MOST_BEFORE: u64 = 8_192;
+
+// Brings the source to a place not past the start, and answers it. The source is rewound only where its place isn't
+// known or is past the start.
 fn go_back<S: Source>(source: &mut S, known: Option<u64>, start: u64) -> Result<u64, SeqFault>
-    requires { ForSome known (StandsAt S.bytes S.place source.old) }
+    requires { ForSome known (IsAt S.Source source.old) }
     ensures before { IfOk result (λ place. place ≤ start) }
-    ensures stands { IfOk result (StandsAt S.bytes S.place source.new) }
+    ensures is_at { IfOk result (IsAt S.Source source.new) }
     ensures goes_on { IfSome known (λ place. place ≤ start → S.rewinds source.new ≡ S.rewinds source.old) }
-    ensures bytes { S.bytes source.new ≡ S.bytes source.old }
-    ensures later { S.faults source.old ≤ S.faults source.new }
-    ensures only_read { IfErr result (λ fault. fault ≡ SeqFault.Read) }
-    ensures read { OnErr result (Rose (S.faults source.old) (S.faults source.new)) }
+    ensures keeps { RewindsOnce S.Source source.old source.new }
+    ensures fault { IfErr result (λ fault. (n past : ℕ) → Shows S.Source source.old source.new n past fault) }
 {
     match known {
         Some(place) if place <= start => Ok(place),
-        _ => match source.rewind() {
-            Ok(()) => Ok(0),
-            Err(Failed) => Err(SeqFault::Read),
-        },
+        _ => {
+            source.rewind()?;
+            Ok(0)
+        }
     }
 }
 
-// Reads on from a place to the start, piece by piece into the scratch, and then into the samples. Answers where that
-// ended: just past the samples, or where the bytes end before.
-fn read_on<S: Source>(
+// Skips from a place to the start of the samples of frame `n`, if it is more than `MOST_BEFORE` bytes further. Answers
+// the source's place after that. `end` is the offset just past the frame.
+fn go_on<S: Source>(
     source: &mut S,
+    n: u32,
     place: u64,
     start: u64,
-    scratch: &mut [u8],
-    samples: &mut [u8],
-) -> Result<u64, Failed>
-    requires stands { StandsAt S.bytes S.place source.old place }
-    requires ahead { place ≤ start }
-    requires scratch { 0 < length scratch.old }
-    requires short { start + length samples.old < 2 ^ 60 }
-    ensures bound { IfOk result (λ end. end ≤ start + length samples.old) }
-    ensures ended { IfOk result (λ end. (told : List ℕ) → S.bytes source.old ≡ Some told →
-        end ≡ min (start + length samples.old) (length told)) }
-    ensures stands { IfOk result (StandsAt S.bytes S.place source.new) }
-    ensures samples { IfOk result (λ end. end ≡ start + length samples.old → (told : List ℕ) → S.bytes source.old ≡ Some told →
-        samples.new ≡ take (length samples.old) (drop start told)) }
-    ensures keeps { KeepsSource S.bytes S.rewinds S.faults source.old source.new }
-    ensures failed { OnErr result (Rose (S.faults source.old) (S.faults source.new)) }
-{
-    let gap = (start - place) as usize;
-    let skipped = skip(source, gap, scratch)?;
-    if skipped < gap {
-        return Ok(place + skipped as u64);
-    }
-    let count = read_full(source, samples)?;
-    Ok(start + count as u64)
-}
-
-// Reads the samples of a frame, which begin at the start, from a source that stands at a place. Answers the place just
-// past them.
-fn read_samples<S: Source>(
-    source: &mut S,
-    frame: u32,
-    place: u64,
-    start: u64,
-    scratch: &mut [u8],
-    samples: &mut [u8],
+    end: u64,
 ) -> Result<u64, SeqFault>
-    requires stands { StandsAt S.bytes S.place source.old place }
-    requires ahead { place ≤ start }
-    requires scratch { 0 < length scratch.old }
-    requires short { start + length samples.old < 2 ^ 60 }
-    ensures past { IfOk result (λ end. end ≡ start + length samples.old) }
-    ensures stands { IfOk result (StandsAt S.bytes S.place source.new) }
-    ensures samples { OnOk result ((told : List ℕ) → S.bytes source.old ≡ Some told →
-        samples.new ≡ take (length samples.old) (drop start told)) }
-    ensures whole { OnOk result ((told : List ℕ) → S.bytes source.old ≡ Some told → start + length samples.old ≤ length told) }
-    ensures fault { IfErr result (IsFaultOf frame (start + length samples.old)) }
-    ensures ended { (told : List ℕ) → S.bytes source.old ≡ Some told → IfErr result (EndsAt (length told)) }
-    ensures read { IsErrOf result SeqFault.Read → Rose (S.faults source.old) (S.faults source.new) }
-    ensures keeps { KeepsSource S.bytes S.rewinds S.faults source.old source.new }
+    requires is_at { IsAt S.Source source.old place }
+    requires before { place ≤ start }
+    requires after { start < end }
+    ensures before { IfOk result (λ now. now ≤ start) }
+    ensures near { IfOk result (λ now. start ≤ now + 2 ^ 13) }
+    ensures is_at { IfOk result (IsAt S.Source source.new) }
+    ensures keeps { KeepsSource S.Source source.old source.new }
+    ensures fault { IfErr result (Shows S.Source source.old source.new n end) }
 {
-    let want = start + samples.len() as u64;
-    let got = match read_on(source, place, start, scratch, samples) {
-        Ok(end) => end,
-        Err(Failed) => return Err(SeqFault::Read),
-    };
-    if got < want {
-        return Err(SeqFault::Changed { frame, want, got });
+    let gap = start - place;
+    if gap <= MOST_BEFORE {
+        return Ok(place);
     }
-    Ok(got)
+    let passed = source.skip(gap)?;
+    if passed < gap {
+        return Err(SeqFault::Changed {
+            frame: n,
+            want: end,
+            got: place + passed,
+        });
+    }
+    Ok(start)
 }
 
-/// Reads the samples of a frame from a source that stands at the known place, or anywhere. Answers the place just past
-/// them.
+// Goes to a place at most `MOST_BEFORE` bytes before the start of the samples of frame `n`, and answers it. The source
+// is rewound only where its place isn't known or is past the start.
+fn approach<S: Source>(
+    source: &mut S,
+    n: u32,
+    known: Option<u64>,
+    start: u64,
+    end: u64,
+) -> Result<u64, SeqFault>
+    requires is_at { ForSome known (IsAt S.Source source.old) }
+    requires after { start < end }
+    ensures before { IfOk result (λ place. place ≤ start) }
+    ensures near { IfOk result (λ place. start ≤ place + 2 ^ 13) }
+    ensures is_at { IfOk result (IsAt S.Source source.new) }
+    ensures goes_on { IfSome known (λ place. place ≤ start → S.rewinds source.new ≡ S.rewinds source.old) }
+    ensures keeps { RewindsOnce S.Source source.old source.new }
+    ensures fault { IfErr result (Shows S.Source source.old source.new n end) }
+{
+    let place = go_back(source, known, start)?;
+    go_on(source, n, place, start, end)
+}
+
+// Fills the buffer with the bytes from the place on, which end where frame `n` does. Answers the place after them.
+fn read_up_to<S: Source>(
+    source: &mut S,
+    n: u32,
+    place: u64,
+    bytes: &mut [u8],
+) -> Result<u64, SeqFault>
+    requires is_at { IsAt S.Source source.old place }
+    requires short { place + length bytes.old < 2 ^ 61 }
+    ensures end { IfOk result (λ end. end ≡ place + length bytes.old) }
+    ensures is_at { IfOk result (IsAt S.Source source.new) }
+    ensures bytes { OnOk result (ForSome (S.bytes source.old) (λ told.
+        bytes.new ≡ take (length bytes.old) (drop place told))) }
+    ensures whole { OnOk result (ForSome (S.bytes source.old) (λ told. place + length bytes.old ≤ length told)) }
+    ensures keeps { KeepsSource S.Source source.old source.new }
+    ensures fault { IfErr result (Shows S.Source source.old source.new n (place + length bytes.old)) }
+{
+    let end = place + bytes.len() as u64;
+    let got = place + read_full(source, bytes)? as u64;
+    if got < end {
+        return Err(SeqFault::Changed {
+            frame: n,
+            want: end,
+            got,
+        });
+    }
+    Ok(end)
+}
+
+/// Reads frame `n` from a source that is at the known place, or anywhere. Answers the frame and the offset just past
+/// it. The frame is made in `memory`, whose bytes are overwritten.
 pub(crate) fn read_indexed<S: Source>(
     source: &mut S,
     index: &Index,
     known: Option<u64>,
     n: u32,
-    scratch: &mut [u8],
-    samples: &mut [u8],
-) -> Result<u64, SeqFault>
-    requires stands { ForSome known (StandsAt S.bytes S.place source.old) }
-    requires index { IsIndex index.now }
+    memory: Vec<u8>,
+) -> Result<(Frame, u64), SeqFault>
+    requires is_at { ForSome known (IsAt S.Source source.old) }
     requires inside { n < index.now.info.frames }
-    requires scratch { 0 < length scratch.old }
-    requires room { length samples.old ≡ frame_bytes index.now.info.shape }
-    ensures past { IfOk result (λ end. end ≡ end_of index.now n) }
-    ensures stands { IfOk result (StandsAt S.bytes S.place source.new) }
-    ensures samples { OnOk result ((told : List ℕ) (frames : List (List ℕ)) → S.bytes source.old ≡ Some told →
-        Indexes told index.now frames → samples.new ≡ slice_index_or frames n []) }
-    ensures whole { OnOk result ((told : List ℕ) → S.bytes source.old ≡ Some told → end_of index.now n ≤ length told) }
-    ensures unchanged { (told : List ℕ) (frames : List (List ℕ)) → S.bytes source.old ≡ Some told →
-        Indexes told index.now frames → IfErr result IsUnchanged }
-    ensures fault { IfErr result (IsFaultOf n (end_of index.now n)) }
-    ensures ended { (told : List ℕ) → S.bytes source.old ≡ Some told → IfErr result (EndsAt (length told)) }
-    ensures read { IsErrOf result SeqFault.Read → Rose (S.faults source.old) (S.faults source.new) }
-    ensures goes_on { IfSome known (λ place. place ≤ slice_index index.now.offsets n → S.rewinds source.new ≡ S.rewinds source.old) }
-    ensures bytes { S.bytes source.new ≡ S.bytes source.old }
-    ensures later { S.faults source.old ≤ S.faults source.new }
+    ensures read { IfOk result (λ r. ReadsFrame S.Source source.old source.new index.now n r.0 r.1) }
+    ensures fault { IfErr result (Shows S.Source source.old source.new n (end_of index.now n)) }
+    ensures goes_on { IfSome known (λ place. place ≤ slice_index index.now.offsets n →
+        S.rewinds source.new ≡ S.rewinds source.old) }
+    ensures keeps { RewindsOnce S.Source source.old source.new }
 {
+    let shape = index.info().shape;
     let start = index.offset(n);
-    let place = go_back(source, known, start)?;
-    read_samples(source, n, place, start, scratch, samples)
+    let place = approach(source, n, known, start, start + shape.bytes())?;
+    let before = (start - place) as usize;
+    let mut bytes = memory;
+    bytes.resize(before + shape.bytes() as usize, 0)?;
+    let end = read_up_to(source, n, place, &mut bytes)?;
+    let frame = Frame::from_vec(bytes, before, shape)?;
+    Ok((frame, end))
 }

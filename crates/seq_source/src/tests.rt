@@ -1,4 +1,4 @@
-// Frames of a clip in memory, in and out of order, and where the source fails or shrinks.
+// Frames of a clip in memory, in and out of order, and where the source fails or has changed.
 ghost use Rattle.std.specs.Prelude.{◌≡◌, ◌<◌};
 
 use super::*;
@@ -21,7 +21,7 @@ fn indexed(alloc: Global, mut source: MemSource) -> Result<SeqSource<MemSource>,
     Ok(SeqSource::new(alloc, source, index))
 }
 
-// The frames of the clip, which gives so many bytes a read.
+// The frames of the clip, whose source gives at most `piece` bytes a read.
 fn clip(alloc: Global, piece: usize, trips: &[Trip]) -> Result<SeqSource<MemSource>, Fail>
     requires { 0 < piece }
 {
@@ -30,7 +30,7 @@ fn clip(alloc: Global, piece: usize, trips: &[Trip]) -> Result<SeqSource<MemSour
     Ok(indexed(alloc, source)?)
 }
 
-// A frame of one digit, or this fault, is what comes.
+// Asks for a frame, and checks its text or the fault.
 fn gives(
     rt: &impl Abort,
     alloc: Global,
@@ -41,7 +41,7 @@ fn gives(
     assert!(rt; n < clip.info().frames);
     match (clip.frame(n), want) {
         (Ok(frame), Ok(want)) => {
-            let mut sink = MemSink::new(alloc, 7)?;
+            let mut sink = MemSink::new(alloc, want.len())?;
             assert_eq!(rt; write_frame(&mut sink, &frame), Ok(()), "at {n}");
             assert_eq!(rt; sink.bytes(), want, "at {n}");
         }
@@ -118,5 +118,35 @@ fn tells_where_a_file_was_cut(rt: HostRuntime) -> Result<(), Fail> {
     }
     gives(&rt, alloc, &mut clip, 1, Ok(b"FRAME\n\x01"))?;
     assert_eq!(rt; clip.into_source().faults(), 0);
+    Ok(())
+}
+
+// Three frames of 10,000 samples, whose heads begin at 40, 10,046 and 20,052.
+fn large(alloc: Global) -> Result<Vec<u8>, AllocError> {
+    let mut bytes = b"YUV4MPEG2 W100 H100 F25:1 Ip A1:1 Cmono\n".to_vec(alloc)?;
+    for (end, sample) in [(10_046, 0), (20_052, 1), (30_058, 2)] {
+        bytes.extend_from_slice(b"FRAME\n")?;
+        bytes.resize(end, sample)?;
+    }
+    Ok(bytes)
+}
+
+// A read fails on the way to frame 2, which is far enough to be skipped to. Then the frame comes, and frame 0 after it.
+#[test]
+fn skips_to_a_far_frame(rt: HostRuntime) -> Result<(), Fail> {
+    let alloc = rt.alloc();
+    let bytes = large(alloc)?;
+    assert_eq!(rt; bytes.len(), 30_058);
+    let trip = Trip::Read {
+        rewinds: 1,
+        place: 15_000,
+    };
+    let shared = Arc::new(alloc, bytes.clone()?)?;
+    let source = MemSource::new(shared, 3_000, [trip].to_vec(alloc)?);
+    let mut clip = indexed(alloc, source)?;
+    gives(&rt, alloc, &mut clip, 2, Err(SeqFault::Read))?;
+    gives(&rt, alloc, &mut clip, 2, Ok(&bytes[20_052..]))?;
+    gives(&rt, alloc, &mut clip, 0, Ok(&bytes[40..10_046]))?;
+    assert_eq!(rt; clip.into_source().faults(), 1);
     Ok(())
 }

@@ -1,32 +1,21 @@
--- What was read are the samples of the frame.
-use Rattle.std.proofs.Common.{◌≡◌, List, ℕ, Some, Err, length, sym, ◌∙◌, ap, subst, rules}
-use Rattle.std.proofs.lemmas.List.{take_at}
-use Rattle.fv_plane.specs.Picture.{picture_of}
-use Rattle.y4m_stream.specs.Index.{Indexed, Indexes}
-use Rattle.seq_source.specs.Faults.{IsUnchanged}
+-- What was read is the frame of the clip, and a clip's bytes have all of it.
+use Rattle.std.proofs.Common.{◌≡◌, Err, sym, ap, subst, arith, rules}
+use Rattle.y4m_stream.proofs.CallerLemmas.{frame_inside}
+use Rattle.seq_source.specs.FrameSource.{HasFrames}
+use Rattle.seq_source.specs.Faults.{IsNoChange}
+use Rattle.seq_source.proofs.KeepingLemmas.{no_change}
 use Rattle.seq_source.proofs.seq_source.SeqSource.frame.Goals as goal
 
-pub returns-in_err-end-clause-unchanged : goal.returns-in_err-end-clause-unchanged
-returns-in_err-end-clause-unchanged g c told frames is indexes =
-    let there : g.S.Source.bytes c.self.inside.source ≡ Some told = ap (λ v. g.S.Source.bytes v.source) c.self.view_is ∙ is in
-    let here : Indexes told c.self.inside.index frames = subst (λ (x : Indexed). Indexes told x frames) (sym (ap (λ v. v.index) c.self.view_is)) indexes in
-    let fact : IsUnchanged c.in_err-end.field-0.0 = c.in_err-end.ensures.unchanged told frames there here in
-    let fault : c.from_residual.result ≡ Err c.in_err-end.field-0.0 = search rules in
-    rw fault fact
+pub returns-clause-frame : goal.returns-clause-frame
+returns-clause-frame g c clip has =
+    let here : HasFrames g.S.Source c.self.inside.source c.self.inside.index clip = subst (λ v. HasFrames g.S.Source v.source v.index clip) (sym c.self.view_is) has in
+    c.in_ok-frame.ensures.read.picture clip here
 
-pub returns-in-Ok-read_frame-clause-frame : goal.returns-in-Ok-read_frame-clause-frame
-returns-in-Ok-read_frame-clause-frame g c told frames is indexes =
-    let there : g.S.Source.bytes c.self.inside.source ≡ Some told = ap (λ v. g.S.Source.bytes v.source) c.self.view_is ∙ is in
-    let here : Indexes told c.self.inside.index frames = subst (λ (x : Indexed). Indexes told x frames) (sym (ap (λ v. v.index) c.self.view_is)) indexes in
-    let size : length c.read_indexed.new.samples ≡ c.resize-2.new.self.len = search rules in
-    let lent : c.deref.result.now ≡ c.read_indexed.new.samples = c.deref.ensures.value ∙ take_at c.read_indexed.new.samples _ c.resize-2.new.self.len size in
-    let shape : c.info.result.shape ≡ c.args.self.now.index.info.shape = ap (λ i. i.shape) c.info.ensures.info ∙ ap (λ v. v.index.info.shape) c.self.view_is in
-    c.in-Ok-read_frame.ensures.frame ∙ ap (λ x. picture_of x c.deref.result.now) shape ∙ ap (λ (l : List ℕ). picture_of c.args.self.now.index.info.shape l) (lent ∙ c.in_ok-end.ensures.samples told frames there here)
-
-pub returns-in-Ok-read_frame-clause-samples : goal.returns-in-Ok-read_frame-clause-samples
-returns-in-Ok-read_frame-clause-samples g c told frames is indexes =
-    let there : g.S.Source.bytes c.self.inside.source ≡ Some told = ap (λ v. g.S.Source.bytes v.source) c.self.view_is ∙ is in
-    let here : Indexes told c.self.inside.index frames = subst (λ (x : Indexed). Indexes told x frames) (sym (ap (λ v. v.index) c.self.view_is)) indexes in
-    let size : length c.read_indexed.new.samples ≡ c.resize-2.new.self.len = search rules in
-    let lent : c.deref.result.now ≡ c.read_indexed.new.samples = c.deref.ensures.value ∙ take_at c.read_indexed.new.samples _ c.resize-2.new.self.len size in
-    c.in-Ok-read_frame.ensures.samples ∙ lent ∙ c.in_ok-end.ensures.samples told frames there here
+pub returns-in_err-frame-clause-unchanged : goal.returns-in_err-frame-clause-unchanged
+returns-in_err-frame-clause-unchanged g c clip has =
+    let here : HasFrames g.S.Source c.self.inside.source c.self.inside.index clip = subst (λ v. HasFrames g.S.Source v.source v.index clip) (sym c.self.view_is) has in
+    let index = c.self.inside.index in
+    let inside = frame_inside here.told index clip here.indexes c.args.n (let frames : index.info.frames ≡ c.args.self.now.index.info.frames = ap (λ v. v.index.info.frames) c.self.view_is in omega (arith, frames, c.requires)) in
+    let fact : IsNoChange c.in_err-frame.field-0.0 = no_change g.S.Source c.self.inside.source c.read_indexed.new.source c.args.n _ here.told here.tells inside c.in_err-frame.field-0.0 c.in_err-frame.ensures.fault in
+    let is : c.from_residual.result ≡ Err c.in_err-frame.field-0.0 = search rules in
+    rw is fact

@@ -1,0 +1,48 @@
+-- What callers see of a source of frames.
+use Rattle.std.specs.Prelude.{◌≡◌, ◌⊎◌, ℕ, ◌+◌, ◌≤◌, List, length, Option, Some, slice_index}
+use Rattle.fv_io.specs.declared.source.Source.{Ghosts}
+use Rattle.fv_io.specs.Faults.{risen}
+use Rattle.fv_plane.specs.Picture.{Picture}
+use Rattle.fv_plane.specs.Clip.{Clip, picture_at}
+use Rattle.fv_plane.specs.Format.{frame_bytes}
+use Rattle.y4m_stream.specs.Index.{Indexed, Indexes}
+
+pub record FrameSource (S : Type 0) : Type 0 where
+  pub source : S
+  pub index : Indexed
+  -- where the source's next read begins, where that is known
+  pub place : Option ℕ
+
+-- over told bytes the next read begins at this place, which is inside them
+pub record IsAt {S : Type 0} (source : Ghosts S) (it : S) (place : ℕ) : Type 0 where
+  pub here : (told : List ℕ) → source.bytes it ≡ Some told → source.place it ≡ place
+  pub inside : (told : List ℕ) → source.bytes it ≡ Some told → place ≤ length told
+
+-- the offset just past a frame
+abbrev pub end_of : Indexed → ℕ → ℕ
+end_of index n = slice_index index.offsets n + frame_bytes index.info.shape
+
+-- the bytes of the source are told, and the index is that of this clip
+pub record HasFrames {S : Type 0} (source : Ghosts S) (it : S) (index : Indexed) (clip : Clip) : Type 0 where
+  pub told : List ℕ
+  pub tells : source.bytes it ≡ Some told
+  pub indexes : Indexes told index clip
+
+-- a call reads frame n up to its end, where the source's next read begins
+pub record ReadsFrame {S : Type 0} (source : Ghosts S) (old new : S) (index : Indexed) (n : ℕ) (frame : Picture) (end : ℕ) : Type 0 where
+  pub picture : (clip : Clip) → HasFrames source old index clip → frame ≡ picture_at clip n
+  pub shape : frame.shape ≡ index.info.shape
+  pub whole : (told : List ℕ) → source.bytes old ≡ Some told → end_of index n ≤ length told
+  pub end_is : end ≡ end_of index n
+  pub is_at : IsAt source new end
+
+-- a call keeps the bytes that the source tells, rewinds it at most once, and its count of faults does not fall
+pub record RewindsOnce {S : Type 0} (source : Ghosts S) (old new : S) : Type 0 where
+  pub told : source.bytes new ≡ source.bytes old
+  pub once : (source.rewinds new ≡ source.rewinds old) ⊎ (source.rewinds new ≡ risen (source.rewinds old))
+  pub later : source.faults old ≤ source.faults new
+
+-- a call keeps the index, and of the source what `RewindsOnce` says
+pub record KeepsFrames {S : Type 0} (source : Ghosts S) (old new : FrameSource S) : Type 0 where
+  pub index : new.index ≡ old.index
+  pub keeps : RewindsOnce source old.source new.source
