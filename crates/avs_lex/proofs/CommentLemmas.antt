@@ -7,51 +7,51 @@ use Rattle.avs_lex.specs.Characters.{Text, star, left_bracket, right_bracket}
 use Rattle.avs_lex.specs.Piece.{nested_end}
 
 -- two characters are left
-pub nested_end_step : (rest : Text) (inner place : ℕ) → place + 1 < length rest
-    → nested_end inner place (drop place rest)
-    ≡ (if get_or rest place 0 == left_bracket && get_or rest (place + 1) 0 == star then nested_end (inner + 1) (place + 2) (drop (place + 2) rest)
-    else (if get_or rest place 0 == star && get_or rest (place + 1) 0 == right_bracket then (if inner == 0 then Some (place + 2) else nested_end (inner - 1) (place + 2) (drop (place + 2) rest))
-    else nested_end inner (place + 1) (drop (place + 1) rest)))
-nested_end_step rest inner place more =
-    let here : drop place rest ≡ get_or rest place 0 ∷ drop (place + 1) rest = drop_more rest place 0 (omega arith) in
-    let two : place + 1 + 1 ≡ place + 2 = omega arith in
-    let next : drop (place + 1) rest ≡ get_or rest (place + 1) 0 ∷ drop (place + 2) rest = drop_more rest (place + 1) 0 more ∙ ap (λ i. get_or rest (place + 1) 0 ∷ drop i rest) two in
+pub nested_end_step : (rest : Text) (inner offset : ℕ) → offset + 1 < length rest
+    → nested_end inner offset (drop offset rest)
+    ≡ (if get_or rest offset 0 == left_bracket && get_or rest (offset + 1) 0 == star then nested_end (inner + 1) (offset + 2) (drop (offset + 2) rest)
+    else (if get_or rest offset 0 == star && get_or rest (offset + 1) 0 == right_bracket then (if inner == 0 then Some (offset + 2) else nested_end (inner - 1) (offset + 2) (drop (offset + 2) rest))
+    else nested_end inner (offset + 1) (drop (offset + 1) rest)))
+nested_end_step rest inner offset more =
+    let here : drop offset rest ≡ get_or rest offset 0 ∷ drop (offset + 1) rest = drop_more rest offset 0 (omega arith) in
+    let two : offset + 1 + 1 ≡ offset + 2 = omega arith in
+    let next : drop (offset + 1) rest ≡ get_or rest (offset + 1) 0 ∷ drop (offset + 2) rest = drop_more rest (offset + 1) 0 more ∙ ap (λ i. get_or rest (offset + 1) 0 ∷ drop i rest) two in
     rw (here, next)
 
 -- one is left, or none
-few : (rest : Text) (inner place : ℕ) → length rest ≤ 1 → nested_end inner place rest ≡ None
-few [] inner place short = refl
-few (c ∷ []) inner place short = refl
-few (c ∷ d ∷ rest) inner place short = absurd (omega arith)
+few : (rest : Text) (inner offset : ℕ) → length rest ≤ 1 → nested_end inner offset rest ≡ None
+few [] inner offset short = refl
+few (c ∷ []) inner offset short = refl
+few (c ∷ d ∷ rest) inner offset short = absurd (omega arith)
 
-pub nested_end_over : (rest : Text) (inner place : ℕ) → length rest ≤ place + 1 → nested_end inner place (drop place rest) ≡ None
-nested_end_over rest inner place over = few (drop place rest) inner place (omega (arith, length-drop place rest))
+pub nested_end_over : (rest : Text) (inner offset : ℕ) → length rest ≤ offset + 1 → nested_end inner offset (drop offset rest) ≡ None
+nested_end_over rest inner offset over = few (drop offset rest) inner offset (omega (arith, length-drop offset rest))
 
--- `*]`, and one comment less is open inside
-pub nested_end_close : (rest : Text) (inner place : ℕ) → place + 1 < length rest → get_or rest place 0 ≡ star → get_or rest (place + 1) 0 ≡ right_bracket → 0 < inner
-    → nested_end inner place (drop place rest) ≡ nested_end (inner - 1) (place + 2) (drop (place + 2) rest)
-nested_end_close rest inner place more first second open_ =
+-- `*]`, which closes a comment inside
+pub nested_end_close : (rest : Text) (inner offset : ℕ) → offset + 1 < length rest → get_or rest offset 0 ≡ star → get_or rest (offset + 1) 0 ≡ right_bracket → 0 < inner
+    → nested_end inner offset (drop offset rest) ≡ nested_end (inner - 1) (offset + 2) (drop (offset + 2) rest)
+nested_end_close rest inner offset more first second open_ =
     let none : (inner == 0) ≡ false = grind (arith, nat_tests) in
-    nested_end_step rest inner place more ∙ rw (first, second, none)
+    nested_end_step rest inner offset more ∙ rw (first, second, none)
 
 -- neither `[*` nor `*]`
-pub nested_end_pass : (rest : Text) (inner place : ℕ) → place + 1 < length rest
-    → (get_or rest place 0 == left_bracket && get_or rest (place + 1) 0 == star) ≡ false → (get_or rest place 0 == star && get_or rest (place + 1) 0 == right_bracket) ≡ false
-    → nested_end inner place (drop place rest) ≡ nested_end inner (place + 1) (drop (place + 1) rest)
-nested_end_pass rest inner place more opens closes = nested_end_step rest inner place more ∙ rw (opens, closes)
+pub nested_end_pass : (rest : Text) (inner offset : ℕ) → offset + 1 < length rest
+    → (get_or rest offset 0 == left_bracket && get_or rest (offset + 1) 0 == star) ≡ false → (get_or rest offset 0 == star && get_or rest (offset + 1) 0 == right_bracket) ≡ false
+    → nested_end inner offset (drop offset rest) ≡ nested_end inner (offset + 1) (drop (offset + 1) rest)
+nested_end_pass rest inner offset more opens closes = nested_end_step rest inner offset more ∙ rw (opens, closes)
 
 pub ruleset steps = (nested_end_step, nested_end_close, nested_end_over)
 
 -- the comment ends with `]`
 pub record EndsComment (from : ℕ) (rest : Text) (end : ℕ) : Type 0 where
-  pub behind : from + 2 ≤ end
+  pub after : from + 2 ≤ end
   pub within : end ≤ from + length rest
   pub last : get_or rest (end - from - 1) 0 ≡ right_bracket
 
 further : (c d : ℕ) (from : ℕ) (rest : Text) (end : ℕ) → EndsComment (from + 2) rest end → EndsComment from (c ∷ d ∷ rest) end
 further c d from rest end next =
-    let later : end - from - 1 ≡ suc (suc (end - (from + 2) - 1)) = omega (arith, next.behind) in
-    record { behind = omega (arith, next.behind); within = omega (arith, next.within); last = rw later next.last }
+    let later : end - from - 1 ≡ suc (suc (end - (from + 2) - 1)) = omega (arith, next.after) in
+    record { after = omega (arith, next.after); within = omega (arith, next.within); last = rw later next.last }
 
 pub nested_found : (inner from : ℕ) (rest : Text) (end : ℕ) → nested_end inner from rest ≡ Some end → EndsComment from rest end
 nested_found inner from [] end is = cc
@@ -67,10 +67,10 @@ nested_found inner from (c ∷ d ∷ rest) end is =
     let e : from + 2 ≡ end = cc in
     let one : end - from - 1 ≡ 1 = omega arith in
     let bracket : d ≡ right_bracket = grind (arith, nat_tests) in
-    record { behind = omega arith; within = omega arith; last = rw one bracket })
+    record { after = omega arith; within = omega arith; last = rw one bracket })
     (λ _ is. further c d from rest end (nested_found (inner - 1) (from + 2) rest end is)))
     (λ _ is.
     let next = nested_found inner (from + 1) (d ∷ rest) end is in
-    let later : end - from - 1 ≡ suc (end - (from + 1) - 1) = omega (arith, next.behind) in
-    record { behind = omega (arith, next.behind); within = omega (arith, next.within); last = rw later next.last }))
+    let later : end - from - 1 ≡ suc (end - (from + 1) - 1) = omega (arith, next.after) in
+    record { after = omega (arith, next.after); within = omega (arith, next.within); last = rw later next.last }))
     is

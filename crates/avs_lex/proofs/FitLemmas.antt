@@ -1,4 +1,4 @@
--- A piece has characters, lies in the rest, and ends where a character ends. A token is spelled as its kind says.
+-- A piece has characters, is within the rest, and ends where a character ends. A token is spelled as its kind says.
 use Rattle.std.proofs.Common.{◌≡◌, ◌∙◌, ℕ, ◌+◌, ◌-◌, ◌<◌, ◌≤◌, sym, refl, ap, arith, [], ◌∷◌, ◌++◌, length, take, drop, get_or, replicate, Bool, true, false, not, ◌&&◌, ◌||◌, ◌==◌, nat_lt, nat_le, Option, Some, None, nat_eq, ◌⊎◌, inl, inr, length-take, length-drop, length-take-le, get_or-take, codes, lit<, pos}
 use Rattle.std.specs.List.{starts_with, prefix_len, position_or_len}
 use Rattle.std.specs.Char.{is_ascii_digit, is_ascii_hexdigit}
@@ -7,20 +7,20 @@ use Rattle.std.proofs.lemmas.Bool.Decides.{nat_tests}
 use Rattle.std.proofs.lemmas.List.{length-replicate, take-append-drop, get_or_past, get_or-drop, take-take, drop-take, drop-drop}
 use Rattle.std.proofs.lemmas.List.Sums.{prefix_len-le-length, prefix_len_passes, passes_at_first}
 use Rattle.avs_lex.specs.declared.piece.Piece.{Piece}
-use Rattle.avs_lex.specs.declared.piece.Piece.TheVariants.{Blank, One, Stop, Fault}
+use Rattle.avs_lex.specs.declared.piece.Piece.TheVariants.{Blank, One, EndOfScript, Fault}
 use Rattle.avs_lex.specs.declared.fault.LexKind.{LexKind}
 use Rattle.avs_lex.specs.declared.token.TokenKind.{TokenKind}
 use Rattle.avs_lex.specs.declared.token.TokenKind.TheVariants.{Ident}
 use Rattle.avs_lex.specs.Characters.{Text, newline, quote, hash, dollar, star, dot, slash, left_bracket, backslash, right_bracket, is_newline, is_blank, begins_name, continues_name}
 use Rattle.avs_lex.specs.Spelling.{through, value, spelling, pairs, singles, first_of, triple, quotes_of, IsDecimal, IsHexadecimal, IsQuoted, Spells}
-use Rattle.avs_lex.specs.Piece.{nested_end, comment, text, string, line_end, joined, decimal, hexadecimal, mark, mark_of, front, piece, is_end_line, IsWithin}
+use Rattle.avs_lex.specs.Piece.{nested_end, comment_to, string_to, string, line_end, joined, decimal, hexadecimal, punctuation, punctuation_of, front, piece, is_end_line, IsWithin}
 use Rattle.avs_lex.proofs.TestLemmas.{by_test, either}
 use Rattle.avs_lex.proofs.NumberLemmas.{list_all-taken}
 use Rattle.avs_lex.proofs.WordLemmas.{EndsAt, through_found, through_cut, starts_with_long, starts_with_at, starts_with_take, starts_with_from}
 use Rattle.avs_lex.proofs.CommentLemmas.{nested_found}
-use Rattle.avs_lex.proofs.SpellingLemmas.{IsMarkAt, first_of_marks, Spells-mark}
+use Rattle.avs_lex.proofs.SpellingLemmas.{IsPunctuationAt, first_of_punctuation, Spells-punctuation}
 
--- so many characters, before or behind whose end an ASCII character stands, or nothing
+-- a size at which a character ends: an ASCII character is before or after it, or nothing is after it
 pub record Ends (rest : Text) (size : ℕ) : Type 0 where
   pub some : 0 < size
   pub within : size ≤ length rest
@@ -29,7 +29,7 @@ pub record Ends (rest : Text) (size : ℕ) : Type 0 where
 abbrev pub Fits : Text → Piece → Type 0
 Fits rest (Blank size) = Ends rest size
 Fits rest (One kind size) = Ends rest size × Spells kind (take size rest)
-Fits rest Stop = Unit {0}
+Fits rest EndOfScript = Unit {0}
 Fits rest (Fault kind) = Unit {0}
 
 pub record IsFit (rest : Text) (piece : Piece) : Type 0 where
@@ -38,10 +38,10 @@ pub record IsFit (rest : Text) (piece : Piece) : Type 0 where
 fault : {rest : Text} {kind : LexKind} → IsFit rest (Fault kind)
 fault = record { fits = tt }
 
--- a place where there is a character other than 0 lies in the text
-pub inside : (rest : Text) (place c : ℕ) → get_or rest place 0 ≡ c → 0 < c → place < length rest
-inside rest place c is some = by_test (nat_lt place (length rest)) (λ b. nat_lt place (length rest) ≡ b → place < length rest)
-    (λ _ yes. grind (arith, nat_tests)) (λ _ no. let past : get_or rest place 0 ≡ 0 = get_or_past rest place 0 (grind (arith, nat_tests)) in absurd (omega arith)) refl
+-- the offset of a byte other than 0 is in the text
+pub inside : (rest : Text) (offset c : ℕ) → get_or rest offset 0 ≡ c → 0 < c → offset < length rest
+inside rest offset c is some = by_test (nat_lt offset (length rest)) (λ b. nat_lt offset (length rest) ≡ b → offset < length rest)
+    (λ _ yes. grind (arith, nat_tests)) (λ _ no. let past : get_or rest offset 0 ≡ 0 = get_or_past rest offset 0 (grind (arith, nat_tests)) in absurd (omega arith)) refl
 
 one : (rest : Text) (c : ℕ) → get_or rest 0 0 ≡ c → 0 < c → c < 128 → Ends rest 1
 one rest c is some low = record { some = lit< tt; within = omega (arith, inside rest 0 c is some); whole = inl (omega arith) }
@@ -50,15 +50,15 @@ first_taken : (rest : Text) (c : ℕ) → get_or rest 0 0 ≡ c → 0 < c → ta
 first_taken [] c is some = absurd (omega arith)
 first_taken (d ∷ rest) c is some = rw is refl
 
--- up to and with an ASCII character
-behind : (rest : Text) (place c : ℕ) → get_or rest place 0 ≡ c → 0 < c → c < 128 → Ends rest (1 + place)
-behind rest place c is some low =
-    let there = inside rest place c is some in
-    let last : 1 + place - 1 ≡ place = omega arith in
+-- up to the end of an ASCII character
+up_to : (rest : Text) (offset c : ℕ) → get_or rest offset 0 ≡ c → 0 < c → c < 128 → Ends rest (1 + offset)
+up_to rest offset c is some low =
+    let there = inside rest offset c is some in
+    let last : 1 + offset - 1 ≡ offset = omega arith in
     record { some = omega arith; within = omega arith; whole = inl (rw (last, is) low) }
 
 further : (rest : Text) (blanks c : ℕ) → get_or rest (1 + blanks) 0 ≡ c → 0 < c → c < 128 → Ends rest (2 + blanks)
-further rest blanks c is some low = let e : 1 + (1 + blanks) ≡ 2 + blanks = omega arith in rw e at (behind rest (1 + blanks) c is some low)
+further rest blanks c is some low = let e : 1 + (1 + blanks) ≡ 2 + blanks = omega arith in rw e at (up_to rest (1 + blanks) c is some low)
 
 taken : (p : ℕ → Bool) (rest : Text) → 0 < length rest → p (get_or rest 0 0) ≡ true → 0 < prefix_len p rest
 taken p [] some first = absurd (omega arith)
@@ -123,15 +123,15 @@ hexadecimal_fits rest first =
     rw (e, f) (record { fits = (ends, inr spelled) }))
     (λ f. rw (e, f) fault))
 
-line_end_fits : (depth : ℕ) (rest : Text) → get_or rest 0 0 ≡ newline → IsFit rest (line_end depth rest)
-line_end_fits depth rest first =
+line_end_fits : (open_parentheses : ℕ) (rest : Text) → get_or rest 0 0 ≡ newline → IsFit rest (line_end open_parentheses rest)
+line_end_fits open_parentheses rest first =
     let blanks = prefix_len is_blank (drop 1 rest) in
-    let goal = IsFit rest (line_end depth rest) in
+    let goal = IsFit rest (line_end open_parentheses rest) in
     either (get_or rest (1 + blanks) 0 == backslash) goal
     (λ e.
     let found : get_or rest (1 + blanks) 0 ≡ backslash = grind (arith, nat_tests) in
     rw e (record { fits = further rest blanks backslash found (lit< tt) (lit< tt) }))
-    (λ e. either (depth == 0) goal
+    (λ e. either (open_parentheses == 0) goal
     (λ f. rw (e, f) (record { fits = (one rest newline first (lit< tt) (lit< tt), first_taken rest newline first (lit< tt)) }))
     (λ f. rw (e, f) (record { fits = one rest newline first (lit< tt) (lit< tt) })))
 
@@ -162,62 +162,62 @@ line_comment_fits rest first =
     (λ e. let past : get_or rest size 0 ≡ 0 = get_or_past rest size 0 (grind (arith, nat_tests)) in omega arith) in
     record { fits = record { some = some; within = within; whole = inr next } }
 
--- the end of a word, behind an opening one
+-- the end of a word, after an opening one
 word_ends : (word : Text) (from : ℕ) (rest : Text) (end : ℕ) → EndsAt word from (drop from rest) end → 0 < length word → get_or word (length word - 1) 0 < 128 → from ≤ length rest → Ends rest end
 word_ends word from rest end is some ascii opens =
     let at = end - from - length word in
     let last : get_or (drop at (drop from rest)) (length word - 1) 0 ≡ get_or word (length word - 1) 0 = starts_with_at (drop at (drop from rest)) word (length word - 1) is.starts (omega arith) in
-    let place : from + (at + (length word - 1)) ≡ end - 1 = omega (arith, is.behind) in
+    let offset : from + (at + (length word - 1)) ≡ end - 1 = omega (arith, is.after) in
     let same : get_or (drop at (drop from rest)) (length word - 1) 0 ≡ get_or rest (end - 1) 0 =
-    get_or-drop at (drop from rest) (length word - 1) 0 ∙ get_or-drop from rest (at + (length word - 1)) 0 ∙ ap (λ i. get_or rest i 0) place in
+    get_or-drop at (drop from rest) (length word - 1) 0 ∙ get_or-drop from rest (at + (length word - 1)) 0 ∙ ap (λ i. get_or rest i 0) offset in
     let ascii_last : get_or rest (end - 1) 0 < 128 = omega (arith, last, same) in
-    record { some = omega (arith, is.behind); within = omega (arith, is.within, length-drop from rest); whole = inl ascii_last }
+    record { some = omega (arith, is.after); within = omega (arith, is.within, length-drop from rest); whole = inl ascii_last }
 
-comment_fits : (rest : Text) (end : Option ℕ) → ((size : ℕ) → end ≡ Some size → Ends rest size) → IsFit rest (comment end)
-comment_fits rest None ends = fault
-comment_fits rest (Some size) ends = record { fits = ends size refl }
+comment_to_fits : (rest : Text) (end : Option ℕ) → ((size : ℕ) → end ≡ Some size → Ends rest size) → IsFit rest (comment_to end)
+comment_to_fits rest None ends = fault
+comment_to_fits rest (Some size) ends = record { fits = ends size refl }
 
-block_comment_fits : (rest : Text) → get_or rest 1 0 ≡ star → IsFit rest (comment (through (codes "*/") 2 (drop 2 rest)))
+block_comment_fits : (rest : Text) → get_or rest 1 0 ≡ star → IsFit rest (comment_to (through (codes "*/") 2 (drop 2 rest)))
 block_comment_fits rest second =
     let two : 2 ≤ length rest = inside rest 1 star second (lit< tt) in
-    comment_fits rest (through (codes "*/") 2 (drop 2 rest))
+    comment_to_fits rest (through (codes "*/") 2 (drop 2 rest))
     (λ size is. word_ends (codes "*/") 2 rest size (through_found (codes "*/") 2 (drop 2 rest) size is) (lit< tt) (lit< tt) two)
 
-nested_comment_fits : (rest : Text) → get_or rest 1 0 ≡ star → IsFit rest (comment (nested_end 0 2 (drop 2 rest)))
+nested_comment_fits : (rest : Text) → get_or rest 1 0 ≡ star → IsFit rest (comment_to (nested_end 0 2 (drop 2 rest)))
 nested_comment_fits rest second =
     let two : 2 ≤ length rest = inside rest 1 star second (lit< tt) in
-    comment_fits rest (nested_end 0 2 (drop 2 rest))
+    comment_to_fits rest (nested_end 0 2 (drop 2 rest))
     (λ size is.
     let found = nested_found 0 2 (drop 2 rest) size is in
-    let place : 2 + (size - 2 - 1) ≡ size - 1 = omega (arith, found.behind) in
-    let last : get_or rest (size - 1) 0 ≡ right_bracket = ap (λ i. get_or rest i 0) (sym place) ∙ sym (get_or-drop 2 rest (size - 2 - 1) 0) ∙ found.last in
-    record { some = omega (arith, found.behind); within = omega (arith, found.within, length-drop 2 rest); whole = inl (omega (arith, last)) })
+    let offset : 2 + (size - 2 - 1) ≡ size - 1 = omega (arith, found.after) in
+    let last : get_or rest (size - 1) 0 ≡ right_bracket = ap (λ i. get_or rest i 0) (sym offset) ∙ sym (get_or-drop 2 rest (size - 2 - 1) 0) ∙ found.last in
+    record { some = omega (arith, found.after); within = omega (arith, found.within, length-drop 2 rest); whole = inl (omega (arith, last)) })
 
--- what stands between quotes
+-- a string between quotes
 quoted : (quotes : ℕ) (rest : Text) (end : ℕ) → 0 < quotes → through (replicate quotes quote) quotes (drop quotes rest) ≡ Some end → quotes_of (take end rest) ≡ quotes → starts_with nat_eq rest (replicate quotes quote) ≡ true → EndsAt (replicate quotes quote) quotes (drop quotes rest) end → quotes ≤ length rest
     → IsQuoted (take end rest)
 quoted quotes rest end positive found of opens is some =
     let size : length (replicate quotes quote) ≡ quotes = length-replicate quotes quote in
     let within : end ≤ length rest = omega (arith, is.within, length-drop quotes rest) in
     let long : length (take end rest) ≡ end = length-take-le end rest within in
-    let at : quotes + (end - quotes - length (replicate quotes quote)) ≡ end - quotes = omega (arith, is.behind) in
-    let upto : end - quotes + quotes ≡ end = omega (arith, is.behind) in
-    let further_on : quotes + (end - quotes) ≡ end = omega (arith, is.behind) in
+    let at : quotes + (end - quotes - length (replicate quotes quote)) ≡ end - quotes = omega (arith, is.after) in
+    let upto : end - quotes + quotes ≡ end = omega (arith, is.after) in
+    let further_on : quotes + (end - quotes) ≡ end = omega (arith, is.after) in
     let opening : take quotes rest ≡ replicate quotes quote = ap (λ n. take n rest) (sym size) ∙ starts_with_take rest (replicate quotes quote) opens in
     let cut : drop quotes (take end rest) ≡ take (end - quotes) (drop quotes rest) = ap (λ n. drop quotes (take n rest)) (sym further_on) ∙ drop-take quotes (end - quotes) rest in
     let closing : take quotes (drop (end - quotes) rest) ≡ replicate quotes quote =
     ap (λ n. take n (drop (end - quotes) rest)) (sym size) ∙ ap (take (length (replicate quotes quote))) (ap (λ n. drop n rest) (sym at) ∙ sym (drop-drop (end - quotes - length (replicate quotes quote)) quotes rest))
     ∙ starts_with_take (drop (end - quotes - length (replicate quotes quote)) (drop quotes rest)) (replicate quotes quote) is.starts in
     record {
-      long = rw (of, long) (omega (arith, is.behind));
-      opens = rw of (take-take quotes end rest (omega (arith, is.behind)) ∙ opening);
-      ends = rw (of, long) (ap (λ t. through (replicate quotes quote) quotes t) cut ∙ through_cut (replicate quotes quote) quotes (drop quotes rest) end (end - quotes) found (omega arith) (omega (arith, is.behind)));
+      long = rw (of, long) (omega (arith, is.after));
+      opens = rw of (take-take quotes end rest (omega (arith, is.after)) ∙ opening);
+      ends = rw (of, long) (ap (λ t. through (replicate quotes quote) quotes t) cut ∙ through_cut (replicate quotes quote) quotes (drop quotes rest) end (end - quotes) found (omega arith) (omega (arith, is.after)));
       closes = rw (of, long) (ap (λ n. drop (end - quotes) (take n rest)) (sym upto) ∙ drop-take (end - quotes) quotes rest ∙ closing);
     }
 
-text_fits : (rest : Text) (end : Option ℕ) → ((size : ℕ) → end ≡ Some size → Ends rest size × IsQuoted (take size rest)) → IsFit rest (text end)
-text_fits rest None ends = fault
-text_fits rest (Some size) ends = record { fits = ends size refl }
+string_to_fits : (rest : Text) (end : Option ℕ) → ((size : ℕ) → end ≡ Some size → Ends rest size × IsQuoted (take size rest)) → IsFit rest (string_to end)
+string_to_fits rest None ends = fault
+string_to_fits rest (Some size) ends = record { fits = ends size refl }
 
 pub three_quotes : (rest : Text) (size : ℕ) → starts_with nat_eq rest triple ≡ true → 3 ≤ size → quotes_of (take size rest) ≡ 3
 three_quotes rest size is long = rw (take-take 3 size rest long, is) refl
@@ -236,41 +236,41 @@ string_fits rest first =
     let goal = IsFit rest (string rest) in
     let here = inside rest 0 quote first (lit< tt) in
     either (starts_with nat_eq rest triple) goal
-    (λ e. rw e (text_fits rest (through triple 3 (drop 3 rest)) (λ size is.
+    (λ e. rw e (string_to_fits rest (through triple 3 (drop 3 rest)) (λ size is.
     let found = through_found triple 3 (drop 3 rest) size is in
     let long = starts_with_long rest triple e in
-    (word_ends triple 3 rest size found (lit< tt) (lit< tt) long, quoted 3 rest size (lit< tt) is (three_quotes rest size e (omega (arith, found.behind))) e found long))))
-    (λ e. rw e (text_fits rest (through (quote ∷ []) 1 (drop 1 rest)) (λ size is.
+    (word_ends triple 3 rest size found (lit< tt) (lit< tt) long, quoted 3 rest size (lit< tt) is (three_quotes rest size e (omega (arith, found.after))) e found long))))
+    (λ e. rw e (string_to_fits rest (through (quote ∷ []) 1 (drop 1 rest)) (λ size is.
     let found = through_found (quote ∷ []) 1 (drop 1 rest) size is in
     let opens : rest ≡ (quote ∷ []) ++ drop 1 rest = sym (take-append-drop 1 rest) ∙ ap (λ t. t ++ drop 1 rest) (first_taken rest quote first (lit< tt)) in
     (word_ends (quote ∷ []) 1 rest size found (lit< tt) (lit< tt) here, quoted 1 rest size (lit< tt) is (one_quote rest size e) (starts_with_from rest (quote ∷ []) (drop 1 rest) opens) found here))))
 
-mark_of_fits : (rest : Text) (found : Option TokenKind) → ((kind : TokenKind) → found ≡ Some kind → IsMarkAt kind rest) → IsFit rest (mark_of found)
-mark_of_fits rest None is = fault
-mark_of_fits rest (Some kind) is =
+punctuation_of_fits : (rest : Text) (found : Option TokenKind) → ((kind : TokenKind) → found ≡ Some kind → IsPunctuationAt kind rest) → IsFit rest (punctuation_of found)
+punctuation_of_fits rest None is = fault
+punctuation_of_fits rest (Some kind) is =
     let at = is kind refl in
     let long = starts_with_long rest (spelling kind) at.starts in
     let some : 0 < length (spelling kind) = grind (arith, nat_tests, at.ascii) in
     let low : get_or (spelling kind) (length (spelling kind) - 1) 0 < 128 = grind (arith, nat_tests, at.ascii) in
     let last = starts_with_at rest (spelling kind) (length (spelling kind) - 1) at.starts (omega arith) in
-    record { fits = (record { some = some; within = long; whole = inl (rw last low) }, Spells-mark kind (take (length (spelling kind)) rest) at.mark (starts_with_take rest (spelling kind) at.starts)) }
+    record { fits = (record { some = some; within = long; whole = inl (rw last low) }, Spells-punctuation kind (take (length (spelling kind)) rest) at.punctuation (starts_with_take rest (spelling kind) at.starts)) }
 
-mark_fits : (rest : Text) → IsFit rest (mark rest)
-mark_fits rest = mark_of_fits rest (first_of (pairs ++ singles) rest) (first_of_marks rest)
+punctuation_fits : (rest : Text) → IsFit rest (punctuation rest)
+punctuation_fits rest = punctuation_of_fits rest (first_of (pairs ++ singles) rest) (first_of_punctuation rest)
 
 blank_fits : (rest : Text) → 0 < length rest → is_blank (get_or rest 0 0) ≡ true → IsFit rest (Blank 1)
 blank_fits rest some is = let low : get_or rest 0 0 < 128 = grind (arith, nat_tests) in record { fits = record { some = lit< tt; within = omega arith; whole = inl low } }
 
-pub front_fits : (depth : ℕ) (rest : Text) → 0 < length rest → IsFit rest (front depth rest)
+pub front_fits : (open_parentheses : ℕ) (rest : Text) → 0 < length rest → IsFit rest (front open_parentheses rest)
 unfolding front
-front_fits depth rest some =
+front_fits open_parentheses rest some =
     let first = get_or rest 0 0 in
     let second = get_or rest 1 0 in
-    let goal = IsFit rest (front depth rest) in
+    let goal = IsFit rest (front open_parentheses rest) in
     either (begins_name first) goal (λ e1. rw e1 (name rest some e1))
     (λ e1. either (is_ascii_digit first) goal (λ e2. rw (e1, e2) (decimal_fits rest some e2))
     (λ e2. either (is_blank first) goal (λ e3. rw (e1, e2, e3) (blank_fits rest some e3))
-    (λ e3. either (first == newline) goal (λ e4. rw (e1, e2, e3, e4) (line_end_fits depth rest (grind (arith, nat_tests))))
+    (λ e3. either (first == newline) goal (λ e4. rw (e1, e2, e3, e4) (line_end_fits open_parentheses rest (grind (arith, nat_tests))))
     (λ e4. either (first == backslash) goal (λ e5. rw (e1, e2, e3, e4, e5) (joined_fits rest (grind (arith, nat_tests))))
     (λ e5. either (first == hash) goal (λ e6. rw (e1, e2, e3, e4, e5, e6) (line_comment_fits rest (grind (arith, nat_tests))))
     (λ e6. either (first == slash && second == star) goal (λ e7. rw (e1, e2, e3, e4, e5, e6, e7) (block_comment_fits rest (grind (arith, nat_tests))))
@@ -278,22 +278,22 @@ front_fits depth rest some =
     (λ e8. either (first == quote) goal (λ e9. rw (e1, e2, e3, e4, e5, e6, e7, e8, e9) (string_fits rest (grind (arith, nat_tests))))
     (λ e9. either (first == dollar) goal (λ e10. rw (e1, e2, e3, e4, e5, e6, e7, e8, e9, e10) (hexadecimal_fits rest (grind (arith, nat_tests))))
     (λ e10. either (first == dot && is_ascii_digit second) goal (λ e11. rw (e1, e2, e3, e4, e5, e6, e7, e8, e9, e10, e11) fault)
-    (λ e11. rw (e1, e2, e3, e4, e5, e6, e7, e8, e9, e10, e11) (mark_fits rest))))))))))))
+    (λ e11. rw (e1, e2, e3, e4, e5, e6, e7, e8, e9, e10, e11) (punctuation_fits rest))))))))))))
 
-pub piece_fits : (begins_line : Bool) (depth : ℕ) (rest : Text) → IsFit rest (piece begins_line depth rest)
-piece_fits begins_line depth rest =
-    either (length rest == 0 || (begins_line && is_end_line rest)) (IsFit rest (piece begins_line depth rest))
+pub piece_fits : (begins_line : Bool) (open_parentheses : ℕ) (rest : Text) → IsFit rest (piece begins_line open_parentheses rest)
+piece_fits begins_line open_parentheses rest =
+    either (length rest == 0 || (begins_line && is_end_line rest)) (IsFit rest (piece begins_line open_parentheses rest))
     (λ e. rw e (record { fits = tt }))
-    (λ e. let some : 0 < length rest = grind (arith, nat_tests) in rw e (front_fits depth rest some))
+    (λ e. let some : 0 < length rest = grind (arith, nat_tests) in rw e (front_fits open_parentheses rest some))
 
 within_fit : (rest : Text) (p : Piece) → IsFit rest p → IsWithin rest p
 within_fit rest (Blank size) fit = (fit.fits.some, fit.fits.within)
 within_fit rest (One kind size) fit = (fit.fits.0.some, fit.fits.0.within)
-within_fit rest Stop fit = tt
+within_fit rest EndOfScript fit = tt
 within_fit rest (Fault kind) fit = tt
 
-pub front_within : (depth : ℕ) (rest : Text) → 0 < length rest → IsWithin rest (front depth rest)
-front_within depth rest some = within_fit rest (front depth rest) (front_fits depth rest some)
+pub front_within : (open_parentheses : ℕ) (rest : Text) → 0 < length rest → IsWithin rest (front open_parentheses rest)
+front_within open_parentheses rest some = within_fit rest (front open_parentheses rest) (front_fits open_parentheses rest some)
 
-pub piece_within : (begins_line : Bool) (depth : ℕ) (rest : Text) → IsWithin rest (piece begins_line depth rest)
-piece_within begins_line depth rest = within_fit rest (piece begins_line depth rest) (piece_fits begins_line depth rest)
+pub piece_within : (begins_line : Bool) (open_parentheses : ℕ) (rest : Text) → IsWithin rest (piece begins_line open_parentheses rest)
+piece_within begins_line open_parentheses rest = within_fit rest (piece begins_line open_parentheses rest) (piece_fits begins_line open_parentheses rest)

@@ -11,3 +11,6 @@ pub mod ListLemmas
 pub mod WrittenLemmas
 pub mod ReadBackLemmas
 pub mod LongestLemmas
+pub mod NestedLemmas
+pub mod BadCharLemmas
+pub mod CallerLemmas

@@ -1,4 +1,4 @@
--- The tokens of a text lie in it one behind the other.
+-- The tokens of a text follow one another in it.
 use Rattle.std.proofs.Common.{◌≡◌, ◌∙◌, ◌⊎◌, inl, inr, ◌↔◌, ℕ, ◌+◌, ◌-◌, ◌<◌, ◌≤◌, ap, sym, refl, arith, List, [], ◌∷◌, ◌++◌, length, take, drop, get_or, nat_lt, nat_eq, length-drop, length-take, count_by, IsUtf8, All, cond, subst}
 use lib.Utf8.{encode}
 use Rattle.std.specs.List.{AllAdjacentBelow, starts_with}
@@ -41,59 +41,59 @@ old_or_new tokens one k d within =
     let none : k - length tokens ≡ 0 = omega arith in
     inr (record { last = last; same = get_or-append_right tokens (one ∷ []) (length tokens) k d refl past ∙ ap (λ i. get_or (one ∷ []) i d) none }))
 
--- a later place lies on no earlier line
-pub line_at_rises : (text : Text) (place size : ℕ) → line_at text place ≤ line_at text (place + size)
-line_at_rises text place size = omega (arith, line_at_further text place size)
+-- a later offset is on no earlier line
+pub line_at_rises : (text : Text) (offset size : ℕ) → line_at text offset ≤ line_at text (offset + size)
+line_at_rises text offset size = omega (arith, line_at_further text offset size)
 
-pub line_at_within : (text : Text) (place : ℕ) → line_at text place ≤ 1 + count_by is_newline text
-line_at_within text place = omega (arith, sum_by-take-le {X = ℕ} (λ c. cond (is_newline c) 1 0) text place)
+pub line_at_within : (text : Text) (offset : ℕ) → line_at text offset ≤ 1 + count_by is_newline text
+line_at_within text offset = omega (arith, sum_by-take-le {X = ℕ} (λ c. cond (is_newline c) 1 0) text offset)
 
 -- U+FEFF is one character
-mark_utf8 : IsUtf8 (239 ∷ 187 ∷ 191 ∷ [])
+byte_order_mark_utf8 : IsUtf8 (239 ∷ 187 ∷ 191 ∷ [])
 unfolding encode
-mark_utf8 = (65279 ∷ [], (refl, refl))
+byte_order_mark_utf8 = (65279 ∷ [], (refl, refl))
 
 start_whole : (text : Text) → IsUtf8 text → IsCharBoundary text (start_of text)
 start_whole text utf8 =
     either (starts_with nat_eq text (239 ∷ 187 ∷ 191 ∷ [])) (IsCharBoundary text (start_of text))
     (λ e.
-    let mark : IsUtf8 (take 3 text) = rw (starts_with_take text (239 ∷ 187 ∷ 191 ∷ []) e) mark_utf8 in
-    rw e (IsCharBoundary-from_take text 3 utf8 (starts_with_long text (239 ∷ 187 ∷ 191 ∷ []) e) mark))
+    let three : IsUtf8 (take 3 text) = rw (starts_with_take text (239 ∷ 187 ∷ 191 ∷ []) e) byte_order_mark_utf8 in
+    rw e (IsCharBoundary-from_take text 3 utf8 (starts_with_long text (239 ∷ 187 ∷ 191 ∷ []) e) three))
     (λ e. rw e (IsCharBoundary-start text utf8))
 
 -- a piece ends where a character ends
-piece_whole : (text : Text) (place size : ℕ) → IsUtf8 text → place ≤ length text → Ends (drop place text) size → IsCharBoundary text (place + size)
-piece_whole text place size utf8 inside ends =
-    let fits : place + size ≤ length text = omega (arith, ends.within, length-drop place text) in
-    elim ends.whole as (λ _. IsCharBoundary text (place + size)) [
+piece_whole : (text : Text) (offset size : ℕ) → IsUtf8 text → offset ≤ length text → Ends (drop offset text) size → IsCharBoundary text (offset + size)
+piece_whole text offset size utf8 inside ends =
+    let fits : offset + size ≤ length text = omega (arith, ends.within, length-drop offset text) in
+    elim ends.whole as (λ _. IsCharBoundary text (offset + size)) [
       | inl low ↦
-          let last : get_or text (place + (size - 1)) 0 < 128 = rw (get_or-drop place text (size - 1) 0) at low in
-          let next : place + (size - 1) + 1 ≡ place + size = omega (arith, ends.some) in
-          subst (IsCharBoundary text) next (IsCharBoundary-after_ascii text (place + (size - 1)) utf8 (omega (arith, ends.some)) last)
+          let last : get_or text (offset + (size - 1)) 0 < 128 = rw (get_or-drop offset text (size - 1) 0) at low in
+          let next : offset + (size - 1) + 1 ≡ offset + size = omega (arith, ends.some) in
+          subst (IsCharBoundary text) next (IsCharBoundary-after_ascii text (offset + (size - 1)) utf8 (omega (arith, ends.some)) last)
       | inr low ↦
-          either (nat_lt (place + size) (length text)) (IsCharBoundary text (place + size))
-          (λ e. IsCharBoundary-before_ascii text (place + size) (grind (arith, nat_tests)) (rw (get_or-drop place text size 0) at low))
-          (λ e. let all : length text ≡ place + size = grind (arith, nat_tests) in subst (IsCharBoundary text) all (IsCharBoundary-end text))
+          either (nat_lt (offset + size) (length text)) (IsCharBoundary text (offset + size))
+          (λ e. IsCharBoundary-before_ascii text (offset + size) (grind (arith, nat_tests)) (rw (get_or-drop offset text size 0) at low))
+          (λ e. let all : length text ≡ offset + size = grind (arith, nat_tests) in subst (IsCharBoundary text) all (IsCharBoundary-end text))
     ]
 
--- the token that stands at a place
-token_is : (text : Text) (place size : ℕ) (kind : TokenKind) → IsUtf8 text → place ≤ length text → IsCharBoundary text place → Ends (drop place text) size → Spells kind (take size (drop place text))
-    → IsTokenOf text (token_at text kind size place)
-token_is text place size kind utf8 inside whole ends spelled = record {
+-- the token at an offset
+token_is : (text : Text) (offset size : ℕ) (kind : TokenKind) → IsUtf8 text → offset ≤ length text → IsCharBoundary text offset → Ends (drop offset text) size → Spells kind (take size (drop offset text))
+    → IsTokenOf text (token_at text kind size offset)
+token_is text offset size kind utf8 inside whole ends spelled = record {
   ordered = omega arith;
-  inside = omega (arith, ends.within, length-drop place text);
+  inside = omega (arith, ends.within, length-drop offset text);
   starts_whole = whole;
-  ends_whole = piece_whole text place size utf8 inside ends;
-  spelled = let e : place + size - place ≡ size = omega arith in rw e spelled;
+  ends_whole = piece_whole text offset size utf8 inside ends;
+  spelled = let e : offset + size - offset ≡ size = omega arith in rw e spelled;
   line = refl;
   first_line = omega arith;
-  last_line = line_at_within text place;
+  last_line = line_at_within text offset;
 }
 
-end_is : (text : Text) (place : ℕ) → place ≤ length text → IsCharBoundary text place → IsTokenOf text (token_at text End 0 place)
-end_is text place inside whole =
-    let e : place + 0 ≡ place = omega arith in
-    let none : place - place ≡ 0 = omega arith in
+end_is : (text : Text) (offset : ℕ) → offset ≤ length text → IsCharBoundary text offset → IsTokenOf text (token_at text End 0 offset)
+end_is text offset inside whole =
+    let e : offset + 0 ≡ offset = omega arith in
+    let none : offset - offset ≡ 0 = omega arith in
     record {
       ordered = omega arith;
       inside = omega arith;
@@ -102,28 +102,28 @@ end_is text place inside whole =
       spelled = rw (e, none) refl;
       line = refl;
       first_line = omega arith;
-      last_line = line_at_within text place;
+      last_line = line_at_within text offset;
     }
 
--- what the tokens are like that were read up to a place
-pub record IsListTo (text : Text) (place : ℕ) (tokens : List Token) : Type 0 where
-  pub within : place ≤ length text
-  pub whole : IsCharBoundary text place
+-- what the tokens are that were read up to an offset
+pub record IsListTo (text : Text) (offset : ℕ) (tokens : List Token) : Type 0 where
+  pub within : offset ≤ length text
+  pub whole : IsCharBoundary text offset
   pub each : All (IsTokenOf text) tokens
-  pub before : (k : ℕ) (d : Token) → k < length tokens → (get_or tokens k d).end ≤ place
-  pub lines_before : (k : ℕ) (d : Token) → k < length tokens → (get_or tokens k d).line ≤ line_at text place
+  pub before : (k : ℕ) (d : Token) → k < length tokens → (get_or tokens k d).end ≤ offset
+  pub lines_before : (k : ℕ) (d : Token) → k < length tokens → (get_or tokens k d).line ≤ line_at text offset
   pub open_ : (k : ℕ) (d : Token) → k < length tokens → (get_or tokens k d).kind ≡ End → ⊥
   pub apart : AllAdjacentBelow (λ one next. one.end ≤ next.start) tokens (length tokens)
   pub lines_rise : AllAdjacentBelow (λ one next. one.line ≤ next.line) tokens (length tokens)
 
-fits_at : (text : Text) (place depth : ℕ) (found : Piece) → piece_at text depth place ≡ found → Fits (drop place text) found
-fits_at text place depth found is = subst (Fits (drop place text)) is (piece_fits (begins_line text place) depth (drop place text)).fits
+fits_at : (text : Text) (offset open_parentheses : ℕ) (found : Piece) → piece_at text open_parentheses offset ≡ found → Fits (drop offset text) found
+fits_at text offset open_parentheses found is = subst (Fits (drop offset text)) is (piece_fits (begins_line text offset) open_parentheses (drop offset text)).fits
 
-blank_ends : (text : Text) (place depth size : ℕ) → piece_at text depth place ≡ Blank size → Ends (drop place text) size
-blank_ends text place depth size is = fits_at text place depth (Blank size) is
+blank_ends : (text : Text) (offset open_parentheses size : ℕ) → piece_at text open_parentheses offset ≡ Blank size → Ends (drop offset text) size
+blank_ends text offset open_parentheses size is = fits_at text offset open_parentheses (Blank size) is
 
-pub token_fits : (text : Text) (place depth : ℕ) (kind : TokenKind) (size : ℕ) → piece_at text depth place ≡ One kind size → Ends (drop place text) size × Spells kind (take size (drop place text))
-token_fits text place depth kind size is = fits_at text place depth (One kind size) is
+pub token_fits : (text : Text) (offset open_parentheses : ℕ) (kind : TokenKind) (size : ℕ) → piece_at text open_parentheses offset ≡ One kind size → Ends (drop offset text) size × Spells kind (take size (drop offset text))
+token_fits text offset open_parentheses kind size is = fits_at text offset open_parentheses (One kind size) is
 
 -- a token that has characters is not the end
 not_end : (rest : Text) (size : ℕ) (kind : TokenKind) → Ends rest size → Spells kind (take size rest) → kind ≡ End → ⊥
@@ -131,7 +131,7 @@ not_end rest size kind ends spelled is =
     let none : take size rest ≡ [] = subst (λ kind. Spells kind (take size rest)) is spelled in
     absurd (omega (arith, ap length none, length-take size rest, ends.some, ends.within))
 
--- the list with a token more that stands at this place
+-- the list with one more token, which begins at this offset
 all_more : (text : Text) (tokens : List Token) (one : Token) → All (IsTokenOf text) tokens → IsTokenOf text one → All (IsTokenOf text) (tokens ++ one ∷ [])
 all_more text tokens one each is k d within =
     elim (old_or_new tokens one k d within) as (λ _. IsTokenOf text (get_or (tokens ++ one ∷ []) k d)) [
@@ -149,32 +149,32 @@ apart_more tokens one R adjacent last k d within =
       | inr new ↦ rw (here, new.same) (last k d low)
     ]
 
-list_more : (text : Text) (place size : ℕ) (tokens : List Token) (kind : TokenKind) → IsUtf8 text → IsListTo text place tokens → Ends (drop place text) size → Spells kind (take size (drop place text))
-    → IsListTo text (place + size) (tokens ++ token_at text kind size place ∷ [])
-list_more text place size tokens kind utf8 list ends spelled =
-    let one = token_at text kind size place in
+list_more : (text : Text) (offset size : ℕ) (tokens : List Token) (kind : TokenKind) → IsUtf8 text → IsListTo text offset tokens → Ends (drop offset text) size → Spells kind (take size (drop offset text))
+    → IsListTo text (offset + size) (tokens ++ token_at text kind size offset ∷ [])
+list_more text offset size tokens kind utf8 list ends spelled =
+    let one = token_at text kind size offset in
     record {
-      within = omega (arith, ends.within, length-drop place text, list.within);
-      whole = piece_whole text place size utf8 list.within ends;
-      each = all_more text tokens one list.each (token_is text place size kind utf8 list.within list.whole ends spelled);
-      before = λ k d low. elim (old_or_new tokens one k d low) as (λ _. (get_or (tokens ++ one ∷ []) k d).end ≤ place + size) [
+      within = omega (arith, ends.within, length-drop offset text, list.within);
+      whole = piece_whole text offset size utf8 list.within ends;
+      each = all_more text tokens one list.each (token_is text offset size kind utf8 list.within list.whole ends spelled);
+      before = λ k d low. elim (old_or_new tokens one k d low) as (λ _. (get_or (tokens ++ one ∷ []) k d).end ≤ offset + size) [
         | inl old ↦ rw old.same (omega (arith, list.before k d old.low))
         | inr new ↦ rw new.same (omega arith)
       ];
-      lines_before = λ k d low. elim (old_or_new tokens one k d low) as (λ _. (get_or (tokens ++ one ∷ []) k d).line ≤ line_at text (place + size)) [
-        | inl old ↦ rw old.same (omega (arith, list.lines_before k d old.low, line_at_rises text place size))
-        | inr new ↦ rw new.same (line_at_rises text place size)
+      lines_before = λ k d low. elim (old_or_new tokens one k d low) as (λ _. (get_or (tokens ++ one ∷ []) k d).line ≤ line_at text (offset + size)) [
+        | inl old ↦ rw old.same (omega (arith, list.lines_before k d old.low, line_at_rises text offset size))
+        | inr new ↦ rw new.same (line_at_rises text offset size)
       ];
       open_ = λ k d low is. elim (old_or_new tokens one k d low) as (λ _. (get_or (tokens ++ one ∷ []) k d).kind ≡ End → ⊥) [
         | inl old ↦ λ is. list.open_ k d old.low (ap (λ (t : Token). t.kind) (sym old.same) ∙ is)
-        | inr new ↦ λ is. not_end (drop place text) size kind ends spelled (ap (λ (t : Token). t.kind) (sym new.same) ∙ is)
+        | inr new ↦ λ is. not_end (drop offset text) size kind ends spelled (ap (λ (t : Token). t.kind) (sym new.same) ∙ is)
       ] is;
       apart = apart_more tokens one (λ one next. one.end ≤ next.start) list.apart list.before;
       lines_rise = apart_more tokens one (λ one next. one.line ≤ next.line) list.lines_rise list.lines_before;
     }
 
-list_to : (text : Text) (place depth : ℕ) (tokens : List Token) → IsUtf8 text → ReadTo text place depth tokens → IsListTo text place tokens
-list_to text place depth tokens utf8 begin = record {
+list_to : (text : Text) (offset open_parentheses : ℕ) (tokens : List Token) → IsUtf8 text → ReadTo text offset open_parentheses tokens → IsListTo text offset tokens
+list_to text offset open_parentheses tokens utf8 begin = record {
   within = start_within text;
   whole = start_whole text utf8;
   each = λ k d low. absurd (omega arith);
@@ -184,9 +184,9 @@ list_to text place depth tokens utf8 begin = record {
   apart = λ k d low. absurd (omega arith);
   lines_rise = λ k d low. absurd (omega arith);
 }
-list_to text place depth tokens utf8 (blank {place = old} size read piece) =
-    let list = list_to text old depth tokens utf8 read in
-    let ends = blank_ends text old depth size piece in
+list_to text offset open_parentheses tokens utf8 (blank {offset = old} size read piece) =
+    let list = list_to text old open_parentheses tokens utf8 read in
+    let ends = blank_ends text old open_parentheses size piece in
     record {
       within = omega (arith, ends.within, length-drop old text, list.within);
       whole = piece_whole text old size utf8 list.within ends;
@@ -197,21 +197,21 @@ list_to text place depth tokens utf8 (blank {place = old} size read piece) =
       apart = list.apart;
       lines_rise = list.lines_rise;
     }
-list_to text place depth tokens utf8 (token {place = old} {depth = outside} {tokens = before} kind size read piece) =
+list_to text offset open_parentheses tokens utf8 (token {offset = old} {open_parentheses = outside} {tokens = before} kind size read piece) =
     let fits = token_fits text old outside kind size piece in
     list_more text old size before kind utf8 (list_to text old outside before utf8 read) fits.0 fits.1
 
 pub is_listed : (text : Text) (tokens : List Token) → IsUtf8 text → Tokens text tokens → IsTokenList text tokens
 is_listed text tokens utf8 are =
-    let list = list_to text are.place are.depth are.before utf8 are.read in
-    let one = token_at text End 0 are.place in
+    let list = list_to text are.offset are.open_parentheses are.before utf8 are.read in
+    let one = token_at text End 0 are.offset in
     rw are.are (record {
       some = omega (arith, length_push are.before one);
       ended = λ k d low. elim (old_or_new are.before one k d low) as (λ _. ((get_or (are.before ++ one ∷ []) k d).kind ≡ End) ↔ (k + 1 ≡ length (are.before ++ one ∷ []))) [
         | inl old ↦ (λ is. absurd (list.open_ k d old.low (ap (λ (t : Token). t.kind) (sym old.same) ∙ is)), λ last. absurd (omega (arith, old.low, length_push are.before one)))
         | inr new ↦ (λ _. omega (arith, new.last, length_push are.before one), λ _. ap (λ (t : Token). t.kind) new.same)
       ];
-      each = all_more text are.before one list.each (end_is text are.place list.within list.whole);
+      each = all_more text are.before one list.each (end_is text are.offset list.within list.whole);
       apart = apart_more are.before one (λ one next. one.end ≤ next.start) list.apart list.before;
       lines_rise = apart_more are.before one (λ one next. one.line ≤ next.line) list.lines_rise list.lines_before;
     })

@@ -13,7 +13,7 @@ pub grows : (n : ℕ) (digits : Text) → n ≤ fold (λ n c. 10 * n + digit_val
 grows n [] = omega arith
 grows n (d ∷ digits) = omega (arith, grows (10 * n + digit_value d) digits)
 
--- what is past the bound already stays so
+-- a number over the bound stays over it
 pub too_large : (n number : ℕ) → 2147483647 < n → n ≤ number → (if nat_le number 2147483647 then Some (pos number) else None) ≡ None
 too_large n number past more = grind (arith, nat_tests)
 
@@ -27,7 +27,7 @@ list_all-taken p (c ∷ rest) =
     (λ is. let e : 1 + prefix_len p rest ≡ suc (prefix_len p rest) = omega arith in rw (e, is) (list_all-taken p rest))
     (λ _. refl)
 
--- a number of so many hexadecimal digits, and one digit more
+-- the bound of a number of n hexadecimal digits, and of one digit more
 pub sixteen_times : (n d i : ℕ) → n < 16 ^ i → d < 16 → 16 * n + d < 16 ^ (i + 1)
 sixteen_times n d i small digit = grind (arith, common_steps)
 

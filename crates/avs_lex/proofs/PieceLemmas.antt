@@ -1,8 +1,8 @@
--- Where no other case fits, a mark stands at the front, or nothing that is known.
+-- Where no other case fits, the front is punctuation or a fault.
 use Rattle.std.proofs.Common.{◌≡◌, ℕ, get_or, false, ◌==◌}
 use Rattle.std.specs.Char.{is_ascii_digit}
 use Rattle.avs_lex.specs.Characters.{Text, begins_name}
-use Rattle.avs_lex.specs.Piece.{front, mark}
+use Rattle.avs_lex.specs.Piece.{front, punctuation}
 
 -- a character that begins nothing else
 pub record IsOther (first : ℕ) : Type 0 where
@@ -20,7 +20,7 @@ pub record IsOther (first : ℕ) : Type 0 where
   pub dollar : (first == 36) ≡ false
   pub dot : (first == 46) ≡ false
 
-pub front_mark : (depth : ℕ) (rest : Text) → IsOther (get_or rest 0 0) → front depth rest ≡ mark rest
+pub front_punctuation : (open_parentheses : ℕ) (rest : Text) → IsOther (get_or rest 0 0) → front open_parentheses rest ≡ punctuation rest
 unfolding front
-front_mark depth rest other =
+front_punctuation open_parentheses rest other =
     rw (other.name, other.digit, other.space, other.tab, other.return, other.newline, other.backslash, other.hash, other.slash, other.bracket, other.quote, other.dollar, other.dot)

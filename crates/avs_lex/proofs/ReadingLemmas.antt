@@ -2,19 +2,19 @@
 use Rattle.std.proofs.Common.{◌≡◌, ◌∙◌, ◌⊎◌, inl, inr, ℕ, zero, suc, ◌+◌, ◌-◌, ◌<◌, ◌≤◌, ap, sym, refl, arith, List, [], ◌∷◌, ◌++◌, length, drop, Option, Some, None, Result, Ok, Err, append_assoc, length-drop, nat_eq}
 use Rattle.std.specs.List.{starts_with}
 use Rattle.avs_lex.specs.declared.piece.Piece.{Piece}
-use Rattle.avs_lex.specs.declared.piece.Piece.TheVariants.{Blank, One, Stop, Fault}
+use Rattle.avs_lex.specs.declared.piece.Piece.TheVariants.{Blank, One, EndOfScript, Fault}
 use Rattle.avs_lex.specs.declared.fault.LexKind.{LexKind}
 use Rattle.avs_lex.specs.declared.token.Token.{Token}
 use Rattle.avs_lex.specs.declared.token.TokenKind.TheVariants.{End}
 use Rattle.avs_lex.specs.Characters.{Text}
 use Rattle.avs_lex.specs.Piece.{IsWithin}
-use Rattle.avs_lex.specs.Tokens.{start_of, line_at, begins_line, piece_at, token_at, depth_after, ReadTo, begin, blank, token, Tokens, LexFault}
+use Rattle.avs_lex.specs.Tokens.{start_of, line_at, begins_line, piece_at, token_at, open_parentheses_after, ReadTo, begin, blank, token, Tokens, LexFault}
 use Rattle.avs_lex.specs.Laws.{HasOneReading}
 use Rattle.avs_lex.proofs.TestLemmas.{either}
 use Rattle.avs_lex.proofs.WordLemmas.{starts_with_long}
 use Rattle.avs_lex.proofs.FitLemmas.{piece_within}
 
--- what reading on from a place gives, in so many steps at most: tokens, or a kind of fault and a line
+-- what reading on from an offset gives, in n steps at most: tokens, or a kind of fault and a line
 abbrev pub Outcome : Type 0
 Outcome = Option (Result (List Token) (LexKind × ℕ))
 
@@ -46,71 +46,71 @@ same_fault kind other line line' same = let pair : (kind, line) ≡ (other, line
 
 module _ (text : Text) where
   abbrev pub go_on : Piece → ℕ → ℕ → (ℕ → ℕ → Outcome) → Outcome
-  go_on (Blank size) place depth rest = rest (place + size) depth
-  go_on (One kind size) place depth rest = after (token_at text kind size place ∷ []) (rest (place + size) (depth_after kind depth))
-  go_on Stop place depth rest = Some (Ok (token_at text End 0 place ∷ []))
-  go_on (Fault kind) place depth rest = Some (Err (kind, line_at text place))
+  go_on (Blank size) offset open_parentheses rest = rest (offset + size) open_parentheses
+  go_on (One kind size) offset open_parentheses rest = after (token_at text kind size offset ∷ []) (rest (offset + size) (open_parentheses_after kind open_parentheses))
+  go_on EndOfScript offset open_parentheses rest = Some (Ok (token_at text End 0 offset ∷ []))
+  go_on (Fault kind) offset open_parentheses rest = Some (Err (kind, line_at text offset))
 
   abbrev pub outcome : ℕ → ℕ → ℕ → Outcome
-  outcome zero place depth = None
-  outcome (suc n) place depth = go_on (piece_at text depth place) place depth (outcome n)
+  outcome zero offset open_parentheses = None
+  outcome (suc n) offset open_parentheses = go_on (piece_at text open_parentheses offset) offset open_parentheses (outcome n)
 
-  go_on_more : (p : Piece) (place depth : ℕ) (one other : ℕ → ℕ → Outcome) (result : Result (List Token) (LexKind × ℕ))
-      → ((place depth : ℕ) (r : Result (List Token) (LexKind × ℕ)) → one place depth ≡ Some r → other place depth ≡ Some r) → go_on p place depth one ≡ Some result → go_on p place depth other ≡ Some result
-  go_on_more (Blank size) place depth one other result same is = same (place + size) depth result is
-  go_on_more (One kind size) place depth one other result same is =
-      after_more (token_at text kind size place ∷ []) (one (place + size) (depth_after kind depth)) (other (place + size) (depth_after kind depth)) result (same (place + size) (depth_after kind depth)) is
-  go_on_more Stop place depth one other result same is = is
-  go_on_more (Fault kind) place depth one other result same is = is
+  go_on_more : (p : Piece) (offset open_parentheses : ℕ) (one other : ℕ → ℕ → Outcome) (result : Result (List Token) (LexKind × ℕ))
+      → ((offset open_parentheses : ℕ) (r : Result (List Token) (LexKind × ℕ)) → one offset open_parentheses ≡ Some r → other offset open_parentheses ≡ Some r) → go_on p offset open_parentheses one ≡ Some result → go_on p offset open_parentheses other ≡ Some result
+  go_on_more (Blank size) offset open_parentheses one other result same is = same (offset + size) open_parentheses result is
+  go_on_more (One kind size) offset open_parentheses one other result same is =
+      after_more (token_at text kind size offset ∷ []) (one (offset + size) (open_parentheses_after kind open_parentheses)) (other (offset + size) (open_parentheses_after kind open_parentheses)) result (same (offset + size) (open_parentheses_after kind open_parentheses)) is
+  go_on_more EndOfScript offset open_parentheses one other result same is = is
+  go_on_more (Fault kind) offset open_parentheses one other result same is = is
 
   -- more steps change nothing
-  more_steps : (n k place depth : ℕ) (result : Result (List Token) (LexKind × ℕ)) → outcome n place depth ≡ Some result → outcome (n + k) place depth ≡ Some result
-  more_steps zero k place depth result is = cc
-  more_steps (suc n) k place depth result is =
+  more_steps : (n k offset open_parentheses : ℕ) (result : Result (List Token) (LexKind × ℕ)) → outcome n offset open_parentheses ≡ Some result → outcome (n + k) offset open_parentheses ≡ Some result
+  more_steps zero k offset open_parentheses result is = cc
+  more_steps (suc n) k offset open_parentheses result is =
       let e : suc n + k ≡ suc (n + k) = omega arith in
-      rw e (go_on_more (piece_at text depth place) place depth (outcome n) (outcome (n + k)) result (more_steps n k) is)
+      rw e (go_on_more (piece_at text open_parentheses offset) offset open_parentheses (outcome n) (outcome (n + k)) result (more_steps n k) is)
 
-  same_result : (n m place depth : ℕ) (one other : Result (List Token) (LexKind × ℕ)) → outcome n place depth ≡ Some one → outcome m place depth ≡ Some other → one ≡ other
-  same_result n m place depth one other is also =
+  same_result : (n m offset open_parentheses : ℕ) (one other : Result (List Token) (LexKind × ℕ)) → outcome n offset open_parentheses ≡ Some one → outcome m offset open_parentheses ≡ Some other → one ≡ other
+  same_result n m offset open_parentheses one other is also =
       let e : n + m ≡ m + n = omega arith in
-      let first = more_steps n m place depth one is in
-      let second = more_steps m n place depth other also in
+      let first = more_steps n m offset open_parentheses one is in
+      let second = more_steps m n offset open_parentheses other also in
       let swapped = rw e at first in
       cc (swapped, second)
 
-  -- what is read up to a place, and what reading on from there gives
-  whole : (place depth : ℕ) (tokens : List Token) → ReadTo text place depth tokens → (n : ℕ) (result : Result (List Token) (LexKind × ℕ)) → outcome n place depth ≡ Some result
+  -- what is read up to an offset, and what reading on from there gives
+  whole : (offset open_parentheses : ℕ) (tokens : List Token) → ReadTo text offset open_parentheses tokens → (n : ℕ) (result : Result (List Token) (LexKind × ℕ)) → outcome n offset open_parentheses ≡ Some result
       → (m : ℕ) × (outcome m (start_of text) 0 ≡ Some (with_all tokens result))
-  whole place depth tokens begin n result is = (n, rw with_none is)
-  whole place depth tokens (blank {place = old} size read piece) n result is = whole old depth tokens read (suc n) result (rw piece is)
-  whole place depth tokens (token {place = old} {depth = outside} {tokens = before} kind size read piece) n result is =
+  whole offset open_parentheses tokens begin n result is = (n, rw with_none is)
+  whole offset open_parentheses tokens (blank {offset = old} size read piece) n result is = whole old open_parentheses tokens read (suc n) result (rw piece is)
+  whole offset open_parentheses tokens (token {offset = old} {open_parentheses = outside} {tokens = before} kind size read piece) n result is =
       let one = token_at text kind size old in
       let found = whole old outside before read (suc n) (with_all (one ∷ []) result) (rw piece (ap (after (one ∷ [])) is)) in
       (found.0, found.1 ∙ ap Some (with_two before (one ∷ []) result))
 
   whole_tokens : (tokens : List Token) → Tokens text tokens → (m : ℕ) × (outcome m (start_of text) 0 ≡ Some (Ok tokens))
   whole_tokens tokens are =
-      let found = whole are.place are.depth are.before are.read 1 (Ok (token_at text End 0 are.place ∷ [])) (rw are.stops refl) in
+      let found = whole are.offset are.open_parentheses are.before are.read 1 (Ok (token_at text End 0 are.offset ∷ [])) (rw are.ends refl) in
       (found.0, found.1 ∙ ap (λ ts. Some (Ok ts)) (sym are.are))
 
   whole_fault : (kind : LexKind) (line : ℕ) → LexFault text kind line → (m : ℕ) × (outcome m (start_of text) 0 ≡ Some (Err (kind, line)))
   whole_fault kind line fault =
-      let found = whole fault.place fault.depth fault.before fault.read 1 (Err (kind, line_at text fault.place)) (rw fault.fails refl) in
+      let found = whole fault.offset fault.open_parentheses fault.before fault.read 1 (Err (kind, line_at text fault.offset)) (rw fault.fails refl) in
       (found.0, found.1 ∙ ap (λ l. Some (Err (kind, l))) (sym fault.is))
 
   abbrev Reading : Type 0
   Reading = ((tokens : List Token) × Tokens text tokens) ⊎ ((kind : LexKind) × (line : ℕ) × LexFault text kind line)
 
-  -- from each place that is read up to, the text is read to an end
-  ends : (n place depth : ℕ) (tokens : List Token) → ReadTo text place depth tokens → place ≤ length text → length text - place < n → Reading
-  ends zero place depth tokens read within few = absurd (omega arith)
-  ends (suc n) place depth tokens read within few =
-      elim (piece_at text depth place) as (λ p. piece_at text depth place ≡ p → IsWithin (drop place text) p → Reading) [
-        | Blank size ↦ λ is fits. ends n (place + size) depth tokens (blank size read is) (omega (arith, fits.1, length-drop place text)) (omega (arith, fits.0, fits.1, length-drop place text))
-        | One kind size ↦ λ is fits. ends n (place + size) (depth_after kind depth) (tokens ++ token_at text kind size place ∷ []) (token kind size read is) (omega (arith, fits.1, length-drop place text)) (omega (arith, fits.0, fits.1, length-drop place text))
-        | Stop ↦ λ is fits. inl (tokens ++ token_at text End 0 place ∷ [], record { place = place; depth = depth; before = tokens; read = read; stops = is; are = refl })
-        | Fault kind ↦ λ is fits. inr (kind, line_at text place, record { place = place; depth = depth; before = tokens; read = read; fails = is; is = refl })
-      ] refl (piece_within (begins_line text place) depth (drop place text))
+  -- from each offset that is reached, the text is read to its end or to a fault
+  ends : (n offset open_parentheses : ℕ) (tokens : List Token) → ReadTo text offset open_parentheses tokens → offset ≤ length text → length text - offset < n → Reading
+  ends zero offset open_parentheses tokens read within few = absurd (omega arith)
+  ends (suc n) offset open_parentheses tokens read within few =
+      elim (piece_at text open_parentheses offset) as (λ p. piece_at text open_parentheses offset ≡ p → IsWithin (drop offset text) p → Reading) [
+        | Blank size ↦ λ is fits. ends n (offset + size) open_parentheses tokens (blank size read is) (omega (arith, fits.1, length-drop offset text)) (omega (arith, fits.0, fits.1, length-drop offset text))
+        | One kind size ↦ λ is fits. ends n (offset + size) (open_parentheses_after kind open_parentheses) (tokens ++ token_at text kind size offset ∷ []) (token kind size read is) (omega (arith, fits.1, length-drop offset text)) (omega (arith, fits.0, fits.1, length-drop offset text))
+        | EndOfScript ↦ λ is fits. inl (tokens ++ token_at text End 0 offset ∷ [], record { offset = offset; open_parentheses = open_parentheses; before = tokens; read = read; ends = is; are = refl })
+        | Fault kind ↦ λ is fits. inr (kind, line_at text offset, record { offset = offset; open_parentheses = open_parentheses; before = tokens; read = read; fails = is; is = refl })
+      ] refl (piece_within (begins_line text offset) open_parentheses (drop offset text))
 
 pub start_within : (text : Text) → start_of text ≤ length text
 start_within text = either (starts_with nat_eq text (239 ∷ 187 ∷ 191 ∷ [])) (start_of text ≤ length text)

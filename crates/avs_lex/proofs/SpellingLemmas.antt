@@ -25,32 +25,32 @@ found_among all test (k ∷ kinds) kind each is =
     (λ _ is. found_among all test kinds kind rest is) is
 
 -- punctuation
-abbrev pub is_mark : TokenKind → Bool
-is_mark Ident = false
-is_mark (Int n) = false
-is_mark Str = false
-is_mark Newline = false
-is_mark End = false
-is_mark kind = true
+abbrev pub is_punctuation : TokenKind → Bool
+is_punctuation Ident = false
+is_punctuation (Int n) = false
+is_punctuation Str = false
+is_punctuation Newline = false
+is_punctuation End = false
+is_punctuation kind = true
 
 -- it has characters, and the last is an ASCII character
 abbrev pub ends_ascii : TokenKind → Bool
 ends_ascii kind = nat_lt 0 (length (spelling kind)) && nat_lt (get_or (spelling kind) (length (spelling kind) - 1) 0) 128
 
-pub Spells-mark : (kind : TokenKind) (bytes : Text) → is_mark kind ≡ true → bytes ≡ spelling kind → Spells kind bytes
-Spells-mark Ident bytes is spelled = cc
-Spells-mark (Int n) bytes is spelled = cc
-Spells-mark Str bytes is spelled = cc
-Spells-mark kind bytes is spelled = spelled
+pub Spells-punctuation : (kind : TokenKind) (bytes : Text) → is_punctuation kind ≡ true → bytes ≡ spelling kind → Spells kind bytes
+Spells-punctuation Ident bytes is spelled = cc
+Spells-punctuation (Int n) bytes is spelled = cc
+Spells-punctuation Str bytes is spelled = cc
+Spells-punctuation kind bytes is spelled = spelled
 
-pub record IsMarkAt (kind : TokenKind) (rest : Text) : Type 0 where
+pub record IsPunctuationAt (kind : TokenKind) (rest : Text) : Type 0 where
   pub starts : starts_with nat_eq rest (spelling kind) ≡ true
-  pub mark : is_mark kind ≡ true
+  pub punctuation : is_punctuation kind ≡ true
   pub ascii : ends_ascii kind ≡ true
 
-pub first_of_marks : (rest : Text) (kind : TokenKind) → first_of (pairs ++ singles) rest ≡ Some kind → IsMarkAt kind rest
-first_of_marks rest kind is = record {
+pub first_of_punctuation : (rest : Text) (kind : TokenKind) → first_of (pairs ++ singles) rest ≡ Some kind → IsPunctuationAt kind rest
+first_of_punctuation rest kind is = record {
   starts = found_passes (λ kind. starts_with nat_eq rest (spelling kind)) (pairs ++ singles) kind is;
-  mark = found_among is_mark (λ kind. starts_with nat_eq rest (spelling kind)) (pairs ++ singles) kind refl is;
+  punctuation = found_among is_punctuation (λ kind. starts_with nat_eq rest (spelling kind)) (pairs ++ singles) kind refl is;
   ascii = found_among ends_ascii (λ kind. starts_with nat_eq rest (spelling kind)) (pairs ++ singles) kind refl is;
 }

@@ -15,9 +15,9 @@ use Rattle.avs_lex.specs.Characters.{Text, newline, quote, dollar, dot, backslas
 use Rattle.avs_lex.specs.Spelling.{spelling, through, value, triple, quotes_of, IsName, IsDecimal, IsHexadecimal, IsQuoted, Spells}
 use Rattle.avs_lex.specs.Piece.{front, joined, decimal, hexadecimal, string, is_end_line, ends_line, without_blanks}
 use Rattle.avs_lex.proofs.TestLemmas.{either}
-use Rattle.avs_lex.proofs.SpellingLemmas.{is_mark}
+use Rattle.avs_lex.proofs.SpellingLemmas.{is_punctuation}
 
--- a blank or a newline stands first
+-- a blank or a newline is first
 pub data BeginsBlank : Text → Type 0 where
   space : (rest : Text) → BeginsBlank (32 ∷ rest)
   line : (rest : Text) → BeginsBlank (newline ∷ rest)
@@ -32,29 +32,29 @@ ends_run p (c ∷ bytes) rest no_space no_line blank all =
     let run = ends_run p bytes rest no_space no_line blank later in
     rw (here, run) (omega arith)
 
--- marks, alone on a line or before a blank
-mark_space : (kind : TokenKind) (depth : ℕ) (rest : Text) → is_mark kind ≡ true → front depth (spelling kind ++ 32 ∷ rest) ≡ One kind (length (spelling kind))
+-- punctuation before a newline or a blank
+punctuation_space : (kind : TokenKind) (open_parentheses : ℕ) (rest : Text) → is_punctuation kind ≡ true → front open_parentheses (spelling kind ++ 32 ∷ rest) ≡ One kind (length (spelling kind))
 unfolding front
-mark_space Ident depth rest is = cc
-mark_space (Int n) depth rest is = cc
-mark_space Str depth rest is = cc
-mark_space Newline depth rest is = cc
-mark_space End depth rest is = cc
-mark_space kind depth rest is = refl
+punctuation_space Ident open_parentheses rest is = cc
+punctuation_space (Int n) open_parentheses rest is = cc
+punctuation_space Str open_parentheses rest is = cc
+punctuation_space Newline open_parentheses rest is = cc
+punctuation_space End open_parentheses rest is = cc
+punctuation_space kind open_parentheses rest is = refl
 
-mark_line : (kind : TokenKind) (depth : ℕ) (rest : Text) → is_mark kind ≡ true → front depth (spelling kind ++ newline ∷ rest) ≡ One kind (length (spelling kind))
+punctuation_line : (kind : TokenKind) (open_parentheses : ℕ) (rest : Text) → is_punctuation kind ≡ true → front open_parentheses (spelling kind ++ newline ∷ rest) ≡ One kind (length (spelling kind))
 unfolding front
-mark_line Ident depth rest is = cc
-mark_line (Int n) depth rest is = cc
-mark_line Str depth rest is = cc
-mark_line Newline depth rest is = cc
-mark_line End depth rest is = cc
-mark_line kind depth rest is = refl
+punctuation_line Ident open_parentheses rest is = cc
+punctuation_line (Int n) open_parentheses rest is = cc
+punctuation_line Str open_parentheses rest is = cc
+punctuation_line Newline open_parentheses rest is = cc
+punctuation_line End open_parentheses rest is = cc
+punctuation_line kind open_parentheses rest is = refl
 
-name_front : (depth : ℕ) (bytes rest : Text) → IsName bytes → BeginsBlank rest → front depth (bytes ++ rest) ≡ One Ident (length bytes)
+name_front : (open_parentheses : ℕ) (bytes rest : Text) → IsName bytes → BeginsBlank rest → front open_parentheses (bytes ++ rest) ≡ One Ident (length bytes)
 unfolding front
-name_front depth [] rest name blank = cc (name.begins)
-name_front depth (c ∷ bytes) rest name blank =
+name_front open_parentheses [] rest name blank = cc (name.begins)
+name_front open_parentheses (c ∷ bytes) rest name blank =
     let run = ends_run continues_name (c ∷ bytes) rest refl refl blank name.continues in
     rw name.begins (ap (One Ident) run)
 
@@ -69,16 +69,16 @@ decimal_word n bytes rest number blank =
     let taken : take (length bytes) (bytes ++ rest) ≡ bytes = take_at bytes rest (length bytes) refl in
     rw (size, first_of_blank bytes rest blank, taken, number.small, number.is) refl
 
-pub front_decimal : (depth : ℕ) (text : Text) → begins_name (get_or text 0 0) ≡ false → is_ascii_digit (get_or text 0 0) ≡ true → front depth text ≡ decimal text
+pub front_decimal : (open_parentheses : ℕ) (text : Text) → begins_name (get_or text 0 0) ≡ false → is_ascii_digit (get_or text 0 0) ≡ true → front open_parentheses text ≡ decimal text
 unfolding front
-front_decimal depth text other digit = rw (other, digit) refl
+front_decimal open_parentheses text other digit = rw (other, digit) refl
 
-decimal_front : (n : ℤ) (depth : ℕ) (bytes rest : Text) → IsDecimal n bytes → BeginsBlank rest → front depth (bytes ++ rest) ≡ One (Int n) (length bytes)
-decimal_front n depth [] rest number blank = absurd (omega (arith, number.some))
-decimal_front n depth (c ∷ bytes) rest number blank =
+decimal_front : (n : ℤ) (open_parentheses : ℕ) (bytes rest : Text) → IsDecimal n bytes → BeginsBlank rest → front open_parentheses (bytes ++ rest) ≡ One (Int n) (length bytes)
+decimal_front n open_parentheses [] rest number blank = absurd (omega (arith, number.some))
+decimal_front n open_parentheses (c ∷ bytes) rest number blank =
     let digit : is_ascii_digit c ≡ true = grind (arith, number.digits) in
     let other : begins_name c ≡ false = grind (arith, nat_tests) in
-    front_decimal depth (c ∷ (bytes ++ rest)) other digit ∙ decimal_word n (c ∷ bytes) rest number blank
+    front_decimal open_parentheses (c ∷ (bytes ++ rest)) other digit ∙ decimal_word n (c ∷ bytes) rest number blank
 
 hexadecimal_word : (n : ℤ) (digits rest : Text) → 0 < length digits → length digits ≤ 8 → list_all is_ascii_hexdigit digits ≡ true → n ≡ cast_signed w32 (value 16 digits) → BeginsBlank rest
     → hexadecimal (dollar ∷ (digits ++ rest)) ≡ One (Int n) (1 + length digits)
@@ -89,20 +89,20 @@ hexadecimal_word n digits rest some few all is blank =
     let short : nat_le (length digits) 8 ≡ true = grind (arith, nat_tests) in
     rw (size, any, short, taken, is) refl
 
-hexadecimal_front : (n : ℤ) (depth : ℕ) (bytes rest : Text) → IsHexadecimal n bytes → BeginsBlank rest → front depth (bytes ++ rest) ≡ One (Int n) (length bytes)
+hexadecimal_front : (n : ℤ) (open_parentheses : ℕ) (bytes rest : Text) → IsHexadecimal n bytes → BeginsBlank rest → front open_parentheses (bytes ++ rest) ≡ One (Int n) (length bytes)
 unfolding front
-hexadecimal_front n depth [] rest number blank = absurd (omega (arith, number.some))
-hexadecimal_front n depth (c ∷ digits) rest number blank =
+hexadecimal_front n open_parentheses [] rest number blank = absurd (omega (arith, number.some))
+hexadecimal_front n open_parentheses (c ∷ digits) rest number blank =
     let size : 1 + length digits ≡ length (c ∷ digits) = omega arith in
     let few : length digits ≤ 8 = omega (arith, number.few) in
     let some : 0 < length digits = omega (arith, number.some) in
     rw number.opens (hexadecimal_word n digits rest some few number.digits number.is blank ∙ ap (One (Int n)) size)
 
-pub front_string : (depth : ℕ) (text : Text) → get_or text 0 0 ≡ quote → front depth text ≡ string text
+pub front_string : (open_parentheses : ℕ) (text : Text) → get_or text 0 0 ≡ quote → front open_parentheses text ≡ string text
 unfolding front
-front_string depth text first = rw first refl
+front_string open_parentheses text first = rw first refl
 
--- two quotes, and no third behind them
+-- two quotes, and no third after them
 not_triple : (bytes rest : Text) → 2 ≤ length bytes → starts_with nat_eq bytes triple ≡ false → BeginsBlank rest → starts_with nat_eq (bytes ++ rest) triple ≡ false
 not_triple [] rest long is blank = absurd (omega arith)
 not_triple (a ∷ []) rest long is blank = absurd (omega arith)
@@ -110,17 +110,17 @@ not_triple (a ∷ b ∷ []) rest long is (space r) = is
 not_triple (a ∷ b ∷ []) rest long is (line r) = is
 not_triple (a ∷ b ∷ c ∷ bytes) rest long is blank = is
 
-string_front : (depth : ℕ) (bytes rest : Text) → IsQuoted bytes → BeginsBlank rest → front depth (bytes ++ rest) ≡ One Str (length bytes)
-string_front depth bytes rest quoted blank =
-    either (starts_with nat_eq bytes triple) (front depth (bytes ++ rest) ≡ One Str (length bytes))
+string_front : (open_parentheses : ℕ) (bytes rest : Text) → IsQuoted bytes → BeginsBlank rest → front open_parentheses (bytes ++ rest) ≡ One Str (length bytes)
+string_front open_parentheses bytes rest quoted blank =
+    either (starts_with nat_eq bytes triple) (front open_parentheses (bytes ++ rest) ≡ One Str (length bytes))
     (λ e.
     let long = starts_with_long bytes triple e in
     let more : starts_with nat_eq (bytes ++ rest) triple ≡ true = starts_with_more bytes triple rest long ∙ e in
     let first = starts_with_at (bytes ++ rest) triple 0 more (lit< tt) in
     let of : quotes_of bytes ≡ 3 = rw e refl in
     let found : through triple 3 (drop 3 bytes) ≡ Some (length bytes) = rw of at quoted.ends in
-    let behind : drop 3 (bytes ++ rest) ≡ drop 3 bytes ++ rest = drop-append-le 3 bytes rest long in
-    front_string depth (bytes ++ rest) first ∙ rw (more, behind, through_more triple 3 (drop 3 bytes) rest (length bytes) found) refl)
+    let after : drop 3 (bytes ++ rest) ≡ drop 3 bytes ++ rest = drop-append-le 3 bytes rest long in
+    front_string open_parentheses (bytes ++ rest) first ∙ rw (more, after, through_more triple 3 (drop 3 bytes) rest (length bytes) found) refl)
     (λ e.
     let of : quotes_of bytes ≡ 1 = rw e refl in
     let long : 2 ≤ length bytes = rw of at quoted.long in
@@ -128,43 +128,43 @@ string_front depth bytes rest quoted blank =
     let found : through (quote ∷ []) 1 (drop 1 bytes) ≡ Some (length bytes) = rw of at quoted.ends in
     let other : starts_with nat_eq (bytes ++ rest) triple ≡ false = not_triple bytes rest long e blank in
     let first : get_or (bytes ++ rest) 0 0 ≡ quote = get_or_append_left bytes rest 0 0 (omega arith) ∙ sym (get_or-take 1 bytes 0 0 (lit< tt)) ∙ ap (λ t. get_or t 0 0) opens in
-    let behind : drop 1 (bytes ++ rest) ≡ drop 1 bytes ++ rest = drop-append-le 1 bytes rest (omega arith) in
-    front_string depth (bytes ++ rest) first ∙ rw (other, behind, through_more (quote ∷ []) 1 (drop 1 bytes) rest (length bytes) found) refl)
+    let after : drop 1 (bytes ++ rest) ≡ drop 1 bytes ++ rest = drop-append-le 1 bytes rest (omega arith) in
+    front_string open_parentheses (bytes ++ rest) first ∙ rw (other, after, through_more (quote ∷ []) 1 (drop 1 bytes) rest (length bytes) found) refl)
 
-mark_front : (kind : TokenKind) (depth : ℕ) (bytes rest : Text) → is_mark kind ≡ true → bytes ≡ spelling kind → BeginsBlank rest → front depth (bytes ++ rest) ≡ One kind (length bytes)
-mark_front kind depth bytes rest is spelled (space r) = rw spelled (mark_space kind depth r is)
-mark_front kind depth bytes rest is spelled (line r) = rw spelled (mark_line kind depth r is)
+punctuation_front : (kind : TokenKind) (open_parentheses : ℕ) (bytes rest : Text) → is_punctuation kind ≡ true → bytes ≡ spelling kind → BeginsBlank rest → front open_parentheses (bytes ++ rest) ≡ One kind (length bytes)
+punctuation_front kind open_parentheses bytes rest is spelled (space r) = rw spelled (punctuation_space kind open_parentheses r is)
+punctuation_front kind open_parentheses bytes rest is spelled (line r) = rw spelled (punctuation_line kind open_parentheses r is)
 
-pub word_front : (kind : TokenKind) (depth : ℕ) (bytes rest : Text) → Spells kind bytes → kind ≢ Newline → kind ≢ End → BeginsBlank rest → front depth (bytes ++ rest) ≡ One kind (length bytes)
-word_front Ident depth bytes rest spelled no_line no_end blank = name_front depth bytes rest spelled blank
-word_front (Int n) depth bytes rest spelled no_line no_end blank = elim spelled as (λ _. front depth (bytes ++ rest) ≡ One (Int n) (length bytes)) [
-  | inl number ↦ decimal_front n depth bytes rest number blank
-  | inr number ↦ hexadecimal_front n depth bytes rest number blank
+pub word_front : (kind : TokenKind) (open_parentheses : ℕ) (bytes rest : Text) → Spells kind bytes → kind ≢ Newline → kind ≢ End → BeginsBlank rest → front open_parentheses (bytes ++ rest) ≡ One kind (length bytes)
+word_front Ident open_parentheses bytes rest spelled no_line no_end blank = name_front open_parentheses bytes rest spelled blank
+word_front (Int n) open_parentheses bytes rest spelled no_line no_end blank = elim spelled as (λ _. front open_parentheses (bytes ++ rest) ≡ One (Int n) (length bytes)) [
+  | inl number ↦ decimal_front n open_parentheses bytes rest number blank
+  | inr number ↦ hexadecimal_front n open_parentheses bytes rest number blank
 ]
-word_front Str depth bytes rest spelled no_line no_end blank = string_front depth bytes rest spelled blank
-word_front Newline depth bytes rest spelled no_line no_end blank = absurd (no_line refl)
-word_front End depth bytes rest spelled no_line no_end blank = absurd (no_end refl)
-word_front kind depth bytes rest spelled no_line no_end blank = mark_front kind depth bytes rest refl spelled blank
+word_front Str open_parentheses bytes rest spelled no_line no_end blank = string_front open_parentheses bytes rest spelled blank
+word_front Newline open_parentheses bytes rest spelled no_line no_end blank = absurd (no_line refl)
+word_front End open_parentheses bytes rest spelled no_line no_end blank = absurd (no_end refl)
+word_front kind open_parentheses bytes rest spelled no_line no_end blank = punctuation_front kind open_parentheses bytes rest refl spelled blank
 
--- where a token other than a newline stands, no blank stands, no `\`, no first byte of U+FEFF, and no end line that isn't that token
-pub front_blank : (depth : ℕ) (text : Text) → is_blank (get_or text 0 0) ≡ true → front depth text ≡ Blank 1
+-- A token other than a newline begins with no blank, no `\` and no first byte of U+FEFF, and no end line begins there that isn't that token.
+pub front_blank : (open_parentheses : ℕ) (text : Text) → is_blank (get_or text 0 0) ≡ true → front open_parentheses text ≡ Blank 1
 unfolding front
-front_blank depth text is =
+front_blank open_parentheses text is =
     let name : begins_name (get_or text 0 0) ≡ false = grind (arith, nat_tests) in
     let digit : is_ascii_digit (get_or text 0 0) ≡ false = grind (arith, nat_tests) in
     rw (name, digit, is) refl
 
-front_joined : (depth : ℕ) (text : Text) → get_or text 0 0 ≡ backslash → front depth text ≡ joined text
+pub front_joined : (open_parentheses : ℕ) (text : Text) → get_or text 0 0 ≡ backslash → front open_parentheses text ≡ joined text
 unfolding front
-front_joined depth text is = rw is refl
+front_joined open_parentheses text is = rw is refl
 
-pub front_name : (depth : ℕ) (text : Text) → begins_name (get_or text 0 0) ≡ true → front depth text ≡ One Ident (prefix_len continues_name text)
+pub front_name : (open_parentheses : ℕ) (text : Text) → begins_name (get_or text 0 0) ≡ true → front open_parentheses text ≡ One Ident (prefix_len continues_name text)
 unfolding front
-front_name depth text is = rw is refl
+front_name open_parentheses text is = rw is refl
 
-pub front_byte_mark : (depth : ℕ) (text : Text) → front depth (239 ∷ text) ≡ Fault BadChar
+pub front_byte_order_mark : (open_parentheses : ℕ) (text : Text) → front open_parentheses (239 ∷ text) ≡ Fault BadChar
 unfolding front
-front_byte_mark depth text = refl
+front_byte_order_mark open_parentheses text = refl
 
 both_left : (a b : Bool) → (a && b) ≡ true → a ≡ true
 both_left true b is = refl
@@ -184,8 +184,8 @@ end_name (suc (suc (suc (suc (suc zero))))) low = refl
 end_name (suc (suc (suc (suc (suc (suc zero)))))) low = refl
 end_name (suc (suc (suc (suc (suc (suc (suc k))))))) low = absurd (omega arith)
 
-pub not_blank : (kind : TokenKind) (size depth : ℕ) (text : Text) → front depth text ≡ One kind size → is_blank (get_or text 0 0) ≡ false
-not_blank kind size depth text word = either (is_blank (get_or text 0 0)) (is_blank (get_or text 0 0) ≡ false) (λ e. absurd (cc (word, front_blank depth text e))) (λ e. e)
+pub not_blank : (kind : TokenKind) (size open_parentheses : ℕ) (text : Text) → front open_parentheses text ≡ One kind size → is_blank (get_or text 0 0) ≡ false
+not_blank kind size open_parentheses text word = either (is_blank (get_or text 0 0)) (is_blank (get_or text 0 0) ≡ false) (λ e. absurd (cc (word, front_blank open_parentheses text e))) (λ e. e)
 
 joined_blank : (text : Text) (kind : TokenKind) (size : ℕ) → joined text ≡ One kind size → ⊥
 joined_blank text kind size is =
@@ -195,15 +195,15 @@ joined_blank text kind size is =
     (λ f. let same : Blank (2 + blanks) ≡ One kind size = rw (e, f) at is in cc same)
     (λ f. let same : Fault BadChar ≡ One kind size = rw (e, f) at is in cc same))
 
-pub not_backslash : (kind : TokenKind) (size depth : ℕ) (text : Text) → front depth text ≡ One kind size → (get_or text 0 0 == backslash) ≡ false
-not_backslash kind size depth text word = either (get_or text 0 0 == backslash) ((get_or text 0 0 == backslash) ≡ false)
-    (λ e. absurd (joined_blank text kind size (sym (front_joined depth text (grind (arith, nat_tests))) ∙ word))) (λ e. e)
+pub not_backslash : (kind : TokenKind) (size open_parentheses : ℕ) (text : Text) → front open_parentheses text ≡ One kind size → (get_or text 0 0 == backslash) ≡ false
+not_backslash kind size open_parentheses text word = either (get_or text 0 0 == backslash) ((get_or text 0 0 == backslash) ≡ false)
+    (λ e. absurd (joined_blank text kind size (sym (front_joined open_parentheses text (grind (arith, nat_tests))) ∙ word))) (λ e. e)
 
 without_none : (text : Text) → is_blank (get_or text 0 0) ≡ false → without_blanks text ≡ text
 without_none [] is = refl
 without_none (c ∷ text) is = rw is refl
 
--- behind the word of an end line its name ends
+-- after the word of an end line its name ends
 name_ends : (text : Text) → ends_line (without_blanks text) ≡ true → continues_name (get_or text 0 0) ≡ false
 name_ends [] is = refl
 name_ends (c ∷ text) is = either (is_blank c) (continues_name c ≡ false)
@@ -222,15 +222,15 @@ is_end_line_parts text is end =
     let both : (starts_with nat_eq text (codes "__END__") && ends_line (without_blanks (drop 7 text))) ≡ true = rw same at end in
     (both_left (starts_with nat_eq text (codes "__END__")) (ends_line (without_blanks (drop 7 text))) both, both_right (starts_with nat_eq text (codes "__END__")) (ends_line (without_blanks (drop 7 text))) both)
 
-pub no_end_line : (kind : TokenKind) (depth : ℕ) (bytes rest : Text) → front depth (bytes ++ rest) ≡ One kind (length bytes) → bytes ≢ codes "__END__" → is_end_line (bytes ++ rest) ≡ false
-no_end_line kind depth bytes rest word other =
+pub no_end_line : (kind : TokenKind) (open_parentheses : ℕ) (bytes rest : Text) → front open_parentheses (bytes ++ rest) ≡ One kind (length bytes) → bytes ≢ codes "__END__" → is_end_line (bytes ++ rest) ≡ false
+no_end_line kind open_parentheses bytes rest word other =
     let text = bytes ++ rest in
     either (is_end_line text) (is_end_line text ≡ false)
     (λ e.
-    let parts = is_end_line_parts text (not_blank kind (length bytes) depth text word) e in
+    let parts = is_end_line_parts text (not_blank kind (length bytes) open_parentheses text word) e in
     let size = end_line_name text parts.0 parts.1 in
     let first : get_or text 0 0 ≡ 95 = starts_with_at text (codes "__END__") 0 parts.0 (lit< tt) in
-    let name : front depth text ≡ One Ident (prefix_len continues_name text) = front_name depth text (rw first refl) in
+    let name : front open_parentheses text ≡ One Ident (prefix_len continues_name text) = front_name open_parentheses text (rw first refl) in
     let long : length bytes ≡ prefix_len continues_name text = cc (name, word) in
     let same : bytes ≡ codes "__END__" = sym (take_at bytes rest 7 (long ∙ size)) ∙ starts_with_take text (codes "__END__") parts.0 in
     absurd (other same))

@@ -1,6 +1,9 @@
 pub mod Characters
 pub mod Spelling
+pub mod Fault
 pub mod Piece
+pub mod NestedComment
+pub mod BeginsNothing
 pub mod Tokens
 pub mod TokenList
 pub mod Cursor

@@ -7,7 +7,7 @@ use Rattle.avs_lex.specs.declared.token.TokenKind.{TokenKind}
 use Rattle.avs_lex.specs.declared.token.TokenKind.TheVariants.{Ident, Int, Str, Newline, End, LeftParen, RightParen, LeftBrace, RightBrace, Comma, Dot, Assign, Equal, NotEqual, Less, LessEqual, Greater, GreaterEqual, Plus, PlusPlus, Minus, Times, Divide, Remainder, AndAnd, OrOr, Not, Question, Colon}
 use Rattle.avs_lex.specs.Characters.{Text, quote, dollar, begins_name, continues_name}
 
--- the spelling of a kind that has one spelling alone
+-- the spelling of a kind that has only one spelling
 abbrev pub spelling : TokenKind → Text
 spelling Ident = []
 spelling (Int n) = []
@@ -79,23 +79,23 @@ pub record IsHexadecimal (n : ℤ) (bytes : Text) : Type 0 where
   pub digits : IsTrue (list_all is_ascii_hexdigit (drop 1 bytes))
   pub is : n ≡ cast_signed w32 (value 16 (drop 1 bytes))
 
--- the size up to and with the first such word, counted on from a number
+-- the size up to the end of the first occurrence of the word, plus n
 abbrev pub through : Text → ℕ → Text → Option ℕ
 through word n [] = None
 through word n (c ∷ rest) = if starts_with nat_eq (c ∷ rest) word then Some (n + length word) else through word (n + 1) rest
 
--- how many quotes stand at each end
+-- how many quotes there are at each end
 abbrev pub quotes_of : Text → ℕ
 quotes_of bytes = if starts_with nat_eq bytes triple then 3 else 1
 
--- a text between quotes
+-- a string between quotes
 pub record IsQuoted (bytes : Text) : Type 0 where
   pub long : 2 * quotes_of bytes ≤ length bytes
   pub opens : take (quotes_of bytes) bytes ≡ replicate (quotes_of bytes) quote
   pub ends : through (replicate (quotes_of bytes) quote) (quotes_of bytes) (drop (quotes_of bytes) bytes) ≡ Some (length bytes)
   pub closes : drop (length bytes - quotes_of bytes) bytes ≡ replicate (quotes_of bytes) quote
 
--- the bytes may stand for a token of this kind
+-- a token of this kind may be spelled so
 abbrev pub Spells : TokenKind → Text → Type 0
 Spells Ident bytes = IsName bytes
 Spells (Int n) bytes = IsDecimal n bytes ⊎ IsHexadecimal n bytes

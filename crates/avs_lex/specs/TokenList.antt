@@ -1,4 +1,4 @@
--- What the list of tokens of a text is like, for what is built on it.
+-- What a list of tokens of a text is: what the parser needs of it.
 use Rattle.std.specs.Prelude.{◌≡◌, ℕ, ◌+◌, ◌<◌, ◌≤◌, ◌↔◌, List, length, slice_range, slice_index_or, count_by, IsCharBoundary, All}
 use Rattle.std.specs.List.{AllAdjacentBelow}
 use Rattle.avs_lex.specs.declared.token.Token.{Token}
@@ -10,7 +10,7 @@ use Rattle.avs_lex.specs.Tokens.{line_at}
 abbrev pub bytes_of : Text → Token → Text
 bytes_of text token = slice_range text token.start token.end
 
--- the token lies in the text
+-- the token is in the text
 pub record IsTokenOf (text : Text) (token : Token) : Type 0 where
   pub ordered : token.start ≤ token.end
   pub inside : token.end ≤ length text
@@ -21,7 +21,7 @@ pub record IsTokenOf (text : Text) (token : Token) : Type 0 where
   pub first_line : 1 ≤ token.line
   pub last_line : token.line ≤ 1 + count_by is_newline text
 
--- the tokens lie in the text one behind the other, and the last one alone is its end
+-- the tokens follow one another in the text, and only the last one is its end
 pub record IsTokenList (text : Text) (tokens : List Token) : Type 0 where
   pub some : 0 < length tokens
   pub ended : (k : ℕ) (d : Token) → k < length tokens → ((slice_index_or tokens k d).kind ≡ End) ↔ (k + 1 ≡ length tokens)

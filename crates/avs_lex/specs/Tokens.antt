@@ -1,9 +1,9 @@
--- The tokens of a script, or its first fault. A script is read from its start on, piece after piece, up to its end, or up
--- to a place where a fault stands.
+-- The tokens of a script, or its first fault. A script is read from its start, piece after piece, up to its end or to its
+-- first fault.
 use Rattle.std.specs.Prelude.{◌≡◌, ℕ, ◌+◌, ◌-◌, List, [], ◌∷◌, ◌++◌, take, drop, slice_index, nat_eq, Bool, ◌||◌, ◌==◌, if◌then◌else◌, count_by, ⊤}
 use Rattle.std.specs.List.{starts_with}
 use Rattle.avs_lex.specs.declared.piece.Piece.{Piece}
-use Rattle.avs_lex.specs.declared.piece.Piece.TheVariants.{Blank, One, Stop, Fault}
+use Rattle.avs_lex.specs.declared.piece.Piece.TheVariants.{Blank, One, EndOfScript, Fault}
 use Rattle.avs_lex.specs.declared.fault.LexKind.{LexKind}
 use Rattle.avs_lex.specs.declared.fault.LexError.{LexError}
 use Rattle.avs_lex.specs.declared.fault.LexError.TheVariants as e
@@ -13,56 +13,56 @@ use Rattle.avs_lex.specs.declared.token.TokenKind.TheVariants.{LeftParen, RightP
 use Rattle.avs_lex.specs.Characters.{Text, newline, is_newline}
 use Rattle.avs_lex.specs.Piece.{piece}
 
--- the place behind a first character U+FEFF
+-- the offset after a first character U+FEFF
 abbrev pub start_of : Text → ℕ
 start_of text = if starts_with nat_eq text (239 ∷ 187 ∷ 191 ∷ []) then 3 else 0
 
 -- lines count from 1, and a newline ends one
 abbrev pub line_at : Text → ℕ → ℕ
-line_at text place = 1 + count_by is_newline (take place text)
+line_at text offset = 1 + count_by is_newline (take offset text)
 
 abbrev pub begins_line : Text → ℕ → Bool
-begins_line text place = place == start_of text || slice_index text (place - 1) == newline
+begins_line text offset = offset == start_of text || slice_index text (offset - 1) == newline
 
--- what stands at a place, inside so many parentheses
+-- what the text has at an offset, where this many parentheses are open
 abbrev pub piece_at : Text → ℕ → ℕ → Piece
-piece_at text depth place = piece (begins_line text place) depth (drop place text)
+piece_at text open_parentheses offset = piece (begins_line text offset) open_parentheses (drop offset text)
 
 abbrev pub token_at : Text → TokenKind → ℕ → ℕ → Token
-token_at text kind size place = record { kind = kind; start = place; end = place + size; line = line_at text place }
+token_at text kind size offset = record { kind = kind; start = offset; end = offset + size; line = line_at text offset }
 
--- how many parentheses are open behind a token
-abbrev pub depth_after : TokenKind → ℕ → ℕ
-depth_after LeftParen depth = depth + 1
-depth_after RightParen depth = depth - 1
-depth_after _ depth = depth
+-- how many parentheses are open after a token
+abbrev pub open_parentheses_after : TokenKind → ℕ → ℕ
+open_parentheses_after LeftParen open_parentheses = open_parentheses + 1
+open_parentheses_after RightParen open_parentheses = open_parentheses - 1
+open_parentheses_after _ open_parentheses = open_parentheses
 
--- The script is read up to a place: inside so many parentheses, with these tokens so far.
+-- The script is read up to an offset: this many parentheses are open, and these are the tokens so far.
 pub data ReadTo (text : Text) : ℕ → ℕ → List Token → Type 0 where
   begin : ReadTo text (start_of text) 0 []
-  blank : {place depth : ℕ} {tokens : List Token} (size : ℕ) → ReadTo text place depth tokens → piece_at text depth place ≡ Blank size → ReadTo text (place + size) depth tokens
-  token : {place depth : ℕ} {tokens : List Token} (kind : TokenKind) (size : ℕ) → ReadTo text place depth tokens → piece_at text depth place ≡ One kind size
-      → ReadTo text (place + size) (depth_after kind depth) (tokens ++ token_at text kind size place ∷ [])
+  blank : {offset open_parentheses : ℕ} {tokens : List Token} (size : ℕ) → ReadTo text offset open_parentheses tokens → piece_at text open_parentheses offset ≡ Blank size → ReadTo text (offset + size) open_parentheses tokens
+  token : {offset open_parentheses : ℕ} {tokens : List Token} (kind : TokenKind) (size : ℕ) → ReadTo text offset open_parentheses tokens → piece_at text open_parentheses offset ≡ One kind size
+      → ReadTo text (offset + size) (open_parentheses_after kind open_parentheses) (tokens ++ token_at text kind size offset ∷ [])
 
 -- the script is read up to its end, and these are its tokens
 pub record Tokens (text : Text) (tokens : List Token) : Type 0 where
-  pub place : ℕ
-  pub depth : ℕ
+  pub offset : ℕ
+  pub open_parentheses : ℕ
   pub before : List Token
-  pub read : ReadTo text place depth before
-  pub stops : piece_at text depth place ≡ Stop
-  pub are : tokens ≡ before ++ token_at text End 0 place ∷ []
+  pub read : ReadTo text offset open_parentheses before
+  pub ends : piece_at text open_parentheses offset ≡ EndOfScript
+  pub are : tokens ≡ before ++ token_at text End 0 offset ∷ []
 
--- the script is read up to a fault, which stands on this line
+-- the script is read up to a fault, which is on this line
 pub record LexFault (text : Text) (kind : LexKind) (line : ℕ) : Type 0 where
-  pub place : ℕ
-  pub depth : ℕ
+  pub offset : ℕ
+  pub open_parentheses : ℕ
   pub before : List Token
-  pub read : ReadTo text place depth before
-  pub fails : piece_at text depth place ≡ Fault kind
-  pub is : line ≡ line_at text place
+  pub read : ReadTo text offset open_parentheses before
+  pub fails : piece_at text open_parentheses offset ≡ Fault kind
+  pub is : line ≡ line_at text offset
 
--- what a refusal says of the script: of want of memory, nothing
+-- what an error says of the script; out of memory says nothing
 abbrev pub IsFault : Text → LexError → Type 0
 IsFault text (e.Fault kind line) = LexFault text kind line
 IsFault text e.Memory = ⊤

@@ -1,11 +1,11 @@
--- A script that is written word by word, with a blank behind each word, or a newline where its line ends.
+-- A script that is written word by word, with a blank after each word, or a newline where its line ends.
 use Rattle.std.specs.Prelude.{◌≡◌, ◌≢◌, ℕ, List, [], ◌∷◌, ◌++◌, map, codes, Bool, if◌then◌else◌, IsTrue, ⊤}
 use Rattle.avs_lex.specs.declared.token.Token.{Token}
 use Rattle.avs_lex.specs.declared.token.TokenKind.{TokenKind}
 use Rattle.avs_lex.specs.declared.token.TokenKind.TheVariants.{Newline, End}
 use Rattle.avs_lex.specs.Characters.{Text, newline}
 use Rattle.avs_lex.specs.Spelling.{Spells}
-use Rattle.avs_lex.specs.Tokens.{Tokens, depth_after}
+use Rattle.avs_lex.specs.Tokens.{Tokens, open_parentheses_after}
 use Rattle.avs_lex.specs.TokenList.{bytes_of}
 
 pub record Word : Type 0 where
@@ -17,7 +17,7 @@ abbrev pub written : List Word → Text
 written [] = []
 written (word ∷ words) = word.bytes ++ (if word.ends_line then newline else 32) ∷ written words
 
--- a word that is a token wherever a blank or a newline stands behind it
+-- a word that is a token wherever a blank or a newline follows it
 pub record IsWord (word : Word) : Type 0 where
   pub spelled : Spells word.kind word.bytes
   pub no_newline : word.kind ≢ Newline
@@ -26,8 +26,8 @@ pub record IsWord (word : Word) : Type 0 where
 
 -- lines end outside parentheses
 abbrev pub AreWords : ℕ → List Word → Type 0
-AreWords depth [] = ⊤
-AreWords depth (word ∷ words) = IsWord word × (IsTrue word.ends_line → depth_after word.kind depth ≡ 0) × AreWords (depth_after word.kind depth) words
+AreWords open_parentheses [] = ⊤
+AreWords open_parentheses (word ∷ words) = IsWord word × (IsTrue word.ends_line → open_parentheses_after word.kind open_parentheses ≡ 0) × AreWords (open_parentheses_after word.kind open_parentheses) words
 
 -- the kinds and the bytes of the tokens that are to be read
 abbrev pub spelled_of : List Word → List (TokenKind × Text)

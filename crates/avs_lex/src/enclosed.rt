@@ -1,4 +1,4 @@
-// Comments between `/*` and `*/` or `[*` and `*]`, and texts between quotes.
+// Comments between `/*` and `*/` or `[*` and `*]`, and strings between quotes.
 ghost use Rattle.std.specs.Prelude.{◌≡◌, ◌<◌, ◌≤◌, length, drop, codes};
 ghost use Rattle.avs_lex.specs.Piece as s;
 ghost use Rattle.avs_lex.specs.Spelling as w;
@@ -6,50 +6,50 @@ ghost use Rattle.avs_lex.specs.Spelling as w;
 use crate::piece::Piece;
 use crate::{LexKind, TokenKind};
 
-// The place behind the first such word from a place on.
+// The offset after the first occurrence of a word, searched for from an offset on.
 #[tactic(auto, using(crate::proofs::WordLemmas::steps))]
 fn through(word: &[u8], from: usize, rest: &[u8]) -> Option<usize>
     ensures { result ≡ w.through word.now from (drop from rest.now) }
 {
-    for place in from..rest.len() {
-        let (_, left) = rest.split_at(place);
+    for offset in from..rest.len() {
+        let (_, left) = rest.split_at(offset);
         if left.starts_with(word) {
-            return Some(place + word.len());
+            return Some(offset + word.len());
         }
     }
     None
 }
 
-// The place behind the nested comment that stands first.
+// The offset after the nested comment at the front.
 #[tactic(auto, using(crate::proofs::CommentLemmas::steps))]
 fn nested_end(rest: &[u8]) -> Option<usize>
     requires { 2 ≤ length rest.now }
     ensures { result ≡ s.nested_end 0 2 (drop 2 rest.now) }
 {
     let mut inner: usize = 0;
-    let mut place = 2;
-    while place + 1 < rest.len() {
-        let (first, second) = (rest[place], rest[place + 1]);
+    let mut offset = 2;
+    while offset + 1 < rest.len() {
+        let (first, second) = (rest[offset], rest[offset + 1]);
         if first == b'[' && second == b'*' {
             inner += 1;
-            place += 2;
+            offset += 2;
             continue;
         }
         if first == b'*' && second == b']' {
             if inner == 0 {
-                return Some(place + 2);
+                return Some(offset + 2);
             }
             inner -= 1;
-            place += 2;
+            offset += 2;
             continue;
         }
-        place += 1;
+        offset += 1;
     }
     None
 }
 
-fn comment(end: Option<usize>) -> Piece
-    ensures { result ≡ s.comment end }
+fn comment_to(end: Option<usize>) -> Piece
+    ensures { result ≡ s.comment_to end }
 {
     match end {
         Some(size) => Piece::Blank(size),
@@ -57,8 +57,8 @@ fn comment(end: Option<usize>) -> Piece
     }
 }
 
-fn text(end: Option<usize>) -> Piece
-    ensures { result ≡ s.text end }
+fn string_to(end: Option<usize>) -> Piece
+    ensures { result ≡ s.string_to end }
 {
     match end {
         Some(size) => Piece::One(TokenKind::Str, size),
@@ -68,26 +68,26 @@ fn text(end: Option<usize>) -> Piece
 
 /// The comment that `/*` begins.
 pub fn block_comment(rest: &[u8]) -> Piece
-    ensures { result ≡ s.comment (w.through (codes "*/") 2 (drop 2 rest.now)) }
+    ensures { result ≡ s.comment_to (w.through (codes "*/") 2 (drop 2 rest.now)) }
 {
-    comment(through(b"*/", 2, rest))
+    comment_to(through(b"*/", 2, rest))
 }
 
 /// The comment that `[*` begins.
 pub fn nested_comment(rest: &[u8]) -> Piece
     requires { 2 ≤ length rest.now }
-    ensures { result ≡ s.comment (s.nested_end 0 2 (drop 2 rest.now)) }
+    ensures { result ≡ s.comment_to (s.nested_end 0 2 (drop 2 rest.now)) }
 {
-    comment(nested_end(rest))
+    comment_to(nested_end(rest))
 }
 
-/// The text that a quote begins.
+/// The string that a quote begins.
 pub fn string(rest: &[u8]) -> Piece
     ensures { result ≡ s.string rest.now }
 {
     if rest.starts_with(b"\"\"\"") {
-        text(through(b"\"\"\"", 3, rest))
+        string_to(through(b"\"\"\"", 3, rest))
     } else {
-        text(through(b"\"", 1, rest))
+        string_to(through(b"\"", 1, rest))
     }
 }

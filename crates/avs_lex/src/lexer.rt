@@ -1,27 +1,28 @@
 // A script, read into tokens.
 ghost use Rattle.std.specs.Prelude.{◌≡◌, ◌+◌, ◌-◌, ◌<◌, ◌≤◌, ◌^◌, length, IfOk, IfErr};
 ghost use Rattle.avs_lex.specs.TokenList.{IsTokenList};
-ghost use Rattle.avs_lex.specs.Tokens.{Tokens, IsFault, depth_after};
+ghost use Rattle.avs_lex.specs.Tokens.{Tokens, IsFault, open_parentheses_after};
 
 use crate::cursor::Cursor;
 use crate::piece::{Piece, piece_at};
 use crate::{LexError, Token, TokenKind};
-use std::alloc::{AllocFailed, Global};
+use std::alloc::Global;
 
-// How many parentheses are open behind a token.
-fn depth_after(kind: TokenKind, depth: usize) -> usize
-    requires { depth < 2 ^ 32 }
-    ensures value { result ≡ depth_after kind depth }
-    ensures bound { result ≤ depth + 1 }
+// How many parentheses are open after a token.
+fn open_parentheses_after(kind: TokenKind, open_parentheses: usize) -> usize
+    requires { open_parentheses < 2 ^ 32 }
+    ensures value { result ≡ open_parentheses_after kind open_parentheses }
+    ensures bound { result ≤ open_parentheses + 1 }
 {
     match kind {
-        TokenKind::LeftParen => depth + 1,
-        TokenKind::RightParen => depth.saturating_sub(1),
-        _ => depth,
+        TokenKind::LeftParen => open_parentheses + 1,
+        TokenKind::RightParen => open_parentheses.saturating_sub(1),
+        _ => open_parentheses,
     }
 }
 
-/// The tokens of a script, of which the last is its end, or its first fault. It takes time in proportion to the text.
+/// The tokens of a script, of which the last is its end, or its first fault. It takes time in proportion to the text's
+/// size.
 #[tactic(auto, using(crate::proofs::CursorLemmas::IsIn_steps))]
 pub fn lex(alloc: Global, text: &str) -> Result<Vec<Token>, LexError>
     requires { length text.now < 2 ^ 32 - 1 }
@@ -31,20 +32,20 @@ pub fn lex(alloc: Global, text: &str) -> Result<Vec<Token>, LexError>
 {
     let mut tokens = Vec::new(alloc);
     let mut cursor = Cursor::new(text.as_bytes());
-    let mut depth = 0;
+    let mut open_parentheses = 0;
     'pieces: loop {
-        match piece_at(cursor.begins_line, depth, cursor.rest) {
+        match piece_at(cursor.begins_line, open_parentheses, cursor.rest) {
             Piece::Blank(size) => {
                 cursor = cursor.past(size);
                 continue;
             }
             Piece::One(kind, size) => {
                 tokens.push(cursor.token(kind, size))?;
-                depth = depth_after(kind, depth);
+                open_parentheses = open_parentheses_after(kind, open_parentheses);
                 cursor = cursor.past(size);
                 continue;
             }
-            Piece::Stop => {
+            Piece::EndOfScript => {
                 tokens.push(cursor.token(TokenKind::End, 0))?;
                 return Ok(tokens);
             }
@@ -55,15 +56,5 @@ pub fn lex(alloc: Global, text: &str) -> Result<Vec<Token>, LexError>
                 });
             }
         }
-    }
-}
-
-impl From<AllocFailed<Token>> for LexError {
-    ghost use Rattle.avs_lex.specs.declared.fault.LexError.TheVariants.{Memory};
-
-    ghost from_gives = { λ _ error. error ≡ Memory };
-
-    fn from(_: AllocFailed<Token>) -> LexError {
-        LexError::Memory
     }
 }

@@ -27,14 +27,14 @@ pub fn is_end_line(rest: &[u8]) -> bool
 }
 
 /// What a newline begins.
-pub fn line_end(depth: usize, rest: &[u8]) -> Piece
+pub fn line_end(open_parentheses: usize, rest: &[u8]) -> Piece
     requires { 0 < length rest.now }
-    ensures { result ≡ s.line_end depth rest.now }
+    ensures { result ≡ s.line_end open_parentheses rest.now }
 {
     let blanks = blanks_len(&rest[1..]);
     if byte_at(rest, 1 + blanks) == b'\\' {
         Piece::Blank(2 + blanks)
-    } else if depth == 0 {
+    } else if open_parentheses == 0 {
         Piece::One(TokenKind::Newline, 1)
     } else {
         Piece::Blank(1)

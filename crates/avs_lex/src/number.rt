@@ -24,7 +24,8 @@ fn digit_value(digit: u8) -> u8
 
 // The number that decimal digits write, if it is in range.
 fn decimal_value(digits: &[u8]) -> Option<i32>
-    ensures { let number = value 10 digits.now in result ≡ (if nat_le number 2147483647 then Some (pos number) else None) }
+    ensures { let number = value 10 digits.now in
+        result ≡ (if nat_le number 2147483647 then Some (pos number) else None) }
 {
     let mut number: u64 = 0;
     for digit in digits {

@@ -1,16 +1,17 @@
-// What stands at a place of a script.
+// What a script has at an offset.
 ghost use Rattle.std.specs.Prelude.{◌≡◌, ◌<◌, length};
 ghost use Rattle.avs_lex.specs.Piece as s;
 ghost use Rattle.avs_lex.specs.Piece.{IsWithin};
 
+use crate::characters::begins_name;
 use crate::enclosed::{block_comment, nested_comment, string};
 use crate::line::{is_end_line, joined, line_end};
-use crate::mark::mark;
 use crate::number::{decimal, hexadecimal};
-use crate::run::{begins_name, byte_at, line_len, name_len};
+use crate::punctuation::punctuation;
+use crate::run::{byte_at, line_len, name_len};
 use crate::{LexKind, TokenKind};
 
-/// What stands at the front of the rest of a script, with its size in bytes.
+/// What the rest of a script begins with, and its size in bytes.
 #[derive(Clone, Copy)]
 pub enum Piece {
     /// A blank, a comment, or a joined line.
@@ -18,16 +19,16 @@ pub enum Piece {
     /// A token.
     One(TokenKind, usize),
     /// The end of the script.
-    Stop,
-    /// What is wrong.
+    EndOfScript,
+    /// A fault.
     Fault(LexKind),
 }
 
-// What the rest of a script begins with, inside so many parentheses.
+// What the rest of a script begins with, where this many parentheses are open.
 #[tactic(auto, unfolding(crate::specs::Piece::front))]
-fn front(depth: usize, rest: &[u8]) -> Piece
+fn front(open_parentheses: usize, rest: &[u8]) -> Piece
     requires { 0 < length rest.now }
-    ensures { result ≡ s.front depth rest.now }
+    ensures { result ≡ s.front open_parentheses rest.now }
 {
     let first = rest[0];
     let second = byte_at(rest, 1);
@@ -39,14 +40,14 @@ fn front(depth: usize, rest: &[u8]) -> Piece
     }
     match first {
         b' ' | b'\t' | b'\r' => Piece::Blank(1),
-        b'\n' => line_end(depth, rest),
+        b'\n' => line_end(open_parentheses, rest),
         b'\\' => joined(rest),
         b'#' => Piece::Blank(line_len(rest)),
         b'/' => {
             if second == b'*' {
                 block_comment(rest)
             } else {
-                mark(rest)
+                punctuation(rest)
             }
         }
         b'[' => {
@@ -62,21 +63,21 @@ fn front(depth: usize, rest: &[u8]) -> Piece
             if second.is_ascii_digit() {
                 Piece::Fault(LexKind::FloatLiteral)
             } else {
-                mark(rest)
+                punctuation(rest)
             }
         }
-        _ => mark(rest),
+        _ => punctuation(rest),
     }
 }
 
-/// What stands at a place, inside so many parentheses.
-pub fn piece_at(begins_line: bool, depth: usize, rest: &[u8]) -> Piece
-    ensures piece { result ≡ s.piece begins_line depth rest.now }
+/// What the rest of a script begins with, or the end of the script, where this many parentheses are open.
+pub fn piece_at(begins_line: bool, open_parentheses: usize, rest: &[u8]) -> Piece
+    ensures piece { result ≡ s.piece begins_line open_parentheses rest.now }
     ensures within { IsWithin rest.now result }
 {
     if rest.is_empty() || (begins_line && is_end_line(rest)) {
-        Piece::Stop
+        Piece::EndOfScript
     } else {
-        front(depth, rest)
+        front(open_parentheses, rest)
     }
 }

@@ -4,33 +4,16 @@ ghost use Rattle.std.specs.List.{prefix_len, position_or_len};
 ghost use Rattle.std.specs.Char.{is_ascii_digit, is_ascii_hexdigit};
 ghost use Rattle.avs_lex.specs.Characters as c;
 
-/// The byte at a place, and 0 past the end.
-pub fn byte_at(rest: &[u8], place: usize) -> u8
-    ensures { result ≡ slice_index rest.now place }
+use crate::characters::{continues_name, is_blank};
+
+/// The byte at an offset, and 0 after the end.
+pub fn byte_at(rest: &[u8], offset: usize) -> u8
+    ensures { result ≡ slice_index rest.now offset }
 {
-    rest.get(place).copied().unwrap_or(0)
+    rest.get(offset).copied().unwrap_or(0)
 }
 
-fn is_blank(byte: u8) -> bool
-    ensures { result ≡ c.is_blank byte }
-{
-    matches!(byte, b' ' | b'\t' | b'\r')
-}
-
-/// Whether a name may begin with the character.
-pub fn begins_name(byte: u8) -> bool
-    ensures { result ≡ c.begins_name byte }
-{
-    byte.is_ascii_alphabetic() || byte == b'_'
-}
-
-fn continues_name(byte: u8) -> bool
-    ensures { result ≡ c.continues_name byte }
-{
-    byte.is_ascii_alphanumeric() || byte == b'_'
-}
-
-/// How many blanks stand first.
+/// How many blanks there are at the front.
 pub fn blanks_len(rest: &[u8]) -> usize
     ensures size { result ≡ prefix_len c.is_blank rest.now }
     ensures within { result ≤ length rest.now }
@@ -38,7 +21,7 @@ pub fn blanks_len(rest: &[u8]) -> usize
     rest.iter().take_while(|byte| is_blank(**byte)).count()
 }
 
-/// How many characters of a name stand first.
+/// How many characters of a name there are at the front.
 pub fn name_len(rest: &[u8]) -> usize
     ensures size { result ≡ prefix_len c.continues_name rest.now }
     ensures within { result ≤ length rest.now }
@@ -48,7 +31,7 @@ pub fn name_len(rest: &[u8]) -> usize
         .count()
 }
 
-/// How many decimal digits stand first.
+/// How many decimal digits there are at the front.
 pub fn digits_len(rest: &[u8]) -> usize
     ensures size { result ≡ prefix_len is_ascii_digit rest.now }
     ensures within { result ≤ length rest.now }
@@ -56,7 +39,7 @@ pub fn digits_len(rest: &[u8]) -> usize
     rest.iter().take_while(|byte| byte.is_ascii_digit()).count()
 }
 
-/// How many hexadecimal digits stand first.
+/// How many hexadecimal digits there are at the front.
 pub fn hexdigits_len(rest: &[u8]) -> usize
     ensures size { result ≡ prefix_len is_ascii_hexdigit rest.now }
     ensures within { result ≤ length rest.now }
@@ -66,7 +49,7 @@ pub fn hexdigits_len(rest: &[u8]) -> usize
         .count()
 }
 
-/// How many characters stand before the first newline.
+/// How many bytes there are before the first newline.
 pub fn line_len(rest: &[u8]) -> usize
     ensures size { result ≡ position_or_len c.is_newline rest.now }
     ensures within { result ≤ length rest.now }

@@ -71,9 +71,9 @@ fn reads_each_spelling(rt: HostRuntime) -> Result<(), Fail> {
     Ok(())
 }
 
-// Blanks, comments, joined lines, parentheses, the end line, and the longest token at each place.
+// Blanks, comments, joined lines, parentheses, the end line, and the longest token at each offset.
 #[test]
-fn reads_one_behind_the_other(rt: HostRuntime) -> Result<(), Fail> {
+fn reads_one_after_the_other(rt: HostRuntime) -> Result<(), Fail> {
     let alloc = rt.alloc();
     for (text, want) in [
         ("", [T::End].as_slice()),
@@ -152,7 +152,7 @@ fn names_the_first_fault(rt: HostRuntime) -> Result<(), Fail> {
     Ok(())
 }
 
-// The places and the lines of a script's tokens.
+// The offsets and the lines of a script's tokens.
 #[test]
 fn reads_a_script(rt: HostRuntime) -> Result<(), Fail> {
     let alloc = rt.alloc();

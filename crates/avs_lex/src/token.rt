@@ -1,13 +1,13 @@
 // Tokens.
 
-/// What a token is. The words of a punctuation stand in the order of its table.
+/// What a token is.
 #[derive(Clone, Copy, Debug, PartialEq, Eq)]
 pub enum TokenKind {
     /// A letter or `_`, then letters, digits and `_`.
     Ident,
     /// A number of 32 bits.
     Int(i32),
-    /// A text between quotes.
+    /// A string between quotes.
     Str,
     /// A newline outside parentheses.
     Newline,

@@ -1,4 +1,4 @@
-pub mod Marks
+pub mod PunctuationLemmas
 pub mod Turns
 pub mod Outcomes
 pub mod SoundExpr
@@ -8,3 +8,4 @@ pub mod CompleteExpr
 pub mod ScriptLengths
 pub mod CompleteScript
 pub mod ParseLemmas
+pub mod CallerLemmas

@@ -1,7 +1,7 @@
 pub mod Refused
-pub mod Reading
-pub mod ReadingExpr
-pub mod ReadingScript
-pub mod Reads
-pub mod Nests
-pub mod Inside
+pub mod Parsing
+pub mod ParsingExpr
+pub mod ParsingScript
+pub mod Answers
+pub mod ParsesExpr
+pub mod ParsesInside

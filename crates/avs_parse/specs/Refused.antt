@@ -1,11 +1,11 @@
--- What a fault of the parser says.
+-- What an error of the parser says.
 use Rattle.avs_tree.specs.Lexeme.{Lexemes}
 use Rattle.avs_tree.specs.Tree.{Script}
 use Rattle.avs_tree.specs.Script.{HasTree}
 use Rattle.avs_parse.specs.declared.fault.ParseError.{ParseError}
 use Rattle.avs_parse.specs.declared.fault.ParseError.TheVariants.{Syntax, NestLimit, Memory}
 
--- The tokens are no script that may be, unless memory was wanted.
+-- The tokens have no tree within the limit of nesting. Out of memory says nothing.
 abbrev pub IsRefused : Lexemes → ParseError → Type 0
 IsRefused ts (Syntax token line) = (tree : Script) → HasTree ts tree → ⊥
 IsRefused ts (NestLimit token line) = (tree : Script) → HasTree ts tree → ⊥

@@ -2,12 +2,12 @@
 ghost use Rattle.std.specs.Prelude.{◌≡◌, ◌<◌, length, All, OnOk};
 ghost use Rattle.avs_lex.specs.TokenList.{IsTokenOf};
 ghost use Rattle.avs_tree.specs.Lexeme.{lexemes, line_of};
-ghost use Rattle.avs_parse.specs.Reading as r;
-ghost use Rattle.avs_parse.specs.Reads.{Reads};
+ghost use Rattle.avs_parse.specs.Parsing as r;
+ghost use Rattle.avs_parse.specs.Answers.{Answers};
 
-use crate::fault::Stop;
+use crate::fault::ParseStop;
 use avs_lex::Token;
-use avs_tree::{Mark, Operator, Symbol, content, precedence, symbol_of};
+use avs_tree::{Operator, Punctuation, Symbol, content, symbol_of};
 use fv_io::Text;
 use std::alloc::Global;
 use std::marker::Model;
@@ -94,75 +94,78 @@ impl<'a> Tokens<'a> {
         }
     }
 
-    /// The next token cannot stand here.
-    pub fn refuse(&self) -> Stop
-        ensures { result ≡ Stop.Syntax (length self.now) }
+    /// The refusal of the next token.
+    pub fn refuse(&self) -> ParseStop
+        ensures { result ≡ ParseStop.Syntax (length self.now) }
     {
-        Stop::Syntax(self.rest.len())
+        ParseStop::Syntax(self.rest.len())
     }
 
-    /// Whether this mark comes next.
-    #[tactic(auto, unfolding(crate::specs::Reading::is_mark))]
-    pub fn is(&self, mark: Mark) -> bool
-        ensures { result ≡ r.is_mark mark self.now }
+    /// Whether this punctuation comes next.
+    #[tactic(auto, unfolding(crate::specs::Parsing::is_punctuation))]
+    pub fn is(&self, punctuation: Punctuation) -> bool
+        ensures { result ≡ r.is_punctuation punctuation self.now }
     {
         match self.peek() {
-            Some(Symbol::Mark(next)) => next == mark,
+            Some(Symbol::Punctuation(next)) => next == punctuation,
             _ => false,
         }
     }
 
-    /// Whether a name comes next, and `=` behind it.
-    #[tactic(auto, unfolding(crate::specs::Reading::assigns))]
+    /// Whether a name and then `=` come next.
+    #[tactic(auto, unfolding(crate::specs::Parsing::assigns))]
     pub fn assigns(&self) -> bool
         ensures { result ≡ r.assigns self.now }
     {
         matches!(
             (self.peek(), self.peek_second()),
-            (Some(Symbol::Name), Some(Symbol::Mark(Mark::Assign)))
+            (
+                Some(Symbol::Name),
+                Some(Symbol::Punctuation(Punctuation::Assign))
+            )
         )
     }
 
-    /// The operator that comes next, if it is of this rank.
-    #[tactic(auto, unfolding(crate::specs::Reading::operator_at))]
-    pub fn operator(&self, rank: u8) -> Option<Operator>
-        ensures { result ≡ r.operator_at rank self.now }
+    /// The operator that comes next, if it has this precedence.
+    #[tactic(auto, unfolding(crate::specs::Parsing::operator_at))]
+    pub fn operator(&self, precedence: u8) -> Option<Operator>
+        ensures { result ≡ r.operator_at precedence self.now }
     {
         match self.peek() {
-            Some(Symbol::Operator(op)) if precedence(op) == rank => Some(op),
+            Some(Symbol::Operator(op)) if op.precedence() == precedence => Some(op),
             _ => None,
         }
     }
 
-    /// Takes this mark.
-    #[tactic(auto, unfolding(crate::specs::Reading::expect))]
-    pub fn expect(&mut self, mark: Mark) -> Result<(), Stop>
-        ensures { Reads (λ u. u) (r.expect mark self.old) result self.new }
+    /// Takes this punctuation.
+    #[tactic(auto, unfolding(crate::specs::Parsing::expect))]
+    pub fn expect(&mut self, punctuation: Punctuation) -> Result<(), ParseStop>
+        ensures { Answers (λ u. u) (r.expect punctuation self.old) result self.new }
     {
-        if !self.is(mark) {
+        if !self.is(punctuation) {
             return Err(self.refuse());
         }
         self.take();
         Ok(())
     }
 
-    /// Takes a token from which on one more is open, where so many may still be opened.
-    #[tactic(auto, unfolding(crate::specs::Reading::opens))]
-    pub fn open(&mut self, depth: u32) -> Result<(), Stop>
-        ensures reads { Reads (λ u. u) (r.opens depth self.old) result self.new }
-        ensures room { OnOk result (0 < depth) }
+    /// Takes a token that opens one more level, where this many levels are left.
+    #[tactic(auto, unfolding(crate::specs::Parsing::opens))]
+    pub fn open(&mut self, levels_left: u32) -> Result<(), ParseStop>
+        ensures answers { Answers (λ u. u) (r.opens levels_left self.old) result self.new }
+        ensures may_open { OnOk result (0 < levels_left) }
     {
-        if depth == 0 {
-            return Err(Stop::NestLimit(self.left()));
+        if levels_left == 0 {
+            return Err(ParseStop::NestLimit(self.left()));
         }
         self.take();
         Ok(())
     }
 
     /// Takes a name.
-    #[tactic(auto, unfolding(crate::specs::Reading::name))]
-    pub fn name(&mut self, alloc: Global) -> Result<Text, Stop>
-        ensures { Reads (λ x. x) (r.name self.old) result self.new }
+    #[tactic(auto, unfolding(crate::specs::Parsing::name))]
+    pub fn name(&mut self, alloc: Global) -> Result<Text, ParseStop>
+        ensures { Answers (λ x. x) (r.name self.old) result self.new }
     {
         match self.peek() {
             Some(Symbol::Name) => {
@@ -174,29 +177,33 @@ impl<'a> Tokens<'a> {
         }
     }
 
-    /// Takes this mark, from which on one more is open, where so many may still be opened.
-    #[tactic(auto, unfolding(crate::specs::Reading::opens_mark))]
-    pub fn open_mark(&mut self, mark: Mark, depth: u32) -> Result<(), Stop>
-        ensures reads { Reads (λ u. u) (r.opens_mark mark depth self.old) result self.new }
-        ensures room { OnOk result (0 < depth) }
+    /// Takes this punctuation, which opens one more level, where this many levels are left.
+    #[tactic(auto, unfolding(crate::specs::Parsing::opens_punctuation))]
+    pub fn open_punctuation(
+        &mut self,
+        punctuation: Punctuation,
+        levels_left: u32,
+    ) -> Result<(), ParseStop>
+        ensures answers { Answers (λ u. u) (r.opens_punctuation punctuation levels_left self.old) result self.new }
+        ensures may_open { OnOk result (0 < levels_left) }
     {
-        if !self.is(mark) {
+        if !self.is(punctuation) {
             return Err(self.refuse());
         }
-        self.open(depth)
+        self.open(levels_left)
     }
 
     /// Takes the newlines at the front.
-    #[tactic(auto, using(crate::proofs::Marks::of_newlines))]
+    #[tactic(auto, using(crate::proofs::PunctuationLemmas::of_newlines))]
     pub fn skip_newlines(&mut self)
         ensures { self.new ≡ r.skip self.old }
     {
-        while self.is(Mark::Newline) {
+        while self.is(Punctuation::Newline) {
             self.take();
         }
     }
 
-    /// What comes next and after that, behind the newlines at the front.
+    /// What comes next and after that, once the newlines at the front are skipped.
     pub fn peek_past_newlines(&self) -> (Option<Symbol>, Option<Symbol>)
         ensures next { result.0 ≡ r.peek (r.skip self.now) }
         ensures second { result.1 ≡ r.peek (r.tail (r.skip self.now)) }
@@ -207,19 +214,19 @@ impl<'a> Tokens<'a> {
     }
 
     /// Whether the end of a block or of the script comes next.
-    #[tactic(auto, unfolding(crate::specs::Reading::closes))]
+    #[tactic(auto, unfolding(crate::specs::Parsing::closes))]
     pub fn closes(&self) -> bool
         ensures { result ≡ r.closes self.now }
     {
-        self.is(Mark::RightBrace) || self.is(Mark::End)
+        self.is(Punctuation::RightBrace) || self.is(Punctuation::End)
     }
 
     /// Takes what separates a statement from the next, where the statement ended with a brace or not.
-    #[tactic(auto, unfolding(crate::specs::Reading::separate))]
-    pub fn separate(&mut self, ended: bool) -> Result<(), Stop>
-        ensures { Reads (λ u. u) (r.separate ended self.old) result self.new }
+    #[tactic(auto, unfolding(crate::specs::Parsing::separate))]
+    pub fn separate(&mut self, ended: bool) -> Result<(), ParseStop>
+        ensures { Answers (λ u. u) (r.separate ended self.old) result self.new }
     {
-        if self.is(Mark::Newline) {
+        if self.is(Punctuation::Newline) {
             self.skip_newlines();
             return Ok(());
         }

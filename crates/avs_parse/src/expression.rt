@@ -1,50 +1,51 @@
 // The rules for expressions.
 ghost use Rattle.std.specs.Prelude.{◌≡◌, ◌-◌, ◌<◌, ◌≤◌, [], map, length, option_map, IfOk};
-ghost use Rattle.avs_parse.specs.Nests.{ReadsDeeper, ReadsLower};
-ghost use Rattle.avs_parse.specs.ReadingExpr as r;
-ghost use Rattle.avs_parse.specs.Reads.{Reads};
-ghost use Rattle.avs_tree.specs.View.{expr_view, arg_view, dot_view, step_view};
+ghost use Rattle.avs_parse.specs.ParsesExpr.{ParsesDeeper, ParsesLower};
+ghost use Rattle.avs_parse.specs.ParsingExpr as r;
+ghost use Rattle.avs_parse.specs.Answers.{Answers, AnswersEach};
+ghost use Rattle.avs_tree.specs.View.{expr_view, arg_view, method_call_view, step_view};
 
 use crate::cursor::Tokens;
-use crate::fault::Stop;
-use avs_tree::{Arg, DotCall, Expr, Keyword, Mark, Operator, Step, Symbol};
+use crate::fault::ParseStop;
+use avs_tree::{Arg, Expr, Keyword, MethodCall, Operator, Punctuation, Step, Symbol};
 use fv_io::Text;
 use std::alloc::{AllocError, Global};
 
-// The ranks of expressions. Those between are the ranks of operators.
+// The precedences of expressions. Those between are the precedences of operators.
 const PRIMARY: u8 = 0;
 
-const DOTS: u8 = 1;
+const POSTFIX: u8 = 1;
 
 const UNARY: u8 = 2;
 
 const COMPARISON: u8 = 5;
-/// The rank of any expression.
+/// The precedence of any expression.
 pub const EXPRESSION: u8 = 8;
 
-/// The rules, over a function that reads an expression of a rank, so deep.
+/// The rules, over a function that parses an expression of a precedence, with the levels that are left.
 #[derive(Clone, Copy)]
 pub struct Grammar<F> {
     alloc: Global,
-    /// How many parentheses and the like may still be opened.
-    depth: u32,
-    read: F,
+    /// How many levels of parentheses, braces and the like may still be opened.
+    levels_left: u32,
+    parse: F,
 }
 
-// The expression with the calls behind it.
-fn with_calls(alloc: Global, first: Expr, calls: Vec<DotCall>) -> Result<Expr, AllocError>
-    ensures { IfOk result (λ e. expr_view e ≡ r.with_calls (expr_view first) (map dot_view calls.items)) }
+// The expression with the method calls after it.
+fn with_method_calls(alloc: Global, first: Expr, calls: Vec<MethodCall>) -> Result<Expr, AllocError>
+    ensures { IfOk result
+        (λ e. expr_view e ≡ r.with_method_calls (expr_view first) (map method_call_view calls.items)) }
 {
     if calls.is_empty() {
         return Ok(first);
     }
-    Ok(Expr::Dots {
+    Ok(Expr::MethodCalls {
         first: Box::new(alloc, first)?,
         calls,
     })
 }
 
-// The expression with the operators behind it.
+// The expression with the operators after it.
 fn with_steps(alloc: Global, first: Expr, rest: Vec<Step>) -> Result<Expr, AllocError>
     ensures { IfOk result (λ e. expr_view e ≡ r.with_steps (expr_view first) (map step_view rest.items)) }
 {
@@ -57,32 +58,33 @@ fn with_steps(alloc: Global, first: Expr, rest: Vec<Step>) -> Result<Expr, Alloc
     })
 }
 
-impl<F: Fn(Global, &mut Tokens<'_>, u32, u8) -> Result<Expr, Stop>> Grammar<F> {
-    // An expression of this rank, one deeper.
-    fn inner(&self, tokens: &mut Tokens<'_>, rank: u8) -> Result<Expr, Stop>
-        requires deeper { ReadsDeeper self.now.depth (F.pre self.now.read) (F.post self.now.read) }
-        requires room { 0 < self.now.depth }
-        requires is_rank { rank ≤ 8 }
-        ensures { Reads expr_view (r.below self.now.depth rank tokens.old) result tokens.new }
+impl<F: Fn(Global, &mut Tokens<'_>, u32, u8) -> Result<Expr, ParseStop>> Grammar<F> {
+    // An expression of this precedence, one level deeper.
+    fn inner(&self, tokens: &mut Tokens<'_>, precedence: u8) -> Result<Expr, ParseStop>
+        requires deeper { ParsesDeeper self.now.levels_left (F.pre self.now.parse) (F.post self.now.parse) }
+        requires may_open { 0 < self.now.levels_left }
+        requires is_precedence { precedence ≤ 8 }
+        ensures { Answers expr_view (r.below self.now.levels_left precedence tokens.old) result tokens.new }
     {
-        (self.read)(self.alloc, tokens, self.depth - 1, rank)
+        (self.parse)(self.alloc, tokens, self.levels_left - 1, precedence)
     }
 
-    // An operand of the rank below.
-    fn lower(&self, tokens: &mut Tokens<'_>, rank: u8) -> Result<Expr, Stop>
-        requires lower { ReadsLower self.now.depth rank (F.pre self.now.read) (F.post self.now.read) }
-        requires some { 0 < rank }
-        ensures { Reads expr_view (r.expression self.now.depth (rank - 1) tokens.old) result tokens.new }
+    // An operand of the precedence below.
+    fn lower(&self, tokens: &mut Tokens<'_>, precedence: u8) -> Result<Expr, ParseStop>
+        requires lower { ParsesLower self.now.levels_left precedence (F.pre self.now.parse) (F.post self.now.parse) }
+        requires some { 0 < precedence }
+        ensures { Answers expr_view (r.expression self.now.levels_left (precedence - 1) tokens.old) result tokens.new }
     {
-        (self.read)(self.alloc, tokens, self.depth, rank - 1)
+        (self.parse)(self.alloc, tokens, self.levels_left, precedence - 1)
     }
 
     // An argument, with a name or without.
-    #[tactic(auto, unfolding(crate::specs::ReadingExpr::argument))]
-    fn argument(&self, tokens: &mut Tokens<'_>) -> Result<Arg, Stop>
-        requires deeper { ReadsDeeper self.now.depth (F.pre self.now.read) (F.post self.now.read) }
-        requires room { 0 < self.now.depth }
-        ensures { Reads arg_view (r.argument self.now.depth (r.below self.now.depth) tokens.old) result tokens.new }
+    #[tactic(auto, unfolding(crate::specs::ParsingExpr::argument))]
+    fn argument(&self, tokens: &mut Tokens<'_>) -> Result<Arg, ParseStop>
+        requires deeper { ParsesDeeper self.now.levels_left (F.pre self.now.parse) (F.post self.now.parse) }
+        requires may_open { 0 < self.now.levels_left }
+        ensures { Answers arg_view
+            (r.argument self.now.levels_left (r.below self.now.levels_left) tokens.old) result tokens.new }
     {
         if !tokens.assigns() {
             let value = self.inner(tokens, EXPRESSION)?;
@@ -98,15 +100,16 @@ impl<F: Fn(Global, &mut Tokens<'_>, u32, u8) -> Result<Expr, Stop>> Grammar<F> {
         })
     }
 
-    // The arguments behind the first.
-    #[tactic(auto, using(crate::proofs::Turns::one_more, crate::proofs::Turns::no_more), unfolding(crate::specs::ReadingExpr::more_args))]
-    fn more_args(&self, tokens: &mut Tokens<'_>, mut args: Vec<Arg>) -> Result<Vec<Arg>, Stop>
-        requires deeper { ReadsDeeper self.now.depth (F.pre self.now.read) (F.post self.now.read) }
-        requires room { 0 < self.now.depth }
-        ensures { Reads (λ v. map arg_view v.items) (r.more_args self.now.depth (r.below self.now.depth) (length tokens.old) (map arg_view args.items) tokens.old) result tokens.new }
+    // The arguments after the first.
+    #[tactic(auto, using(crate::proofs::Turns::one_more, crate::proofs::Turns::no_more), unfolding(crate::specs::ParsingExpr::more_args))]
+    fn more_args(&self, tokens: &mut Tokens<'_>, mut args: Vec<Arg>) -> Result<Vec<Arg>, ParseStop>
+        requires deeper { ParsesDeeper self.now.levels_left (F.pre self.now.parse) (F.post self.now.parse) }
+        requires may_open { 0 < self.now.levels_left }
+        ensures { AnswersEach arg_view (r.more_args self.now.levels_left
+            (r.below self.now.levels_left) (length tokens.old) (map arg_view args.items) tokens.old) result tokens.new }
     {
         for _turn in 0..tokens.left() {
-            if !tokens.is(Mark::Comma) {
+            if !tokens.is(Punctuation::Comma) {
                 return Ok(args);
             }
             tokens.take();
@@ -116,14 +119,15 @@ impl<F: Fn(Global, &mut Tokens<'_>, u32, u8) -> Result<Expr, Stop>> Grammar<F> {
         Err(tokens.refuse())
     }
 
-    #[tactic(auto, unfolding(crate::specs::ReadingExpr::arg_list))]
-    fn arg_list(&self, tokens: &mut Tokens<'_>) -> Result<Vec<Arg>, Stop>
-        requires deeper { ReadsDeeper self.now.depth (F.pre self.now.read) (F.post self.now.read) }
-        requires room { 0 < self.now.depth }
-        ensures { Reads (λ v. map arg_view v.items) (r.arg_list self.now.depth (r.below self.now.depth) tokens.old) result tokens.new }
+    #[tactic(auto, unfolding(crate::specs::ParsingExpr::arg_list))]
+    fn arg_list(&self, tokens: &mut Tokens<'_>) -> Result<Vec<Arg>, ParseStop>
+        requires deeper { ParsesDeeper self.now.levels_left (F.pre self.now.parse) (F.post self.now.parse) }
+        requires may_open { 0 < self.now.levels_left }
+        ensures { AnswersEach arg_view
+            (r.arg_list self.now.levels_left (r.below self.now.levels_left) tokens.old) result tokens.new }
     {
         let mut args = Vec::new(self.alloc);
-        if tokens.is(Mark::RightParen) {
+        if tokens.is(Punctuation::RightParen) {
             return Ok(args);
         }
         let first = self.argument(tokens)?;
@@ -132,23 +136,25 @@ impl<F: Fn(Global, &mut Tokens<'_>, u32, u8) -> Result<Expr, Stop>> Grammar<F> {
     }
 
     // The arguments with their parentheses.
-    #[tactic(auto, unfolding(crate::specs::ReadingExpr::args))]
-    fn args(&self, tokens: &mut Tokens<'_>) -> Result<Vec<Arg>, Stop>
-        requires { ReadsDeeper self.now.depth (F.pre self.now.read) (F.post self.now.read) }
-        ensures { Reads (λ v. map arg_view v.items) (r.args self.now.depth (r.below self.now.depth) tokens.old) result tokens.new }
+    #[tactic(auto, unfolding(crate::specs::ParsingExpr::args))]
+    fn args(&self, tokens: &mut Tokens<'_>) -> Result<Vec<Arg>, ParseStop>
+        requires { ParsesDeeper self.now.levels_left (F.pre self.now.parse) (F.post self.now.parse) }
+        ensures { AnswersEach arg_view
+            (r.args self.now.levels_left (r.below self.now.levels_left) tokens.old) result tokens.new }
     {
-        tokens.open(self.depth)?;
+        tokens.open(self.levels_left)?;
         let args = self.arg_list(tokens)?;
-        tokens.expect(Mark::RightParen)?;
+        tokens.expect(Punctuation::RightParen)?;
         Ok(args)
     }
 
-    #[tactic(auto, unfolding(crate::specs::ReadingExpr::optional_args))]
-    fn optional_args(&self, tokens: &mut Tokens<'_>) -> Result<Option<Vec<Arg>>, Stop>
-        requires { ReadsDeeper self.now.depth (F.pre self.now.read) (F.post self.now.read) }
-        ensures { Reads (λ found. option_map (λ v. map arg_view v.items) found) (r.optional_args self.now.depth (r.below self.now.depth) tokens.old) result tokens.new }
+    #[tactic(auto, unfolding(crate::specs::ParsingExpr::optional_args))]
+    fn optional_args(&self, tokens: &mut Tokens<'_>) -> Result<Option<Vec<Arg>>, ParseStop>
+        requires { ParsesDeeper self.now.levels_left (F.pre self.now.parse) (F.post self.now.parse) }
+        ensures { Answers (λ found. option_map (λ v. map arg_view v.items) found)
+            (r.optional_args self.now.levels_left (r.below self.now.levels_left) tokens.old) result tokens.new }
     {
-        if !tokens.is(Mark::LeftParen) {
+        if !tokens.is(Punctuation::LeftParen) {
             return Ok(None);
         }
         let args = self.args(tokens)?;
@@ -156,10 +162,11 @@ impl<F: Fn(Global, &mut Tokens<'_>, u32, u8) -> Result<Expr, Stop>> Grammar<F> {
     }
 
     // A name, or a call of it.
-    #[tactic(auto, unfolding(crate::specs::ReadingExpr::named))]
-    fn named(&self, tokens: &mut Tokens<'_>) -> Result<Expr, Stop>
-        requires { ReadsDeeper self.now.depth (F.pre self.now.read) (F.post self.now.read) }
-        ensures { Reads expr_view (r.named self.now.depth (r.below self.now.depth) tokens.old) result tokens.new }
+    #[tactic(auto, unfolding(crate::specs::ParsingExpr::named))]
+    fn named(&self, tokens: &mut Tokens<'_>) -> Result<Expr, ParseStop>
+        requires { ParsesDeeper self.now.levels_left (F.pre self.now.parse) (F.post self.now.parse) }
+        ensures { Answers expr_view
+            (r.named self.now.levels_left (r.below self.now.levels_left) tokens.old) result tokens.new }
     {
         let line = tokens.line();
         let name = tokens.name(self.alloc)?;
@@ -169,21 +176,23 @@ impl<F: Fn(Global, &mut Tokens<'_>, u32, u8) -> Result<Expr, Stop>> Grammar<F> {
         }
     }
 
-    #[tactic(auto, unfolding(crate::specs::ReadingExpr::grouped))]
-    fn group(&self, tokens: &mut Tokens<'_>) -> Result<Expr, Stop>
-        requires { ReadsDeeper self.now.depth (F.pre self.now.read) (F.post self.now.read) }
-        ensures { Reads expr_view (r.grouped self.now.depth (r.below self.now.depth) tokens.old) result tokens.new }
+    #[tactic(auto, unfolding(crate::specs::ParsingExpr::grouped))]
+    fn group(&self, tokens: &mut Tokens<'_>) -> Result<Expr, ParseStop>
+        requires { ParsesDeeper self.now.levels_left (F.pre self.now.parse) (F.post self.now.parse) }
+        ensures { Answers expr_view
+            (r.grouped self.now.levels_left (r.below self.now.levels_left) tokens.old) result tokens.new }
     {
-        tokens.open(self.depth)?;
+        tokens.open(self.levels_left)?;
         let inside = self.inner(tokens, EXPRESSION)?;
-        tokens.expect(Mark::RightParen)?;
+        tokens.expect(Punctuation::RightParen)?;
         Ok(Expr::Group(Box::new(self.alloc, inside)?))
     }
 
-    #[tactic(auto, unfolding(crate::specs::ReadingExpr::primary))]
-    fn primary(&self, tokens: &mut Tokens<'_>) -> Result<Expr, Stop>
-        requires { ReadsDeeper self.now.depth (F.pre self.now.read) (F.post self.now.read) }
-        ensures { Reads expr_view (r.primary self.now.depth (r.below self.now.depth) tokens.old) result tokens.new }
+    #[tactic(auto, unfolding(crate::specs::ParsingExpr::primary))]
+    fn primary(&self, tokens: &mut Tokens<'_>) -> Result<Expr, ParseStop>
+        requires { ParsesDeeper self.now.levels_left (F.pre self.now.parse) (F.post self.now.parse) }
+        ensures { Answers expr_view
+            (r.primary self.now.levels_left (r.below self.now.levels_left) tokens.old) result tokens.new }
     {
         match tokens.peek() {
             Some(Symbol::Int(number)) => {
@@ -204,66 +213,70 @@ impl<F: Fn(Global, &mut Tokens<'_>, u32, u8) -> Result<Expr, Stop>> Grammar<F> {
                 Ok(Expr::Bool(false))
             }
             Some(Symbol::Name) => self.named(tokens),
-            Some(Symbol::Mark(Mark::LeftParen)) => self.group(tokens),
+            Some(Symbol::Punctuation(Punctuation::LeftParen)) => self.group(tokens),
             _ => Err(tokens.refuse()),
         }
     }
 
-    #[tactic(auto, unfolding(crate::specs::ReadingExpr::dot_call))]
-    fn dot_call(&self, tokens: &mut Tokens<'_>) -> Result<DotCall, Stop>
-        requires { ReadsDeeper self.now.depth (F.pre self.now.read) (F.post self.now.read) }
-        ensures { Reads dot_view (r.dot_call self.now.depth (r.below self.now.depth) tokens.old) result tokens.new }
+    #[tactic(auto, unfolding(crate::specs::ParsingExpr::one_method_call))]
+    fn method_call(&self, tokens: &mut Tokens<'_>) -> Result<MethodCall, ParseStop>
+        requires { ParsesDeeper self.now.levels_left (F.pre self.now.parse) (F.post self.now.parse) }
+        ensures { Answers method_call_view
+            (r.one_method_call self.now.levels_left (r.below self.now.levels_left) tokens.old) result tokens.new }
     {
         tokens.take();
         let line = tokens.line();
         let name = tokens.name(self.alloc)?;
         let args = self.optional_args(tokens)?;
-        Ok(DotCall { name, args, line })
+        Ok(MethodCall { name, args, line })
     }
 
-    #[tactic(auto, using(crate::proofs::Turns::one_more, crate::proofs::Turns::no_more), unfolding(crate::specs::ReadingExpr::dot_calls))]
-    fn dot_calls(&self, tokens: &mut Tokens<'_>) -> Result<Vec<DotCall>, Stop>
-        requires { ReadsDeeper self.now.depth (F.pre self.now.read) (F.post self.now.read) }
-        ensures { Reads (λ v. map dot_view v.items) (r.dot_calls self.now.depth (r.below self.now.depth) (length tokens.old) [] tokens.old) result tokens.new }
+    #[tactic(auto, using(crate::proofs::Turns::one_more, crate::proofs::Turns::no_more), unfolding(crate::specs::ParsingExpr::more_method_calls))]
+    fn method_calls(&self, tokens: &mut Tokens<'_>) -> Result<Vec<MethodCall>, ParseStop>
+        requires { ParsesDeeper self.now.levels_left (F.pre self.now.parse) (F.post self.now.parse) }
+        ensures { AnswersEach method_call_view (r.more_method_calls self.now.levels_left
+            (r.below self.now.levels_left) (length tokens.old) [] tokens.old) result tokens.new }
     {
         let mut calls = Vec::new(self.alloc);
         for _turn in 0..tokens.left() {
-            if !tokens.is(Mark::Dot) {
+            if !tokens.is(Punctuation::Dot) {
                 return Ok(calls);
             }
-            let call = self.dot_call(tokens)?;
+            let call = self.method_call(tokens)?;
             calls.push(call)?;
         }
         Err(tokens.refuse())
     }
 
-    #[tactic(auto, unfolding(crate::specs::ReadingExpr::dotted))]
-    fn dots(&self, tokens: &mut Tokens<'_>) -> Result<Expr, Stop>
-        requires deeper { ReadsDeeper self.now.depth (F.pre self.now.read) (F.post self.now.read) }
-        requires lower { ReadsLower self.now.depth 1 (F.pre self.now.read) (F.post self.now.read) }
-        ensures { Reads expr_view (r.dotted self.now.depth (r.below self.now.depth) (r.expression self.now.depth 0) tokens.old) result tokens.new }
+    #[tactic(auto, unfolding(crate::specs::ParsingExpr::postfixed))]
+    fn postfix(&self, tokens: &mut Tokens<'_>) -> Result<Expr, ParseStop>
+        requires deeper { ParsesDeeper self.now.levels_left (F.pre self.now.parse) (F.post self.now.parse) }
+        requires lower { ParsesLower self.now.levels_left 1 (F.pre self.now.parse) (F.post self.now.parse) }
+        ensures { Answers expr_view (r.postfixed self.now.levels_left (r.below self.now.levels_left)
+            (r.expression self.now.levels_left 0) tokens.old) result tokens.new }
     {
-        let first = self.lower(tokens, DOTS)?;
-        let calls = self.dot_calls(tokens)?;
-        Ok(with_calls(self.alloc, first, calls)?)
+        let first = self.lower(tokens, POSTFIX)?;
+        let calls = self.method_calls(tokens)?;
+        Ok(with_method_calls(self.alloc, first, calls)?)
     }
 
-    #[tactic(auto, unfolding(crate::specs::ReadingExpr::prefixed))]
-    fn unary(&self, tokens: &mut Tokens<'_>) -> Result<Expr, Stop>
-        requires deeper { ReadsDeeper self.now.depth (F.pre self.now.read) (F.post self.now.read) }
-        requires lower { ReadsLower self.now.depth 2 (F.pre self.now.read) (F.post self.now.read) }
-        ensures { Reads expr_view (r.prefixed self.now.depth (r.below self.now.depth) (r.expression self.now.depth 1) tokens.old) result tokens.new }
+    #[tactic(auto, unfolding(crate::specs::ParsingExpr::prefixed))]
+    fn unary(&self, tokens: &mut Tokens<'_>) -> Result<Expr, ParseStop>
+        requires deeper { ParsesDeeper self.now.levels_left (F.pre self.now.parse) (F.post self.now.parse) }
+        requires lower { ParsesLower self.now.levels_left 2 (F.pre self.now.parse) (F.post self.now.parse) }
+        ensures { Answers expr_view (r.prefixed self.now.levels_left (r.below self.now.levels_left)
+            (r.expression self.now.levels_left 1) tokens.old) result tokens.new }
     {
         let line = tokens.line();
         match tokens.peek() {
             Some(Symbol::Operator(Operator::Minus)) => {
-                tokens.open(self.depth)?;
+                tokens.open(self.levels_left)?;
                 let operand = self.inner(tokens, UNARY)?;
                 let operand = Box::new(self.alloc, operand)?;
                 Ok(Expr::Minus { operand, line })
             }
-            Some(Symbol::Mark(Mark::Not)) => {
-                tokens.open(self.depth)?;
+            Some(Symbol::Punctuation(Punctuation::Not)) => {
+                tokens.open(self.levels_left)?;
                 let operand = self.inner(tokens, UNARY)?;
                 let operand = Box::new(self.alloc, operand)?;
                 Ok(Expr::Not { operand, line })
@@ -272,55 +285,59 @@ impl<F: Fn(Global, &mut Tokens<'_>, u32, u8) -> Result<Expr, Stop>> Grammar<F> {
         }
     }
 
-    // An operator of this rank, and its operand.
-    #[tactic(auto, unfolding(crate::specs::ReadingExpr::one_step))]
-    fn step(&self, tokens: &mut Tokens<'_>, rank: u8) -> Result<Step, Stop>
-        requires lower { ReadsLower self.now.depth rank (F.pre self.now.read) (F.post self.now.read) }
-        requires some { 0 < rank }
-        ensures { Reads step_view (r.one_step self.now.depth (r.below self.now.depth) rank (r.expression self.now.depth (rank - 1)) tokens.old) result tokens.new }
+    // An operator of this precedence, and its operand.
+    #[tactic(auto, unfolding(crate::specs::ParsingExpr::one_step))]
+    fn step(&self, tokens: &mut Tokens<'_>, precedence: u8) -> Result<Step, ParseStop>
+        requires lower { ParsesLower self.now.levels_left precedence (F.pre self.now.parse) (F.post self.now.parse) }
+        requires some { 0 < precedence }
+        ensures { Answers step_view (r.one_step self.now.levels_left (r.below self.now.levels_left) precedence
+            (r.expression self.now.levels_left (precedence - 1)) tokens.old) result tokens.new }
     {
-        let Some(op) = tokens.operator(rank) else {
+        let Some(op) = tokens.operator(precedence) else {
             return Err(tokens.refuse());
         };
         let line = tokens.line();
         tokens.take();
-        let operand = self.lower(tokens, rank)?;
+        let operand = self.lower(tokens, precedence)?;
         Ok(Step { op, operand, line })
     }
 
-    #[tactic(auto, using(crate::proofs::Turns::one_more, crate::proofs::Turns::no_more), unfolding(crate::specs::ReadingExpr::steps))]
-    fn steps(&self, tokens: &mut Tokens<'_>, rank: u8) -> Result<Vec<Step>, Stop>
-        requires lower { ReadsLower self.now.depth rank (F.pre self.now.read) (F.post self.now.read) }
-        requires some { 0 < rank }
-        ensures { Reads (λ v. map step_view v.items) (r.steps self.now.depth (r.below self.now.depth) rank (r.expression self.now.depth (rank - 1)) (length tokens.old) [] tokens.old) result tokens.new }
+    #[tactic(auto, using(crate::proofs::Turns::one_more, crate::proofs::Turns::no_more), unfolding(crate::specs::ParsingExpr::steps))]
+    fn steps(&self, tokens: &mut Tokens<'_>, precedence: u8) -> Result<Vec<Step>, ParseStop>
+        requires lower { ParsesLower self.now.levels_left precedence (F.pre self.now.parse) (F.post self.now.parse) }
+        requires some { 0 < precedence }
+        ensures { AnswersEach step_view (r.steps self.now.levels_left (r.below self.now.levels_left) precedence
+            (r.expression self.now.levels_left (precedence - 1)) (length tokens.old) [] tokens.old) result tokens.new }
     {
         let mut rest = Vec::new(self.alloc);
         for _turn in 0..tokens.left() {
-            if tokens.operator(rank).is_none() {
+            if tokens.operator(precedence).is_none() {
                 return Ok(rest);
             }
-            let step = self.step(tokens, rank)?;
+            let step = self.step(tokens, precedence)?;
             rest.push(step)?;
         }
         Err(tokens.refuse())
     }
 
-    // Operands with operators of this rank between them.
-    #[tactic(auto, unfolding(crate::specs::ReadingExpr::chained))]
-    fn chain(&self, tokens: &mut Tokens<'_>, rank: u8) -> Result<Expr, Stop>
-        requires lower { ReadsLower self.now.depth rank (F.pre self.now.read) (F.post self.now.read) }
-        requires some { 0 < rank }
-        ensures { Reads expr_view (r.chained self.now.depth (r.below self.now.depth) rank (r.expression self.now.depth (rank - 1)) tokens.old) result tokens.new }
+    // Operands with operators of this precedence between them.
+    #[tactic(auto, unfolding(crate::specs::ParsingExpr::chained))]
+    fn chain(&self, tokens: &mut Tokens<'_>, precedence: u8) -> Result<Expr, ParseStop>
+        requires lower { ParsesLower self.now.levels_left precedence (F.pre self.now.parse) (F.post self.now.parse) }
+        requires some { 0 < precedence }
+        ensures { Answers expr_view (r.chained self.now.levels_left (r.below self.now.levels_left) precedence
+            (r.expression self.now.levels_left (precedence - 1)) tokens.old) result tokens.new }
     {
-        let first = self.lower(tokens, rank)?;
-        let rest = self.steps(tokens, rank)?;
+        let first = self.lower(tokens, precedence)?;
+        let rest = self.steps(tokens, precedence)?;
         Ok(with_steps(self.alloc, first, rest)?)
     }
 
-    #[tactic(auto, unfolding(crate::specs::ReadingExpr::compared))]
-    fn comparison(&self, tokens: &mut Tokens<'_>) -> Result<Expr, Stop>
-        requires { ReadsLower self.now.depth 5 (F.pre self.now.read) (F.post self.now.read) }
-        ensures { Reads expr_view (r.compared self.now.depth (r.below self.now.depth) (r.expression self.now.depth 4) tokens.old) result tokens.new }
+    #[tactic(auto, unfolding(crate::specs::ParsingExpr::compared))]
+    fn comparison(&self, tokens: &mut Tokens<'_>) -> Result<Expr, ParseStop>
+        requires { ParsesLower self.now.levels_left 5 (F.pre self.now.parse) (F.post self.now.parse) }
+        ensures { Answers expr_view (r.compared self.now.levels_left (r.below self.now.levels_left)
+            (r.expression self.now.levels_left 4) tokens.old) result tokens.new }
     {
         let left = self.lower(tokens, COMPARISON)?;
         let Some(op) = tokens.operator(COMPARISON) else {
@@ -339,25 +356,26 @@ impl<F: Fn(Global, &mut Tokens<'_>, u32, u8) -> Result<Expr, Stop>> Grammar<F> {
         })
     }
 
-    #[tactic(auto, unfolding(crate::specs::ReadingExpr::chosen))]
-    fn choice(&self, tokens: &mut Tokens<'_>) -> Result<Expr, Stop>
-        requires deeper { ReadsDeeper self.now.depth (F.pre self.now.read) (F.post self.now.read) }
-        requires lower { ReadsLower self.now.depth 8 (F.pre self.now.read) (F.post self.now.read) }
-        ensures { Reads expr_view (r.chosen self.now.depth (r.below self.now.depth) (r.expression self.now.depth 7) tokens.old) result tokens.new }
+    #[tactic(auto, unfolding(crate::specs::ParsingExpr::chosen))]
+    fn conditional(&self, tokens: &mut Tokens<'_>) -> Result<Expr, ParseStop>
+        requires deeper { ParsesDeeper self.now.levels_left (F.pre self.now.parse) (F.post self.now.parse) }
+        requires lower { ParsesLower self.now.levels_left 8 (F.pre self.now.parse) (F.post self.now.parse) }
+        ensures { Answers expr_view (r.chosen self.now.levels_left (r.below self.now.levels_left)
+            (r.expression self.now.levels_left 7) tokens.old) result tokens.new }
     {
         let condition = self.lower(tokens, EXPRESSION)?;
-        if !tokens.is(Mark::Question) {
+        if !tokens.is(Punctuation::Question) {
             return Ok(condition);
         }
         let line = tokens.line();
-        tokens.open(self.depth)?;
+        tokens.open(self.levels_left)?;
         let yes = self.inner(tokens, EXPRESSION)?;
-        tokens.expect(Mark::Colon)?;
+        tokens.expect(Punctuation::Colon)?;
         let no = self.inner(tokens, EXPRESSION)?;
         let condition = Box::new(self.alloc, condition)?;
         let yes = Box::new(self.alloc, yes)?;
         let no = Box::new(self.alloc, no)?;
-        Ok(Expr::Pick {
+        Ok(Expr::Conditional {
             condition,
             yes,
             no,
@@ -365,37 +383,37 @@ impl<F: Fn(Global, &mut Tokens<'_>, u32, u8) -> Result<Expr, Stop>> Grammar<F> {
         })
     }
 
-    #[tactic(auto, using(crate::proofs::Turns::rank_above, crate::proofs::Turns::rank_zero))]
-    fn ranked(&self, tokens: &mut Tokens<'_>, rank: u8) -> Result<Expr, Stop>
-        requires deeper { ReadsDeeper self.now.depth (F.pre self.now.read) (F.post self.now.read) }
-        requires lower { ReadsLower self.now.depth rank (F.pre self.now.read) (F.post self.now.read) }
-        ensures { Reads expr_view (r.expression self.now.depth rank tokens.old) result tokens.new }
+    #[tactic(auto, using(crate::proofs::Turns::precedence_above, crate::proofs::Turns::precedence_zero))]
+    fn of_precedence(&self, tokens: &mut Tokens<'_>, precedence: u8) -> Result<Expr, ParseStop>
+        requires deeper { ParsesDeeper self.now.levels_left (F.pre self.now.parse) (F.post self.now.parse) }
+        requires lower { ParsesLower self.now.levels_left precedence (F.pre self.now.parse) (F.post self.now.parse) }
+        ensures { Answers expr_view (r.expression self.now.levels_left precedence tokens.old) result tokens.new }
     {
-        match rank {
+        match precedence {
             PRIMARY => self.primary(tokens),
-            DOTS => self.dots(tokens),
+            POSTFIX => self.postfix(tokens),
             UNARY => self.unary(tokens),
             COMPARISON => self.comparison(tokens),
-            EXPRESSION => self.choice(tokens),
-            _ => self.chain(tokens, rank),
+            EXPRESSION => self.conditional(tokens),
+            _ => self.chain(tokens, precedence),
         }
     }
 }
 
-/// An expression of this rank, where so many parentheses and the like may still be opened.
+/// An expression of at most this precedence, where this many levels are left.
 pub fn expression(
     alloc: Global,
     tokens: &mut Tokens<'_>,
-    depth: u32,
-    rank: u8,
-) -> Result<Expr, Stop>
-    requires { rank ≤ 8 }
-    ensures { Reads expr_view (r.expression depth rank tokens.old) result tokens.new }
+    levels_left: u32,
+    precedence: u8,
+) -> Result<Expr, ParseStop>
+    requires { precedence ≤ 8 }
+    ensures { Answers expr_view (r.expression levels_left precedence tokens.old) result tokens.new }
 {
     Grammar {
         alloc,
-        depth,
-        read: expression,
+        levels_left,
+        parse: expression,
     }
-    .ranked(tokens, rank)
+    .of_precedence(tokens, precedence)
 }

@@ -1,43 +1,43 @@
 // Why tokens have no tree.
 use std::alloc::{AllocError, AllocFailed};
 
-/// Why there is no tree. A token is named by its number, from 0 on.
+/// Why there is no tree. Tokens are counted from 0.
 #[derive(Clone, Copy, Debug, PartialEq, Eq)]
 pub enum ParseError {
-    /// No script goes on with this token.
+    /// The grammar does not allow this token here.
     Syntax { token: u32, line: u32 },
-    /// This token nests too deep.
+    /// This token opens more levels than the limit.
     NestLimit { token: u32, line: u32 },
-    /// No memory was found.
+    /// Out of memory.
     Memory,
 }
 
-/// Why a rule stopped, with how many tokens were left.
+/// Why a rule stopped, and how many tokens were left then.
 #[derive(Clone, Copy, Debug, PartialEq, Eq)]
-pub enum Stop {
+pub enum ParseStop {
     Syntax(usize),
     NestLimit(usize),
     Memory,
 }
 
-impl From<AllocError> for Stop {
+impl From<AllocError> for ParseStop {
     ghost use Rattle.std.specs.Prelude.{◌≡◌};
-    ghost use Rattle.avs_parse.specs.declared.fault.Stop.TheVariants.{Memory};
+    ghost use Rattle.avs_parse.specs.declared.fault.ParseStop.TheVariants.{Memory};
 
     ghost from_gives = { λ _ stop. stop ≡ Memory };
 
-    fn from(_: AllocError) -> Stop {
-        Stop::Memory
+    fn from(_: AllocError) -> ParseStop {
+        ParseStop::Memory
     }
 }
 
-impl<T: Drop> From<AllocFailed<T>> for Stop {
+impl<T: Drop> From<AllocFailed<T>> for ParseStop {
     ghost use Rattle.std.specs.Prelude.{◌≡◌};
-    ghost use Rattle.avs_parse.specs.declared.fault.Stop.TheVariants.{Memory};
+    ghost use Rattle.avs_parse.specs.declared.fault.ParseStop.TheVariants.{Memory};
 
     ghost from_gives = { λ _ stop. stop ≡ Memory };
 
-    fn from(_: AllocFailed<T>) -> Stop {
-        Stop::Memory
+    fn from(_: AllocFailed<T>) -> ParseStop {
+        ParseStop::Memory
     }
 }

@@ -1,7 +1,7 @@
 //! The parser of scripts in the language of AviSynth+.
 //!
-//! `IsScript` (`avs_tree`, `specs/Script.antt`) says which tree the tokens of a script have; `parse` answers exactly that
-//! tree, as long as its nesting fits. The trees are those of `avs_tree`.
+//! `parse` answers exactly the tree that the grammar gives (`HasTree` of `avs_tree`, `specs/Script.antt`), and refuses only
+//! tokens of which the grammar gives no tree within the limit of nesting. `laws` says that tokens have at most one tree.
 #![tactic(auto)]
 
 mod cursor;
@@ -12,8 +12,8 @@ mod script;
 mod statement;
 
 pub use avs_tree::{
-    Arg, Arm, DotCall, Expr, Function, Operator, Parameter, Script, Statement, StatementKind, Step,
-    TypeWord,
+    Arg, Arm, Expr, Function, MethodCall, Operator, Parameter, Script, Statement, StatementKind,
+    Step, TypeWord,
 };
 pub use fault::ParseError;
 pub use script::parse;

@@ -1,26 +1,28 @@
 // The rules for functions and scripts, and the parser.
 ghost use Rattle.std.specs.Prelude.{◌≡◌, [], map, length, IfOk, IfErr};
-ghost use Rattle.avs_parse.specs.Inside.{ReadsInside};
+ghost use Rattle.avs_parse.specs.ParsesInside.{ParsesInside};
 ghost use Rattle.avs_lex.specs.TokenList.{IsTokenList};
 ghost use Rattle.avs_tree.specs.Lexeme.{lexemes};
 ghost use Rattle.avs_tree.specs.Script.{HasTree};
 ghost use Rattle.avs_parse.specs.Refused.{IsRefused};
-ghost use Rattle.avs_parse.specs.ReadingScript as r;
-ghost use Rattle.avs_parse.specs.Reading.{peek};
-ghost use Rattle.avs_parse.specs.Reads.{Reads};
+ghost use Rattle.avs_parse.specs.ParsingScript as r;
+ghost use Rattle.avs_parse.specs.ParsingScript.{items_view};
+ghost use Rattle.avs_parse.specs.Parsing.{peek};
+ghost use Rattle.avs_parse.specs.Answers.{Answers};
 ghost use Rattle.avs_tree.specs.View.{statement_view, function_view, script_view};
 
 use crate::cursor::Tokens;
-use crate::fault::{ParseError, Stop};
+use crate::fault::{ParseError, ParseStop};
 use crate::statement::{Blocks, block};
 use avs_lex::Token;
 use avs_tree::{
-    Function, Keyword, Mark, Parameter, Script, Statement, Symbol, TypeWord, is_name, type_word,
+    Function, Keyword, Parameter, Punctuation, Script, Statement, Symbol, TypeWord, is_name,
+    type_word,
 };
 use fv_io::Text;
 use std::alloc::Global;
 
-/// How many parentheses and the like may be open at once.
+/// How many levels of parentheses, braces and the like may be open at once.
 pub const NESTING_LIMIT: u32 = 32;
 
 // The name of a parameter of this type, as a name, or as a string where it is optional.
@@ -29,8 +31,8 @@ fn parameter_name(
     tokens: &mut Tokens<'_>,
     must: bool,
     word: TypeWord,
-) -> Result<Parameter, Stop>
-    ensures { Reads (λ p. p) (r.named_as (peek tokens.old) must word tokens.old) result tokens.new }
+) -> Result<Parameter, ParseStop>
+    ensures { Answers (λ p. p) (r.named_as (peek tokens.old) must word tokens.old) result tokens.new }
 {
     match tokens.peek() {
         Some(Symbol::Name) if !must => {
@@ -55,10 +57,10 @@ fn parameter_name(
     }
 }
 
-// A parameter, which must be optional or need not.
-#[tactic(auto, unfolding(crate::specs::ReadingScript::parameter))]
-fn parameter(alloc: Global, tokens: &mut Tokens<'_>, must: bool) -> Result<Parameter, Stop>
-    ensures { Reads (λ p. p) (r.parameter must tokens.old) result tokens.new }
+// A parameter, which has to be optional where `must` says so.
+#[tactic(auto, unfolding(crate::specs::ParsingScript::parameter))]
+fn parameter(alloc: Global, tokens: &mut Tokens<'_>, must: bool) -> Result<Parameter, ParseStop>
+    ensures { Answers (λ p. p) (r.parameter must tokens.old) result tokens.new }
 {
     match tokens.peek() {
         Some(Symbol::Name) => match type_word(tokens.content()) {
@@ -72,19 +74,20 @@ fn parameter(alloc: Global, tokens: &mut Tokens<'_>, must: bool) -> Result<Param
     }
 }
 
-// The parameters behind the first ones, of which the last one is optional or not.
+// The parameters after the first ones, of which the last one is optional or not.
 #[tactic(auto, using(crate::proofs::Turns::one_more_param, crate::proofs::Turns::no_more_param))]
 fn more_params(
     alloc: Global,
     tokens: &mut Tokens<'_>,
     optional: bool,
     mut params: Vec<Parameter>,
-) -> Result<Vec<Parameter>, Stop>
-    ensures { Reads (λ v. v.items) (r.more_params (length tokens.old) optional params.items tokens.old) result tokens.new }
+) -> Result<Vec<Parameter>, ParseStop>
+    ensures { Answers (λ v. v.items)
+        (r.more_params (length tokens.old) optional params.items tokens.old) result tokens.new }
 {
     let mut must = optional;
     for _turn in 0..tokens.left() {
-        if !tokens.is(Mark::Comma) {
+        if !tokens.is(Punctuation::Comma) {
             return Ok(params);
         }
         tokens.take();
@@ -95,12 +98,12 @@ fn more_params(
     Err(tokens.refuse())
 }
 
-#[tactic(auto, unfolding(crate::specs::ReadingScript::params))]
-fn params(alloc: Global, tokens: &mut Tokens<'_>) -> Result<Vec<Parameter>, Stop>
-    ensures { Reads (λ v. v.items) (r.params tokens.old) result tokens.new }
+#[tactic(auto, unfolding(crate::specs::ParsingScript::params))]
+fn params(alloc: Global, tokens: &mut Tokens<'_>) -> Result<Vec<Parameter>, ParseStop>
+    ensures { Answers (λ v. v.items) (r.params tokens.old) result tokens.new }
 {
     let mut params = Vec::new(alloc);
-    if tokens.is(Mark::RightParen) {
+    if tokens.is(Punctuation::RightParen) {
         return Ok(params);
     }
     let first = parameter(alloc, tokens, false)?;
@@ -116,25 +119,27 @@ fn defines(tokens: &Tokens<'_>) -> bool
     matches!(tokens.peek(), Some(Symbol::Keyword(Keyword::Function)))
 }
 
-/// What stands in a script beside the statements of blocks.
+/// The rules for what is outside of blocks.
 #[derive(Clone, Copy)]
 pub struct Outer<F> {
     blocks: Blocks<F>,
 }
 
-impl<F: Fn(Global, &mut Tokens<'_>, u32) -> Result<Vec<Statement>, Stop>> Outer<F> {
-    #[tactic(auto, unfolding(crate::specs::ReadingScript::function))]
-    fn function(&self, tokens: &mut Tokens<'_>) -> Result<Function, Stop>
-        requires { ReadsInside self.now.blocks.depth (F.pre self.now.blocks.read) (F.post self.now.blocks.read) }
-        ensures { Reads function_view (r.function self.now.blocks.depth (r.block_below self.now.blocks.depth) tokens.old) result tokens.new }
+impl<F: Fn(Global, &mut Tokens<'_>, u32) -> Result<Vec<Statement>, ParseStop>> Outer<F> {
+    #[tactic(auto, unfolding(crate::specs::ParsingScript::function))]
+    fn function(&self, tokens: &mut Tokens<'_>) -> Result<Function, ParseStop>
+        requires { ParsesInside self.now.blocks.levels_left
+            (F.pre self.now.blocks.parse) (F.post self.now.blocks.parse) }
+        ensures { Answers function_view (r.function self.now.blocks.levels_left
+            (r.block_below self.now.blocks.levels_left) tokens.old) result tokens.new }
     {
         let alloc = self.blocks.alloc;
         let line = tokens.line();
         tokens.take();
         let name = tokens.name(alloc)?;
-        tokens.open_mark(Mark::LeftParen, self.blocks.depth)?;
+        tokens.open_punctuation(Punctuation::LeftParen, self.blocks.levels_left)?;
         let params = params(alloc, tokens)?;
-        tokens.expect(Mark::RightParen)?;
+        tokens.expect(Punctuation::RightParen)?;
         let body = self.blocks.body(tokens)?;
         Ok(Function {
             name,
@@ -145,10 +150,12 @@ impl<F: Fn(Global, &mut Tokens<'_>, u32) -> Result<Vec<Statement>, Stop>> Outer<
     }
 
     // A function and what separates it from what follows.
-    #[tactic(auto, unfolding(crate::specs::ReadingScript::function_item))]
-    fn function_item(&self, tokens: &mut Tokens<'_>) -> Result<Function, Stop>
-        requires { ReadsInside self.now.blocks.depth (F.pre self.now.blocks.read) (F.post self.now.blocks.read) }
-        ensures { Reads function_view (r.function_item self.now.blocks.depth (r.block_below self.now.blocks.depth) tokens.old) result tokens.new }
+    #[tactic(auto, unfolding(crate::specs::ParsingScript::function_item))]
+    fn function_item(&self, tokens: &mut Tokens<'_>) -> Result<Function, ParseStop>
+        requires { ParsesInside self.now.blocks.levels_left
+            (F.pre self.now.blocks.parse) (F.post self.now.blocks.parse) }
+        ensures { Answers function_view (r.function_item self.now.blocks.levels_left
+            (r.block_below self.now.blocks.levels_left) tokens.old) result tokens.new }
     {
         let function = self.function(tokens)?;
         tokens.separate(true)?;
@@ -157,9 +164,11 @@ impl<F: Fn(Global, &mut Tokens<'_>, u32) -> Result<Vec<Statement>, Stop>> Outer<
 
     // All functions and statements up to a brace or the end.
     #[tactic(auto, using(crate::proofs::Turns::one_more_item, crate::proofs::Turns::no_more_item))]
-    fn all_items(&self, tokens: &mut Tokens<'_>) -> Result<Script, Stop>
-        requires { ReadsInside self.now.blocks.depth (F.pre self.now.blocks.read) (F.post self.now.blocks.read) }
-        ensures { Reads (λ s. (map function_view s.functions.items, map statement_view s.statements.items)) (r.all_items self.now.blocks.depth (r.block_below self.now.blocks.depth) (length tokens.old) [] [] tokens.old) result tokens.new }
+    fn all_items(&self, tokens: &mut Tokens<'_>) -> Result<Script, ParseStop>
+        requires { ParsesInside self.now.blocks.levels_left
+            (F.pre self.now.blocks.parse) (F.post self.now.blocks.parse) }
+        ensures { Answers items_view (r.all_items self.now.blocks.levels_left
+            (r.block_below self.now.blocks.levels_left) (length tokens.old) [] [] tokens.old) result tokens.new }
     {
         let mut functions = Vec::new(self.blocks.alloc);
         let mut statements = Vec::new(self.blocks.alloc);
@@ -181,14 +190,16 @@ impl<F: Fn(Global, &mut Tokens<'_>, u32) -> Result<Vec<Statement>, Stop>> Outer<
         Err(tokens.refuse())
     }
 
-    #[tactic(auto, unfolding(crate::specs::ReadingScript::whole))]
-    fn whole(&self, tokens: &mut Tokens<'_>) -> Result<Script, Stop>
-        requires { ReadsInside self.now.blocks.depth (F.pre self.now.blocks.read) (F.post self.now.blocks.read) }
-        ensures { Reads script_view (r.whole self.now.blocks.depth (r.block_below self.now.blocks.depth) tokens.old) result tokens.new }
+    #[tactic(auto, unfolding(crate::specs::ParsingScript::whole))]
+    fn whole(&self, tokens: &mut Tokens<'_>) -> Result<Script, ParseStop>
+        requires { ParsesInside self.now.blocks.levels_left
+            (F.pre self.now.blocks.parse) (F.post self.now.blocks.parse) }
+        ensures { Answers script_view (r.whole self.now.blocks.levels_left
+            (r.block_below self.now.blocks.levels_left) tokens.old) result tokens.new }
     {
         tokens.skip_newlines();
         let script = self.all_items(tokens)?;
-        tokens.expect(Mark::End)?;
+        tokens.expect(Punctuation::End)?;
         if tokens.left() != 0 {
             return Err(tokens.refuse());
         }
@@ -196,21 +207,21 @@ impl<F: Fn(Global, &mut Tokens<'_>, u32) -> Result<Vec<Statement>, Stop>> Outer<
     }
 }
 
-// A script that nests so deep at most.
-#[tactic(auto, using(crate::proofs::Turns::block_below_is), unfolding(crate::specs::ReadingScript::script))]
-fn script(alloc: Global, tokens: &mut Tokens<'_>, depth: u32) -> Result<Script, Stop>
-    ensures { Reads script_view (r.script depth tokens.old) result tokens.new }
+// A script whose nesting is within the levels that are left.
+#[tactic(auto, using(crate::proofs::Turns::block_below_is), unfolding(crate::specs::ParsingScript::script))]
+fn script(alloc: Global, tokens: &mut Tokens<'_>, levels_left: u32) -> Result<Script, ParseStop>
+    ensures { Answers script_view (r.script levels_left tokens.old) result tokens.new }
 {
     let blocks = Blocks {
         alloc,
-        depth,
-        read: block,
+        levels_left,
+        parse: block,
     };
     Outer { blocks }.whole(tokens)
 }
 
-// The number of the token from which on so many are left, and its line.
-fn place(tokens: &[Token], left: usize) -> (u32, u32) {
+// The number of the token from which on this many are left, and its line.
+fn token_and_line(tokens: &[Token], left: usize) -> (u32, u32) {
     let token = tokens.len().saturating_sub(left);
     let line = tokens.get(token).map_or(0, |token| token.line);
     (u32::try_from(token).unwrap_or(u32::MAX), line)
@@ -223,20 +234,20 @@ pub fn parse(alloc: Global, text: &str, tokens: &[Token]) -> Result<Script, Pars
     // The tree is the one that the grammar gives.
     ensures tree { IfOk result (λ made. HasTree (lexemes text.now tokens.now) (script_view made)) }
 
-    // A fault comes only where the grammar gives no tree, or one that nests too deep.
+    // A fault comes only where the grammar gives no tree within the limit of nesting.
     ensures fault { IfErr result (IsRefused (lexemes text.now tokens.now)) }
 {
     let mut rest = Tokens::new(text, tokens);
     match script(alloc, &mut rest, NESTING_LIMIT) {
         Ok(script) => Ok(script),
-        Err(Stop::Syntax(left)) => {
-            let (token, line) = place(tokens, left);
+        Err(ParseStop::Syntax(left)) => {
+            let (token, line) = token_and_line(tokens, left);
             Err(ParseError::Syntax { token, line })
         }
-        Err(Stop::NestLimit(left)) => {
-            let (token, line) = place(tokens, left);
+        Err(ParseStop::NestLimit(left)) => {
+            let (token, line) = token_and_line(tokens, left);
             Err(ParseError::NestLimit { token, line })
         }
-        Err(Stop::Memory) => Err(ParseError::Memory),
+        Err(ParseStop::Memory) => Err(ParseError::Memory),
     }
 }

@@ -17,7 +17,7 @@ fn fault(alloc: Global, text: &str) -> Result<Option<ParseError>, Fail> {
     Ok(parse(alloc, text, &tokens).err())
 }
 
-// A script with a part that stands in it so many times.
+// A script with a part that is repeated in it this many times.
 fn repeated(
     alloc: Global,
     head: &str,
@@ -66,6 +66,8 @@ fn faults_are_at_their_tokens(rt: HostRuntime) -> Result<(), Fail> {
     for (text, wanted) in table {
         assert_eq!(rt; fault(rt.alloc(), text)?, wanted, "{text}");
     }
+    let later = Some(ParseError::Syntax { token: 4, line: 3 });
+    assert_eq!(rt; fault(rt.alloc(), "a\n\nb c")?, later);
     Ok(())
 }
 
@@ -77,6 +79,23 @@ fn only_nesting_is_limited(rt: HostRuntime) -> Result<(), Fail> {
         ("x = ", "(", 33, "", deepest),
         ("x = ", "(", 32, "", syntax(34)),
         ("x = ", "-", 33, "1", deepest),
+        (
+            "a\nb\nx = ",
+            "(",
+            33,
+            "",
+            Some(ParseError::NestLimit { token: 38, line: 3 }),
+        ),
+        (
+            "x = ",
+            "(\n",
+            33,
+            "",
+            Some(ParseError::NestLimit {
+                token: 34,
+                line: 33,
+            }),
+        ),
         (
             "",
             "a ? b : ",
@@ -121,26 +140,26 @@ fn shape(script: &Script) -> &'static str {
         StatementKind::Value(Expr::Str(_)) => "string",
         StatementKind::Value(Expr::Name { .. }) => "name",
         StatementKind::Value(Expr::Call { .. }) => "call",
-        StatementKind::Value(Expr::Dots { .. }) => "dots",
+        StatementKind::Value(Expr::MethodCalls { .. }) => "method_calls",
         StatementKind::Value(Expr::Minus { .. }) => "minus",
         StatementKind::Value(Expr::Not { .. }) => "not",
         StatementKind::Value(Expr::Chain { .. }) => "chain",
         StatementKind::Value(Expr::Compare { .. }) => "compare",
-        StatementKind::Value(Expr::Pick { .. }) => "pick",
+        StatementKind::Value(Expr::Conditional { .. }) => "conditional",
         StatementKind::Value(Expr::Group(_)) => "group",
         _ => "other",
     }
 }
 
 #[test]
-fn each_rank_has_its_tree(rt: HostRuntime) -> Result<(), Fail> {
+fn each_precedence_has_its_tree(rt: HostRuntime) -> Result<(), Fail> {
     let table = [
         ("1", "int"),
         ("YES", "bool"),
         ("\"a\"", "string"),
         ("a", "name"),
         ("a(1, b = 2)", "call"),
-        ("a.b.c(1)", "dots"),
+        ("a.b.c(1)", "method_calls"),
         ("-a.b", "minus"),
         ("!-a", "not"),
         ("-a * b", "chain"),
@@ -148,7 +167,7 @@ fn each_rank_has_its_tree(rt: HostRuntime) -> Result<(), Fail> {
         ("a + b == c * d", "compare"),
         ("a == b && c", "chain"),
         ("a && b || c", "chain"),
-        ("a || b ? c : d", "pick"),
+        ("a || b ? c : d", "conditional"),
         ("(a ? b : c)", "group"),
         ("a = 1", "other"),
         ("function f() {}", "nothing"),

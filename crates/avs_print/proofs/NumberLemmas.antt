@@ -13,10 +13,12 @@ use Rattle.std.proofs.lemmas.Bool.Decides.{nat_tests}
 use Rattle.avs_lex.specs.declared.token.TokenKind.{TokenKind}
 use Rattle.avs_lex.specs.declared.token.TokenKind.TheVariants as k
 use Rattle.avs_lex.specs.Spelling.{value, Spells, IsDecimal, IsHexadecimal}
-use Rattle.avs_lex.proofs.NumberLemmas.{hexdigit_value, sixteen_times, eight_digits}
-use Rattle.avs_tree.specs.Lexeme.{Text, keyword_of, said, symbol_by, word_of}
+use Rattle.avs_lex.proofs.CallerLemmas.{hexdigit_value, sixteen_times, eight_digits}
+use Rattle.avs_tree.specs.Lexeme.{said, symbol_by, word_of}
+use Rattle.avs_tree.specs.Words.{keyword_of}
+use Rattle.avs_lex.specs.Characters.{Text}
 use Rattle.avs_tree.specs.declared.symbol.Symbol.TheVariants as s
-use Rattle.avs_tree.specs.declared.symbol.Keyword.{Keyword}
+use Rattle.avs_tree.specs.declared.words.Keyword.{Keyword}
 use Rattle.avs_print.specs.Printed.{number, hexadecimal, hexadecimal_digit}
 use Rattle.avs_print.proofs.Plain.{Fit, IsNumber}
 
@@ -100,7 +102,7 @@ fits_decimal n bytes spelled =
     let fits : FitsSigned w32 (pos (value 10 bytes)) = record { sfits = small } in
     subst (FitsSigned w32) (sym spelled.is) fits
 
--- a number of so many hexadecimal digits, and further digits behind it
+-- a number of n hexadecimal digits, and further digits after it
 value_below : (digits : Text) (n i : ℕ) → list_all is_ascii_hexdigit digits ≡ true → n < 16 ^ i → fold (λ n c. 16 * n + digit_value c) n digits < 16 ^ (i + length digits)
 value_below [] n i all low = let same : i + 0 ≡ i = omega arith in rw same low
 value_below (d ∷ digits) n i all low =

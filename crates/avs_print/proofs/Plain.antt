@@ -1,13 +1,15 @@
--- Trees whose names are names, whose texts can be quoted, whose numbers can be written, and whose operands have the ranks of
--- their places: what a tree owes to the tokens that it was read from.
+-- Trees whose names are names, whose strings can be quoted, whose numbers can be written, and whose operands have the
+-- precedences that they need: what is known of a tree that was read from tokens.
 use Rattle.std.specs.Prelude.{◌≡◌, ◌≤◌, ℕ, ◌-◌, ℤ, Bool, true, false, IsTrue, List, [], ◌∷◌, Option, Some, None}
 use Rattle.avs_lex.specs.declared.token.TokenKind.{TokenKind}
 use Rattle.avs_lex.specs.declared.token.TokenKind.TheVariants as k
 use Rattle.avs_lex.specs.Spelling.{IsName, IsQuoted}
 use Rattle.avs_lex.specs.Spelling as l
-use Rattle.avs_tree.specs.Lexeme.{Text, Lexeme, Lexemes, precedence_of, keyword_of, unquoted, said, symbol_by, is_name}
-use Rattle.avs_tree.specs.Tree.{Expr, int, bool, str, name, call, dots, minus, not_, chain, compare, pick, group, Args, no_args, arg, Dots, no_dots, word, dot, Steps, no_steps, step, Kind, global, assign, return, if_, while, for, value, Arms, no_arms, arm, Else, no_else, else_, Block, no_more, then_, Function, Script}
-use Rattle.avs_tree.specs.Grammar.{Chains, rank_of, Calls}
+use Rattle.avs_tree.specs.Lexeme.{Lexeme, Lexemes, precedence_of, unquoted, said, symbol_by, is_name}
+use Rattle.avs_tree.specs.Words.{keyword_of}
+use Rattle.avs_lex.specs.Characters.{Text}
+use Rattle.avs_tree.specs.Tree.{Expr, int, bool, str, name, call, method_calls, minus, not_, chain, compare, conditional, group, Args, no_args, arg, MethodCalls, no_method_calls, method, method_call, Steps, no_steps, step, Kind, global, assign, return, if_, while, for, value, Arms, no_arms, arm, Else, no_else, else_, Block, no_more, then_, Function, Script}
+use Rattle.avs_tree.specs.Grammar.{Chains, precedence_of_steps, HasMethodCall}
 use Rattle.avs_tree.specs.declared.tree.Parameter.{Parameter}
 use Rattle.avs_print.specs.Printed.{number, quoted}
 
@@ -31,7 +33,7 @@ pub record IsNamed (x : Text) : Type 0 where
   pub spelled : IsName x
   pub free : keyword_of x ≡ None
 
--- a text that its quotes hold
+-- a string that its quotes can hold
 pub record IsSaid (x : Text) : Type 0 where
   pub spelled : IsQuoted (quoted x)
   pub inside : unquoted (quoted x) ≡ x
@@ -53,22 +55,22 @@ abbrev mutual
   Plain r (str x) = IsSaid x
   Plain r (name x line) = IsNamed x
   Plain r (call x es line) = IsNamed x × PlainArgs es
-  Plain r (dots e ds) = (1 ≤ r) × Calls ds × Plain 0 e × PlainDots ds
+  Plain r (method_calls e ds) = (1 ≤ r) × HasMethodCall ds × Plain 0 e × PlainMethodCalls ds
   Plain r (minus e line) = (2 ≤ r) × Plain 2 e
   Plain r (not_ e line) = (2 ≤ r) × Plain 2 e
-  Plain r (chain e ss) = (rank_of ss ≤ r) × Chains ss × Plain (rank_of ss - 1) e × PlainSteps (rank_of ss) ss
+  Plain r (chain e ss) = (precedence_of_steps ss ≤ r) × Chains ss × Plain (precedence_of_steps ss - 1) e × PlainSteps (precedence_of_steps ss) ss
   Plain r (compare op a b line) = (5 ≤ r) × (precedence_of op ≡ 5) × Plain 4 a × Plain 4 b
-  Plain r (pick c a b line) = (8 ≤ r) × Plain 7 c × Plain 8 a × Plain 8 b
+  Plain r (conditional c a b line) = (8 ≤ r) × Plain 7 c × Plain 8 a × Plain 8 b
   Plain r (group e) = Plain 8 e
 
   pub PlainSteps : ℕ → Steps → Type 0
   PlainSteps r no_steps = Unit {0}
   PlainSteps r (step op e line ss) = (precedence_of op ≡ r) × Plain (r - 1) e × PlainSteps r ss
 
-  pub PlainDots : Dots → Type 0
-  PlainDots no_dots = Unit {0}
-  PlainDots (word x line ds) = IsNamed x × PlainDots ds
-  PlainDots (dot x es line ds) = IsNamed x × PlainArgs es × PlainDots ds
+  pub PlainMethodCalls : MethodCalls → Type 0
+  PlainMethodCalls no_method_calls = Unit {0}
+  PlainMethodCalls (method x line ds) = IsNamed x × PlainMethodCalls ds
+  PlainMethodCalls (method_call x es line ds) = IsNamed x × PlainArgs es × PlainMethodCalls ds
 
   pub PlainArgs : Args → Type 0
   PlainArgs no_args = Unit {0}
@@ -109,7 +111,7 @@ abbrev pub PlainName : Bool → Text → Type 0
 PlainName false x = IsNamed x
 PlainName true x = IsTrue (is_name x) × IsSaid x
 
--- Behind an optional parameter all are optional.
+-- After an optional parameter all are optional.
 abbrev pub PlainParams : Bool → List Parameter → Type 0
 PlainParams must [] = Unit {0}
 PlainParams must (p ∷ ps) = (IsTrue must → IsTrue p.optional) × PlainName p.optional p.name × PlainParams p.optional ps

@@ -5,19 +5,20 @@ use Rattle.std.proofs.lemmas.Int.{ints}
 use Rattle.std.specs.Int.Signed.{le_z}
 use Rattle.std.proofs.lemmas.Grind.{common_steps}
 use Rattle.avs_lex.specs.Written.{Word, written}
-use Rattle.avs_tree.specs.View.{DotIs, ArmIs, args_of, dots_of, dot_of, steps_of, arms_of, block_of, arg_view, dot_view, step_view, arm_view, statement_view, kind_view, function_view}
-use Rattle.avs_tree.specs.Tree.{Expr, int, bool, str, call, dots, minus, not_, chain, compare, pick, group, Args, no_args, arg, Dots, no_dots, word, dot, Steps, no_steps, step, Kind, global, assign, return, if_, while, for, value, Arms, no_arms, arm, Else, no_else, else_, Block, Function}
+use Rattle.avs_tree.specs.View.{MethodCallIs, ArmIs, args_of, method_calls_of, method_call_of, steps_of, arms_of, block_of, arg_view, method_call_view, step_view, arm_view, statement_view, kind_view, function_view}
+use Rattle.avs_tree.specs.Tree.{Expr, int, bool, str, call, method_calls, minus, not_, chain, compare, conditional, group, Args, no_args, arg, MethodCalls, no_method_calls, method, method_call, Steps, no_steps, step, Kind, global, assign, return, if_, while, for, value, Arms, no_arms, arm, Else, no_else, else_, Block, Function}
 use Rattle.avs_tree.specs.Tree as t
-use Rattle.avs_print.specs.Printed.{number, hexadecimal, dots_words, args_words, mark, ident, arms_words, else_word, condition_words, braces_words, block_words, expr_words, steps_words, label_words, kind_words, else_words, head_words, comma_words, operator_kind, params_words, function_words, ended, Open, EndsLine}
+use Rattle.avs_print.specs.Printed.{number, hexadecimal, method_calls_words, args_words, punctuation, keyword, ident, arms_words, else_word, condition_words, braces_words, block_words, expr_words, steps_words, label_words, kind_words, else_words, head_words, comma_words, operator_kind, params_words, function_words, ended, Open, EndsLine}
 use Rattle.avs_lex.specs.declared.token.TokenKind.TheVariants.{Dot, LeftParen, RightParen, LeftBrace, RightBrace, Assign, Minus, Not, Question, Colon}
 use Rattle.avs_tree.specs.declared.tree.Expr.{the_lemmas}
 use Rattle.avs_tree.specs.declared.tree.StatementKind.{the_lemmas as statement_lemmas}
 use Rattle.avs_tree.specs.declared.tree.Statement.{Statement}
 use Rattle.avs_tree.specs.declared.tree.Arm.{Arm}
+use Rattle.avs_tree.specs.declared.words.Keyword.TheVariants as reserved
 use Rattle.avs_tree.specs.declared.tree.Parameter.{Parameter}
 use Rattle.avs_tree.specs.declared.tree.Function.{Function as Code}
 use Rattle.avs_tree.specs.declared.tree.Arg.{Arg}
-use Rattle.avs_tree.specs.declared.tree.DotCall.{DotCall}
+use Rattle.avs_tree.specs.declared.tree.MethodCall.{MethodCall}
 use Rattle.avs_tree.specs.declared.tree.Step.{Step}
 
 pub written_both : (a b : List Word) → written (a ++ b) ≡ written a ++ written b
@@ -31,28 +32,28 @@ rest_more view xs i x h is = rw (add-one, drop-cons xs i x) (ap (λ z. view z �
 pub args_more : (xs : List Arg) (i : ℕ) (x : Arg) → i < length xs → x ≡ get_or xs i x → args_of (map arg_view (drop i xs)) ≡ args_of (arg_view x ∷ map arg_view (drop (i + 1) xs))
 args_more xs i x h is = ap args_of (rest_more arg_view xs i x h is)
 
-pub dots_more : (xs : List DotCall) (i : ℕ) (x : DotCall) → i < length xs → x ≡ get_or xs i x → dots_of (map dot_view (drop i xs)) ≡ dots_of (dot_view x ∷ map dot_view (drop (i + 1) xs))
-dots_more xs i x h is = ap dots_of (rest_more dot_view xs i x h is)
+pub method_calls_more : (xs : List MethodCall) (i : ℕ) (x : MethodCall) → i < length xs → x ≡ get_or xs i x → method_calls_of (map method_call_view (drop i xs)) ≡ method_calls_of (method_call_view x ∷ map method_call_view (drop (i + 1) xs))
+method_calls_more xs i x h is = ap method_calls_of (rest_more method_call_view xs i x h is)
 
 pub steps_more : (xs : List Step) (i : ℕ) (x : Step) → i < length xs → x ≡ get_or xs i x → steps_of (map step_view (drop i xs)) ≡ steps_of (step_view x ∷ map step_view (drop (i + 1) xs))
 steps_more xs i x h is = ap steps_of (rest_more step_view xs i x h is)
 
--- one more call behind a dot
-pub dots_one : (x : List ℕ) (o : Option Args) (line : ℕ) (ds : Dots) → dots_words (dot_of x o line ds) ≡ dots_words (dot_of x o line no_dots) ++ dots_words ds
-dots_one x None line ds = refl
-dots_one x (Some es) line ds = ap (λ z. mark Dot ∷ ident x ∷ mark LeftParen ∷ z) (sym (append_assoc (args_words true es) (mark RightParen ∷ []) (dots_words ds)))
+-- one more method call
+pub method_calls_one : (x : List ℕ) (o : Option Args) (line : ℕ) (ds : MethodCalls) → method_calls_words (method_call_of x o line ds) ≡ method_calls_words (method_call_of x o line no_method_calls) ++ method_calls_words ds
+method_calls_one x None line ds = refl
+method_calls_one x (Some es) line ds = ap (λ z. punctuation Dot ∷ ident x ∷ punctuation LeftParen ∷ z) (sym (append_assoc (args_words true es) (punctuation RightParen ∷ []) (method_calls_words ds)))
 
-dots_split : (d : DotIs) (ds : List DotIs) → dots_words (dots_of (d ∷ ds)) ≡ dots_words (dots_of (d ∷ [])) ++ dots_words (dots_of ds)
-dots_split d ds = dots_one d.0 d.1.0 d.1.1 (dots_of ds)
+method_calls_split : (d : MethodCallIs) (ds : List MethodCallIs) → method_calls_words (method_calls_of (d ∷ ds)) ≡ method_calls_words (method_calls_of (d ∷ [])) ++ method_calls_words (method_calls_of ds)
+method_calls_split d ds = method_calls_one d.0 d.1.0 d.1.1 (method_calls_of ds)
 
 -- one more turn of the loop over calls
-pub calls_step : (xs : List DotCall) (i : ℕ) (x : DotCall) (old new whole : List ℕ) → i < length xs → x ≡ get_or xs i x → old ++ written (dots_words (dots_of (map dot_view (drop i xs)))) ≡ whole
-    → new ≡ old ++ written (dots_words (dots_of (dot_view x ∷ []))) → new ++ written (dots_words (dots_of (map dot_view (drop (i + 1) xs)))) ≡ whole
+pub calls_step : (xs : List MethodCall) (i : ℕ) (x : MethodCall) (old new whole : List ℕ) → i < length xs → x ≡ get_or xs i x → old ++ written (method_calls_words (method_calls_of (map method_call_view (drop i xs)))) ≡ whole
+    → new ≡ old ++ written (method_calls_words (method_calls_of (method_call_view x ∷ []))) → new ++ written (method_calls_words (method_calls_of (map method_call_view (drop (i + 1) xs)))) ≡ whole
 calls_step xs i x old new whole h item before is =
-    let one = dots_words (dots_of (dot_view x ∷ [])) in
-    let rest = dots_words (dots_of (map dot_view (drop (i + 1) xs))) in
+    let one = method_calls_words (method_calls_of (method_call_view x ∷ [])) in
+    let rest = method_calls_words (method_calls_of (map method_call_view (drop (i + 1) xs))) in
     ap (λ z. z ++ written rest) is ∙ append_assoc old (written one) (written rest)
-    ∙ ap (λ z. old ++ z) (sym (written_both one rest) ∙ ap written (sym (dots_split (dot_view x) (map dot_view (drop (i + 1) xs)))) ∙ ap (λ z. written (dots_words z)) (sym (dots_more xs i x h item))) ∙ before
+    ∙ ap (λ z. old ++ z) (sym (written_both one rest) ∙ ap written (sym (method_calls_split (method_call_view x) (map method_call_view (drop (i + 1) xs)))) ∙ ap (λ z. written (method_calls_words z)) (sym (method_calls_more xs i x h item))) ∙ before
 
 -- a number below zero
 pub number_below : (z : ℤ) → le_z (pos 0) z ≡ false → number z ≡ 36 ∷ hexadecimal (cast_unsigned w32 z)
@@ -73,7 +74,7 @@ pub arms_one : (first : Bool) (a : ArmIs) (rest : Arms) → arms_words first (ar
 arms_one first a rest =
     let inside = condition_words a.0 in
     let body = braces_words (block_words a.1) in
-    ap (λ z. else_word first ++ ident (codes "if") ∷ z) (sym (append_assoc inside (body ++ []) (arms_words false rest) ∙ ap (λ z. inside ++ z) (append_assoc body [] (arms_words false rest))))
+    ap (λ z. else_word first ++ keyword reserved.If ∷ z) (sym (append_assoc inside (body ++ []) (arms_words false rest) ∙ ap (λ z. inside ++ z) (append_assoc body [] (arms_words false rest))))
 
 pub ruleset putting_statements = (putting, statement_lemmas)
 
@@ -103,7 +104,7 @@ cut_at front = grind (arith, common_steps)
 last_at : (front : List ℕ) → get_or (front ++ 32 ∷ []) (length (front ++ 32 ∷ []) - 1) 0 ≡ 32
 last_at front = grind (arith, common_steps)
 
--- a newline in the place of the last blank
+-- a newline replaces the last blank
 pub line_ends : (start : ℕ) (old new : List ℕ) → start < length old → get_or old (length old - 1) 0 ≡ 32 → new ≡ take (length old - 1) old ++ 10 ∷ [] → EndsLine start old new
 line_ends start old new some blank is before [] at open_ same = absurd (omega (arith, ap length (same ∙ append-nil before)))
 line_ends start old new some blank is before (w ∷ ws) at open_ same =
@@ -112,7 +113,7 @@ line_ends start old new some blank is before (w ∷ ws) at open_ same =
     let cut : take (length old - 1) old ≡ front = subst (λ z. take (length z - 1) z ≡ front) (sym all) (cut_at front) in
     is ∙ ap (λ z. z ++ 10 ∷ []) cut ∙ append_assoc before (init (w ∷ ws)) (10 ∷ []) ∙ ap (λ z. before ++ z) (sym (ended_init w ws))
 
--- nothing was put, or no blank stands last
+-- nothing was put, or no blank is last
 pub line_stays : (start : ℕ) (old : List ℕ) → (length old ≤ start) ⊎ (get_or old (length old - 1) 0 ≡ 32 → ⊥) → EndsLine start old old
 line_stays start old why before [] at open_ same = same
 line_stays start old (inl short) before (w ∷ ws) at open_ same = absurd (omega (arith, ap length (same ∙ ap (λ z. before ++ z) (open_init w ws open_)), length-append before (init (w ∷ ws) ++ 32 ∷ []), length-append (init (w ∷ ws)) (32 ∷ [])))
@@ -121,7 +122,7 @@ line_stays start old (inr other) before (w ∷ ws) at open_ same =
     let all : old ≡ front ++ 32 ∷ [] = same ∙ ap (λ z. before ++ z) (open_init w ws open_) ∙ sym (append_assoc before (init (w ∷ ws)) (32 ∷ [])) in
     absurd (other (subst (λ z. get_or z (length z - 1) 0 ≡ 32) (sym all) (last_at front)))
 
--- no line ends behind what is put last
+-- no line ends after what is put last
 open_both : (a b : List Word) → Open a → Open b → Open (a ++ b)
 open_both [] b h k = k
 open_both (w ∷ []) [] h k = h
@@ -151,23 +152,23 @@ mutual
   open_expr (bool b) = refl
   open_expr (str x) = refl
   open_expr (t.name x line) = refl
-  open_expr (call x es line) = open_one (mark LeftParen) (args_words true es ++ mark RightParen ∷ []) refl (open_last (args_words true es) (mark RightParen) refl)
-  open_expr (dots e ds) = open_both (expr_words e) (dots_words ds) (open_expr e) (open_dots ds)
-  open_expr (minus e line) = open_one (mark Minus) (expr_words e) refl (open_expr e)
-  open_expr (not_ e line) = open_one (mark Not) (expr_words e) refl (open_expr e)
+  open_expr (call x es line) = open_one (punctuation LeftParen) (args_words true es ++ punctuation RightParen ∷ []) refl (open_last (args_words true es) (punctuation RightParen) refl)
+  open_expr (method_calls e ds) = open_both (expr_words e) (method_calls_words ds) (open_expr e) (open_method_calls ds)
+  open_expr (minus e line) = open_one (punctuation Minus) (expr_words e) refl (open_expr e)
+  open_expr (not_ e line) = open_one (punctuation Not) (expr_words e) refl (open_expr e)
   open_expr (chain e ss) = open_both (expr_words e) (steps_words ss) (open_expr e) (open_steps ss)
-  open_expr (compare op a b line) = open_both (expr_words a) (mark (operator_kind op) ∷ expr_words b) (open_expr a) (open_one (mark (operator_kind op)) (expr_words b) refl (open_expr b))
-  open_expr (pick c a b line) =
-      open_both (expr_words c) (mark Question ∷ (expr_words a ++ mark Colon ∷ expr_words b)) (open_expr c)
-      (open_one (mark Question) (expr_words a ++ mark Colon ∷ expr_words b) refl (open_both (expr_words a) (mark Colon ∷ expr_words b) (open_expr a) (open_one (mark Colon) (expr_words b) refl (open_expr b))))
-  open_expr (group e) = open_one (mark LeftParen) (expr_words e ++ mark RightParen ∷ []) refl (open_last (expr_words e) (mark RightParen) refl)
+  open_expr (compare op a b line) = open_both (expr_words a) (punctuation (operator_kind op) ∷ expr_words b) (open_expr a) (open_one (punctuation (operator_kind op)) (expr_words b) refl (open_expr b))
+  open_expr (conditional c a b line) =
+      open_both (expr_words c) (punctuation Question ∷ (expr_words a ++ punctuation Colon ∷ expr_words b)) (open_expr c)
+      (open_one (punctuation Question) (expr_words a ++ punctuation Colon ∷ expr_words b) refl (open_both (expr_words a) (punctuation Colon ∷ expr_words b) (open_expr a) (open_one (punctuation Colon) (expr_words b) refl (open_expr b))))
+  open_expr (group e) = open_one (punctuation LeftParen) (expr_words e ++ punctuation RightParen ∷ []) refl (open_last (expr_words e) (punctuation RightParen) refl)
 
-  open_dots : (ds : Dots) → Open (dots_words ds)
-  open_dots no_dots = tt
-  open_dots (word x line ds) = open_one (ident x) (dots_words ds) refl (open_dots ds)
-  open_dots (dot x es line ds) =
-      open_one (mark LeftParen) (args_words true es ++ mark RightParen ∷ dots_words ds) refl
-      (open_both (args_words true es) (mark RightParen ∷ dots_words ds) (open_args true es) (open_one (mark RightParen) (dots_words ds) refl (open_dots ds)))
+  open_method_calls : (ds : MethodCalls) → Open (method_calls_words ds)
+  open_method_calls no_method_calls = tt
+  open_method_calls (method x line ds) = open_one (ident x) (method_calls_words ds) refl (open_method_calls ds)
+  open_method_calls (method_call x es line ds) =
+      open_one (punctuation LeftParen) (args_words true es ++ punctuation RightParen ∷ method_calls_words ds) refl
+      (open_both (args_words true es) (punctuation RightParen ∷ method_calls_words ds) (open_args true es) (open_one (punctuation RightParen) (method_calls_words ds) refl (open_method_calls ds)))
 
   open_args : (first : Bool) (es : Args) → Open (args_words first es)
   open_args first no_args = tt
@@ -177,10 +178,10 @@ mutual
 
   open_steps : (ss : Steps) → Open (steps_words ss)
   open_steps no_steps = tt
-  open_steps (step op e line ss) = open_one (mark (operator_kind op)) (expr_words e ++ steps_words ss) refl (open_both (expr_words e) (steps_words ss) (open_expr e) (open_steps ss))
+  open_steps (step op e line ss) = open_one (punctuation (operator_kind op)) (expr_words e ++ steps_words ss) refl (open_both (expr_words e) (steps_words ss) (open_expr e) (open_steps ss))
 
 open_braces : (inside : List Word) → Open (braces_words inside)
-open_braces inside = open_one (mark LeftBrace) (inside ++ mark RightBrace ∷ []) refl (open_last inside (mark RightBrace) refl)
+open_braces inside = open_one (punctuation LeftBrace) (inside ++ punctuation RightBrace ∷ []) refl (open_last inside (punctuation RightBrace) refl)
 
 open_else_word : (first : Bool) → Open (else_word first)
 open_else_word true = tt
@@ -190,14 +191,14 @@ open_arms : (first : Bool) (arms : Arms) → Open (arms_words first arms)
 open_arms first no_arms = tt
 open_arms first (arm e b rest) =
     let body = braces_words (block_words b) ++ arms_words false rest in
-    open_both (else_word first) (ident (codes "if") ∷ (condition_words e ++ body)) (open_else_word first)
-    (open_one (ident (codes "if")) (condition_words e ++ body) refl
-    (open_both (condition_words e) body (open_one (mark LeftParen) (expr_words e ++ mark RightParen ∷ []) refl (open_last (expr_words e) (mark RightParen) refl))
+    open_both (else_word first) (keyword reserved.If ∷ (condition_words e ++ body)) (open_else_word first)
+    (open_one (keyword reserved.If) (condition_words e ++ body) refl
+    (open_both (condition_words e) body (open_one (punctuation LeftParen) (expr_words e ++ punctuation RightParen ∷ []) refl (open_last (expr_words e) (punctuation RightParen) refl))
     (open_both (braces_words (block_words b)) (arms_words false rest) (open_braces (block_words b)) (open_arms false rest))))
 
 open_else : (other : Else) → Open (else_words other)
 open_else no_else = tt
-open_else (else_ b) = open_one (ident (codes "else")) (braces_words (block_words b)) refl (open_braces (block_words b))
+open_else (else_ b) = open_one (keyword reserved.Else) (braces_words (block_words b)) refl (open_braces (block_words b))
 
 open_before_braces : (a inside : List Word) → Open (a ++ braces_words inside)
 open_before_braces [] inside = open_braces inside
@@ -205,12 +206,12 @@ open_before_braces (w ∷ []) inside = open_braces inside
 open_before_braces (w ∷ v ∷ a) inside = open_before_braces (v ∷ a) inside
 
 pub open_kind : (k : Kind) → Open (kind_words k)
-open_kind (global x e) = open_one (mark Assign) (expr_words e) refl (open_expr e)
-open_kind (assign x e) = open_one (mark Assign) (expr_words e) refl (open_expr e)
-open_kind (return e) = open_one (ident (codes "return")) (expr_words e) refl (open_expr e)
+open_kind (global x e) = open_one (punctuation Assign) (expr_words e) refl (open_expr e)
+open_kind (assign x e) = open_one (punctuation Assign) (expr_words e) refl (open_expr e)
+open_kind (return e) = open_one (keyword reserved.Return) (expr_words e) refl (open_expr e)
 open_kind (if_ arms other) = open_both (arms_words true arms) (else_words other) (open_arms true arms) (open_else other)
-open_kind (while e b) = open_before_braces (ident (codes "while") ∷ condition_words e) (block_words b)
-open_kind (for x a b c d) = open_before_braces (ident (codes "for") ∷ head_words x a b c) (block_words d)
+open_kind (while e b) = open_before_braces (keyword reserved.While ∷ condition_words e) (block_words b)
+open_kind (for x a b c d) = open_before_braces (keyword reserved.For ∷ head_words x a b c) (block_words d)
 open_kind (value e) = open_expr e
 
 pub view_kind : (q : Statement) → (statement_view q).0 ≡ kind_view q.kind
@@ -227,7 +228,7 @@ open_back (v ∷ u ∷ a) w b h = open_back (u ∷ a) w b h
 pub open_function : (f : Function) → Open (function_words f)
 open_function f =
     let rest = braces_words (block_words f.body) in
-    open_one (mark LeftParen) (params_words true f.params ++ mark RightParen ∷ rest) refl (open_back (params_words true f.params) (mark RightParen) rest (open_one (mark RightParen) rest refl (open_braces (block_words f.body))))
+    open_one (punctuation LeftParen) (params_words true f.params ++ punctuation RightParen ∷ rest) refl (open_back (params_words true f.params) (punctuation RightParen) rest (open_one (punctuation RightParen) rest refl (open_braces (block_words f.body))))
 
 pub function_put : (f : Function) (old mid new : List ℕ) → mid ≡ old ++ written (function_words f) → EndsLine (length old) mid new → new ≡ old ++ written (ended (function_words f))
 function_put f old mid new is ends = ends old (function_words f) refl (open_function f) is

@@ -3,24 +3,23 @@ use Rattle.std.proofs.Common.{◌≡◌, refl, ap, sym, subst, ◌∙◌, suc, �
 use Rattle.avs_lex.specs.declared.token.Token.{Token}
 use Rattle.avs_lex.specs.declared.token.TokenKind.{TokenKind}
 use Rattle.avs_lex.specs.declared.token.TokenKind.TheVariants as k
-use Rattle.avs_lex.specs.Characters.{newline}
+use Rattle.avs_lex.specs.Characters.{newline, Text}
 use Rattle.avs_lex.specs.Tokens.{Tokens}
 use Rattle.avs_lex.specs.TokenList.{bytes_of, IsTokenOf, IsTokenList}
 use Rattle.avs_lex.specs.Written.{Word, spelled_of}
-use Rattle.avs_tree.specs.Lexeme.{Text, Lexemes, said, symbol_by, lexeme_of, lexemes}
+use Rattle.avs_tree.specs.Lexeme.{Lexemes, said, symbol_by, lexeme_of, lexemes}
 use Rattle.avs_tree.specs.Tree.{Script}
-use Rattle.avs_tree.specs.Grammar.{IsMark}
+use Rattle.avs_tree.specs.Grammar.{IsPunctuation}
 use Rattle.avs_tree.specs.Script.{IsScript, HasTree, script_nesting, nesting_limit}
-use Rattle.avs_tree.specs.declared.symbol.Mark.TheVariants as m
-use Rattle.avs_parse.proofs.CompleteScript.{one_tree}
-use Rattle.avs_lex.proofs.ReadingLemmas.{one_reading}
-use Rattle.avs_lex.proofs.ReadBackLemmas.{written_is_read}
-use Rattle.avs_print.specs.Lines.{bare_script}
+use Rattle.avs_tree.specs.declared.symbol.Punctuation.TheVariants as m
+use Rattle.avs_parse.proofs.CallerLemmas.{one_tree}
+use Rattle.avs_lex.proofs.CallerLemmas.{one_reading, written_is_read}
+use Rattle.avs_print.specs.WithoutLines.{script_without_lines}
 use Rattle.avs_print.specs.Printed.{script_words, printed}
-use Rattle.avs_print.specs.Laws.{IsTextOf}
+use Rattle.avs_print.specs.Laws.{ReadsBackAs}
 use Rattle.avs_print.proofs.Plain.{Fit, AllFit}
 use Rattle.avs_print.proofs.PlainLemmas.{script_plain}
-use Rattle.avs_print.proofs.NestingLemmas.{script_nesting_bare}
+use Rattle.avs_print.proofs.NestingLemmas.{script_nesting_without_lines}
 use Rattle.avs_print.proofs.WordsLemmas.{words_are}
 use Rattle.avs_print.proofs.AgainScript.{again_script}
 use Rattle.avs_print.proofs.Shows.{EndsAs, Shows}
@@ -44,10 +43,10 @@ rest_same is = cc (is)
 record ShowsAll (words : List Word) (ts : Lexemes) : Type 0 where
   us : Lexemes
   shows : Shows words ts us
-  end : IsMark m.End us []
+  end : IsPunctuation m.End us []
 
--- behind a word, where a line may end
-record ShowsBehind (ends_line : Bool) (words : List Word) (ts : Lexemes) : Type 0 where
+-- after a word, where a line may end
+record ShowsAfter (ends_line : Bool) (words : List Word) (ts : Lexemes) : Type 0 where
   vs : Lexemes
   ends : EndsAs ends_line ts vs
   all : ShowsAll words vs
@@ -56,13 +55,13 @@ lexeme_first : (text : Text) (t : Token) (ts : List Token) (kind : TokenKind) (b
     → lexemes text (t ∷ ts) ≡ (symbol_by kind (said kind bytes), said kind bytes, t.line) ∷ lexemes text ts
 lexeme_first text t ts kind bytes is = ap (λ z. z ∷ lexemes text ts) (lexeme_is text t kind bytes is)
 
-shows_behind : (text : Text) (ends_line : Bool) (words : List Word) (tokens : List Token)
+shows_after : (text : Text) (ends_line : Bool) (words : List Word) (tokens : List Token)
     → ((ts : List Token) → map (spelling_of text) ts ≡ spelled_of words → ShowsAll words (lexemes text ts))
     → map (spelling_of text) tokens ≡ (if ends_line then (k.Newline, newline ∷ []) ∷ spelled_of words else spelled_of words)
-    → ShowsBehind ends_line words (lexemes text tokens)
-shows_behind text false words tokens go same = record { vs = lexemes text tokens; ends = refl; all = go tokens same }
-shows_behind text true words [] go same = absurd (cc (same))
-shows_behind text true words (t ∷ ts) go same =
+    → ShowsAfter ends_line words (lexemes text tokens)
+shows_after text false words tokens go same = record { vs = lexemes text tokens; ends = refl; all = go tokens same }
+shows_after text true words [] go same = absurd (cc (same))
+shows_after text true words (t ∷ ts) go same =
     record {
       vs = lexemes text ts;
       ends = (t.line, (newline ∷ [], lexeme_first text t ts k.Newline (newline ∷ []) (first_same same)));
@@ -75,7 +74,7 @@ shows_all text [] (t ∷ []) same = record { us = lexemes text (t ∷ []); shows
 shows_all text [] (t ∷ u ∷ ts) same = absurd (cc (same))
 shows_all text (w ∷ words) [] same = absurd (cc (same))
 shows_all text (w ∷ words) (t ∷ ts) same =
-    let more = shows_behind text w.ends_line words ts (shows_all text words) (rest_same same) in
+    let more = shows_after text w.ends_line words ts (shows_all text words) (rest_same same) in
     record {
       us = more.all.us;
       shows = (more.vs, (t.line, lexemes text ts, lexeme_first text t ts w.kind w.bytes (first_same same), more.ends), more.all.shows);
@@ -95,25 +94,25 @@ tokens_fit text (t ∷ ts) all = (token_fits text t (all 0 t (omega arith)), tok
 -- ---- the law
 
 -- Lines don't matter to nesting.
-as_shallow : (again tree : Script) → bare_script again ≡ bare_script tree → script_nesting tree ≤ nesting_limit → script_nesting again ≤ nesting_limit
-as_shallow again tree same shallow = omega (arith, shallow, sym (script_nesting_bare again) ∙ ap script_nesting same ∙ script_nesting_bare tree)
+as_shallow : (again tree : Script) → script_without_lines again ≡ script_without_lines tree → script_nesting tree ≤ nesting_limit → script_nesting again ≤ nesting_limit
+as_shallow again tree same shallow = omega (arith, shallow, sym (script_nesting_without_lines again) ∙ ap script_nesting same ∙ script_nesting_without_lines tree)
 
 -- the tokens of a text are one list, and their tree is one
 only : (text : Text) (tokens others : List Token) (again other : Script) → Tokens text tokens → Tokens text others → HasTree (lexemes text tokens) again → HasTree (lexemes text others) other → other ≡ again
 only text tokens others again other are others_are tree others_tree =
-    one_tree (lexemes text tokens) other again (subst (λ z. IsScript (lexemes text z) other) ((one_reading text).one_list others tokens others_are are) others_tree.spelled) tree.spelled
+    one_tree (lexemes text tokens) other again (subst (λ z. IsScript (lexemes text z) other) ((one_reading text).one_list others tokens others_are are) others_tree.derived) tree.derived
 
-pub printed_is_read : (text : Text) (tokens : List Token) (tree : Script) → IsTokenList text tokens → HasTree (lexemes text tokens) tree → IsTextOf (printed tree) tree
+pub printed_is_read : (text : Text) (tokens : List Token) (tree : Script) → IsTokenList text tokens → HasTree (lexemes text tokens) tree → ReadsBackAs (printed tree) tree
 printed_is_read text tokens tree list has =
-    let plain = script_plain (lexemes text tokens) tree (tokens_fit text tokens list.each) has.spelled in
+    let plain = script_plain (lexemes text tokens) tree (tokens_fit text tokens list.each) has.derived in
     let read = written_is_read (script_words tree) (words_are tree plain) in
     let shown = shows_all (printed tree) (script_words tree) read.tokens read.same in
     let found = again_script tree plain (lexemes (printed tree) read.tokens) shown.us shown.shows shown.end in
-    let tree_is : HasTree (lexemes (printed tree) read.tokens) found.again = record { spelled = found.spelled; shallow = as_shallow found.again tree found.same has.shallow } in
+    let tree_is : HasTree (lexemes (printed tree) read.tokens) found.again = record { derived = found.derived; shallow = as_shallow found.again tree found.same has.shallow } in
     record {
       tokens = read.tokens;
       tokens_are = read.are;
       again = found.again;
       tree_is = tree_is;
-      same = λ others other are other_is. ap bare_script (only (printed tree) read.tokens others found.again other read.are are tree_is other_is) ∙ found.same;
+      same = λ others other are other_is. ap script_without_lines (only (printed tree) read.tokens others found.again other read.are are tree_is other_is) ∙ found.same;
     }

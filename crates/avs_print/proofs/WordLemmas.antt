@@ -1,16 +1,17 @@
--- What a token owes to its word: a name that is no reserved word, and a text that its quotes hold.
+-- What is known of the word of a token: a name that is no reserved word, and a string that its quotes can hold.
 use Rattle.std.proofs.Common.{◌≡◌, ◌∙◌, ℕ, suc, ◌+◌, ◌*◌, ◌-◌, ◌≤◌, ap, sym, refl, subst, arith, [], ◌∷◌, ◌++◌, length, length-append, take, drop, nat_eq, ◌==◌, Option, Some, None, true, false, ◌&&◌, if◌then◌else◌}
 use Rattle.std.specs.List.{list_any, starts_with, slice_range}
 use Rattle.std.proofs.lemmas.Bool.Decides.{nat_tests}
 use Rattle.std.proofs.lemmas.List.{take-append-drop, take_at, drop_at, drop-drop}
 use Rattle.avs_lex.specs.declared.token.TokenKind.{TokenKind}
 use Rattle.avs_lex.specs.declared.token.TokenKind.TheVariants as k
-use Rattle.avs_lex.specs.Characters.{quote}
+use Rattle.avs_lex.specs.Characters.{quote, Text}
 use Rattle.avs_lex.specs.Spelling.{IsName, IsQuoted, Spells, through, triple, quotes_of}
-use Rattle.avs_lex.proofs.TestLemmas.{by_test, either}
-use Rattle.avs_tree.specs.Lexeme.{Text, keyword_of, unquoted, said, symbol_by, word_of}
+use Rattle.avs_lex.proofs.CallerLemmas.{by_test, either}
+use Rattle.avs_tree.specs.Lexeme.{unquoted, said, symbol_by, word_of}
+use Rattle.avs_tree.specs.Words.{keyword_of}
 use Rattle.avs_tree.specs.declared.symbol.Symbol.TheVariants as s
-use Rattle.avs_tree.specs.declared.symbol.Keyword.{Keyword}
+use Rattle.avs_tree.specs.declared.words.Keyword.{Keyword}
 use Rattle.avs_print.specs.Printed.{quoted}
 use Rattle.avs_print.proofs.Plain.{Fit, IsNamed, IsSaid}
 
@@ -30,7 +31,7 @@ named x line fit = named_by fit.kind fit.bytes x fit.spelled fit.symbol fit.cont
 
 -- ---- texts between quotes
 
--- a text without quotes is read up to the first one behind it
+-- a text without quotes is read up to the first one after it
 through_plain : (n : ℕ) (x rest : Text) → list_any (λ c. c == quote) x ≡ false → through (quote ∷ []) n (x ++ quote ∷ rest) ≡ Some (n + length x + 1)
 through_plain n [] rest none = ap Some (omega arith)
 through_plain n (c ∷ x) rest none =
@@ -38,7 +39,7 @@ through_plain n (c ∷ x) rest none =
     let later : list_any (λ c. c == quote) x ≡ false = grind arith in
     rw other (through_plain (n + 1) x rest later ∙ ap Some (omega arith))
 
--- where a quote stands in a text, nothing behind that text is read
+-- where there is a quote in a text, nothing after that text is read
 through_early : (n : ℕ) (x rest : Text) (end : ℕ) → list_any (λ c. c == quote) x ≡ true → through (quote ∷ []) n (x ++ rest) ≡ Some end → end ≤ n + length x
 through_early n [] rest end some is = cc
 through_early n (c ∷ x) rest end some is =
@@ -51,7 +52,7 @@ plain_start : (x : Text) → list_any (λ c. c == quote) x ≡ false → starts_
 plain_start [] none = refl
 plain_start (c ∷ x) none = let other : nat_eq quote c ≡ false = grind (arith, nat_tests) in rw other refl
 
--- what stands between a word and that word again
+-- what is between a word and that word again
 between : (word x : Text) (size : ℕ) → length word ≡ size → slice_range (word ++ (x ++ word)) size (length (word ++ (x ++ word)) - size) ≡ x
 between word x size long =
     let inner : length (word ++ (x ++ word)) - size - size ≡ length x = omega (arith, length-append word (x ++ word), length-append x word) in
@@ -62,8 +63,8 @@ around : (bytes word : Text) (size : ℕ) → 2 * size ≤ length bytes → take
     → bytes ≡ word ++ (slice_range bytes size (length bytes - size) ++ word)
 around bytes word size long opens closes =
     let inner = slice_range bytes size (length bytes - size) in
-    let place : size + (length bytes - size - size) ≡ length bytes - size = omega arith in
-    let last : drop (length bytes - size - size) (drop size bytes) ≡ word = drop-drop (length bytes - size - size) size bytes ∙ ap (λ n. drop n bytes) place ∙ closes in
+    let offset : size + (length bytes - size - size) ≡ length bytes - size = omega arith in
+    let last : drop (length bytes - size - size) (drop size bytes) ≡ word = drop-drop (length bytes - size - size) size bytes ∙ ap (λ n. drop n bytes) offset ∙ closes in
     let rest : drop size bytes ≡ inner ++ word = sym (take-append-drop (length bytes - size - size) (drop size bytes)) ∙ ap (λ z. inner ++ z) last in
     sym (take-append-drop size bytes) ∙ ap (λ z. z ++ drop size bytes) opens ∙ ap (λ z. word ++ z) rest
 
@@ -87,7 +88,7 @@ said_plain x none =
     let same : quoted x ≡ quote ∷ (x ++ quote ∷ []) = rw none refl in
     record { spelled = subst IsQuoted (sym same) (plain_quoted x none); inside = ap unquoted same ∙ plain_inside x none }
 
--- the inside of a token has quotes only where three of them stand at each end
+-- the inside of a token has quotes only where there are three of them at each end
 said_other : (bytes x : Text) → IsQuoted bytes → x ≡ unquoted bytes → list_any (λ c. c == quote) x ≡ true → IsSaid x
 unfolding unquoted
 said_other bytes x spelled content some =

@@ -4,43 +4,45 @@ use Rattle.std.specs.List.{list_all}
 use Rattle.std.specs.Char.{is_ascii_digit}
 use Rattle.avs_lex.specs.declared.token.TokenKind.{TokenKind}
 use Rattle.avs_lex.specs.declared.token.TokenKind.TheVariants as k
-use Rattle.avs_lex.specs.Characters.{dollar, begins_name, continues_name}
+use Rattle.avs_lex.specs.Characters.{dollar, begins_name, continues_name, Text}
 use Rattle.avs_lex.specs.Spelling.{IsName, IsQuoted, Spells}
-use Rattle.avs_lex.specs.Tokens.{depth_after}
+use Rattle.avs_lex.specs.Tokens.{open_parentheses_after}
 use Rattle.avs_lex.specs.Written.{Word, IsWord, AreWords}
-use Rattle.avs_lex.proofs.SpellingLemmas.{is_mark}
-use Rattle.avs_tree.specs.Lexeme.{Text, keyword_of, value_keyword_of}
-use Rattle.avs_tree.specs.Tree.{Expr, int, bool, str, name, call, dots, minus, not_, chain, compare, pick, group, Args, no_args, arg, Dots, no_dots, word, dot, Steps, no_steps, step, Kind, global, assign, return, if_, while, for, value, Arms, no_arms, arm, Else, no_else, else_, Block, no_more, then_, Function, Script}
-use Rattle.avs_tree.specs.Grammar.{rank_of}
+use Rattle.avs_lex.proofs.CallerLemmas.{is_punctuation}
+use Rattle.avs_tree.specs.Words.{keyword_of, word_of_keyword, word_of_type}
+use Rattle.avs_tree.specs.Tree.{Expr, int, bool, str, name, call, method_calls, minus, not_, chain, compare, conditional, group, Args, no_args, arg, MethodCalls, no_method_calls, method, method_call, Steps, no_steps, step, Kind, global, assign, return, if_, while, for, value, Arms, no_arms, arm, Else, no_else, else_, Block, no_more, then_, Function, Script}
+use Rattle.avs_tree.specs.Grammar.{precedence_of_steps, truth}
 use Rattle.avs_tree.specs.declared.tree.Operator.{Operator}
 use Rattle.avs_tree.specs.declared.tree.Operator.TheVariants as o
 use Rattle.avs_tree.specs.declared.tree.Parameter.{Parameter}
-use Rattle.avs_tree.specs.declared.tree.TypeWord.{TypeWord}
-use Rattle.avs_tree.specs.declared.tree.TypeWord.TheVariants as y
-use Rattle.avs_print.specs.Printed.{word_as, ident, mark, ended, number, quoted, truth_word, operator_kind, type_text, label_words, comma_words, expr_words, args_words, dots_words, steps_words, condition_words, step_words, head_words, else_word, braces_words, kind_words, arms_words, else_words, block_words, param_name, param_words, params_words, function_words, functions_words, script_words}
-use Rattle.avs_print.proofs.Plain.{IsNamed, IsSaid, IsNumber, Plain, PlainLabel, PlainArgs, PlainDots, PlainSteps, PlainStep, PlainKind, PlainArms, PlainElse, PlainBlock, PlainName, PlainParams, PlainFunction, PlainFunctions, PlainScript}
+use Rattle.avs_tree.specs.declared.words.Keyword.{Keyword}
+use Rattle.avs_tree.specs.declared.words.Keyword.TheVariants as reserved
+use Rattle.avs_tree.specs.declared.words.TypeWord.{TypeWord}
+use Rattle.avs_tree.specs.declared.words.TypeWord.TheVariants as y
+use Rattle.avs_print.specs.Printed.{word_as, ident, punctuation, keyword, ended, number, quoted, operator_kind, label_words, comma_words, expr_words, args_words, method_calls_words, steps_words, condition_words, step_words, head_words, else_word, braces_words, kind_words, arms_words, else_words, block_words, param_name, param_words, params_words, function_words, functions_words, script_words}
+use Rattle.avs_print.proofs.Plain.{IsNamed, IsSaid, IsNumber, Plain, PlainLabel, PlainArgs, PlainMethodCalls, PlainSteps, PlainStep, PlainKind, PlainArms, PlainElse, PlainBlock, PlainName, PlainParams, PlainFunction, PlainFunctions, PlainScript}
 
 -- ---- single words
 
 -- punctuation, and operators among it
-mark_word : (kind : TokenKind) → is_mark kind ≡ true → IsWord (mark kind)
-mark_word k.Ident is = cc
-mark_word (k.Int n) is = cc
-mark_word k.Str is = cc
-mark_word k.Newline is = cc
-mark_word k.End is = cc
-mark_word kind is = record { spelled = refl; no_newline = λ same. cc same; no_end = λ same. cc same; no_end_line = λ same. cc same }
+punctuation_word : (kind : TokenKind) → is_punctuation kind ≡ true → IsWord (punctuation kind)
+punctuation_word k.Ident is = cc
+punctuation_word (k.Int n) is = cc
+punctuation_word k.Str is = cc
+punctuation_word k.Newline is = cc
+punctuation_word k.End is = cc
+punctuation_word kind is = record { spelled = refl; no_newline = λ same. cc same; no_end = λ same. cc same; no_end_line = λ same. cc same }
 
-operator_mark : (op : Operator) → is_mark (operator_kind op) ≡ true
-operator_mark o.Or = refl
-operator_mark _ = refl
+operator_punctuation : (op : Operator) → is_punctuation (operator_kind op) ≡ true
+operator_punctuation o.Or = refl
+operator_punctuation _ = refl
 
 name_word : (x : Text) → IsName x → x ≢ codes "__END__" → IsWord (ident x)
 name_word x spelled other = record { spelled = spelled; no_newline = λ same. cc same; no_end = λ same. cc same; no_end_line = other }
 
 -- `__END__` is a reserved word
 not_end_line : (x : Text) → keyword_of x ≡ None → x ≢ codes "__END__"
-unfolding keyword_of value_keyword_of
+unfolding keyword_of
 not_end_line x free same = let end : keyword_of (codes "__END__") ≡ None = subst (λ z. keyword_of z ≡ None) same free in cc end
 
 named_word : (x : Text) → IsNamed x → IsWord (ident x)
@@ -75,85 +77,65 @@ said_word x said = record {
 is_fixed : (x : Text) → begins_name (slice_index x 0) ≡ true → list_all continues_name x ≡ true → x ≢ codes "__END__" → IsWord (ident x)
 is_fixed x begins continues other = name_word x (record { begins = begins; continues = continues }) other
 
-truth_is : (b : Bool) → IsWord (ident (truth_word b))
-truth_is true = is_fixed (codes "true") refl refl (λ same. cc same)
-truth_is false = is_fixed (codes "false") refl refl (λ same. cc same)
+keyword_word : (word : Keyword) → word ≢ reserved.End → IsWord (keyword word)
+keyword_word reserved.End other = absurd (other refl)
+keyword_word word other = is_fixed (word_of_keyword word) refl refl (λ same. cc same)
 
-type_is : (word : TypeWord) → IsWord (ident (type_text word))
-type_is y.Clip = is_fixed (codes "clip") refl refl (λ same. cc same)
-type_is y.Int = is_fixed (codes "int") refl refl (λ same. cc same)
-type_is y.String = is_fixed (codes "string") refl refl (λ same. cc same)
-type_is y.Bool = is_fixed (codes "bool") refl refl (λ same. cc same)
-type_is y.Val = is_fixed (codes "val") refl refl (λ same. cc same)
+truth_word : (b : Bool) → IsWord (keyword (truth b))
+truth_word true = keyword_word reserved.True (λ same. cc same)
+truth_word false = keyword_word reserved.False (λ same. cc same)
 
-if_is : IsWord (ident (codes "if"))
-if_is = is_fixed (codes "if") refl refl (λ same. cc same)
-
-else_is : IsWord (ident (codes "else"))
-else_is = is_fixed (codes "else") refl refl (λ same. cc same)
-
-while_is : IsWord (ident (codes "while"))
-while_is = is_fixed (codes "while") refl refl (λ same. cc same)
-
-for_is : IsWord (ident (codes "for"))
-for_is = is_fixed (codes "for") refl refl (λ same. cc same)
-
-global_is : IsWord (ident (codes "global"))
-global_is = is_fixed (codes "global") refl refl (λ same. cc same)
-
-return_is : IsWord (ident (codes "return"))
-return_is = is_fixed (codes "return") refl refl (λ same. cc same)
-
-function_is : IsWord (ident (codes "function"))
-function_is = is_fixed (codes "function") refl refl (λ same. cc same)
+type_word : (word : TypeWord) → IsWord (ident (word_of_type word))
+type_word y.Clip = is_fixed (word_of_type y.Clip) refl refl (λ same. cc same)
+type_word word = is_fixed (word_of_type word) refl refl (λ same. cc same)
 
 -- ---- parentheses
 
--- how many parentheses are open behind these words
-abbrev depth_behind : ℕ → List Word → ℕ
-depth_behind depth [] = depth
-depth_behind depth (w ∷ words) = depth_behind (depth_after w.kind depth) words
+-- how many parentheses are open after these words
+abbrev open_parentheses_after_words : ℕ → List Word → ℕ
+open_parentheses_after_words open_parentheses [] = open_parentheses
+open_parentheses_after_words open_parentheses (w ∷ words) = open_parentheses_after_words (open_parentheses_after w.kind open_parentheses) words
 
--- words that stand where so many parentheses are open, and leave so many open
-record Leads (before behind : ℕ) (words : List Word) : Type 0 where
+-- words that begin where `before` parentheses are open, and end where `after` are
+record Leads (before after : ℕ) (words : List Word) : Type 0 where
   are : AreWords before words
-  left : depth_behind before words ≡ behind
+  left : open_parentheses_after_words before words ≡ after
 
-nothing : {depth : ℕ} → Leads depth depth []
+nothing : {open_parentheses : ℕ} → Leads open_parentheses open_parentheses []
 nothing = record { are = tt; left = refl }
 
 -- a word that ends no line
-word_first : {before behind : ℕ} {w : Word} {words : List Word} → IsWord w → w.ends_line ≡ false → Leads (depth_after w.kind before) behind words → Leads before behind (w ∷ words)
+word_first : {before after : ℕ} {w : Word} {words : List Word} → IsWord w → w.ends_line ≡ false → Leads (open_parentheses_after w.kind before) after words → Leads before after (w ∷ words)
 word_first is open_ rest = record { are = (is, (λ ends. absurd (cc (open_, ends))), rest.are); left = rest.left }
 
-mark_first : {before behind : ℕ} (kind : TokenKind) {words : List Word} → is_mark kind ≡ true → Leads (depth_after kind before) behind words → Leads before behind (mark kind ∷ words)
-mark_first kind is rest = word_first (mark_word kind is) refl rest
+punctuation_first : {before after : ℕ} (kind : TokenKind) {words : List Word} → is_punctuation kind ≡ true → Leads (open_parentheses_after kind before) after words → Leads before after (punctuation kind ∷ words)
+punctuation_first kind is rest = word_first (punctuation_word kind is) refl rest
 
-named_first : {before behind : ℕ} {x : Text} {words : List Word} → IsNamed x → Leads before behind words → Leads before behind (ident x ∷ words)
+named_first : {before after : ℕ} {x : Text} {words : List Word} → IsNamed x → Leads before after words → Leads before after (ident x ∷ words)
 named_first {x = x} named rest = word_first (named_word x named) refl rest
 
-both : (front : List Word) {back : List Word} {before middle behind : ℕ} → Leads before middle front → Leads middle behind back → Leads before behind (front ++ back)
-both [] {back} {before} {middle} {behind} one two = subst (λ depth. Leads depth behind back) (sym one.left) two
+both : (front : List Word) {back : List Word} {before middle after : ℕ} → Leads before middle front → Leads middle after back → Leads before after (front ++ back)
+both [] {back} {before} {middle} {after} one two = subst (λ open_parentheses. Leads open_parentheses after back) (sym one.left) two
 both (w ∷ front) one two =
     let rest = both front (record { are = one.are.2; left = one.left }) two in
     record { are = (one.are.0, one.are.1, rest.are); left = rest.left }
 
--- what stands in parentheses
-enclosed : {before behind : ℕ} (inside : List Word) {rest : List Word} → Leads (before + 1) (before + 1) inside → Leads before behind rest → Leads before behind (mark k.LeftParen ∷ (inside ++ mark k.RightParen ∷ rest))
-enclosed {before} {behind} inside {rest} one two =
+-- words in parentheses
+enclosed : {before after : ℕ} (inside : List Word) {rest : List Word} → Leads (before + 1) (before + 1) inside → Leads before after rest → Leads before after (punctuation k.LeftParen ∷ (inside ++ punctuation k.RightParen ∷ rest))
+enclosed {before} {after} inside {rest} one two =
     let closed : before + 1 - 1 ≡ before = omega arith in
-    let last = subst (λ depth. Leads depth behind rest) (sym closed) two in
-    mark_first k.LeftParen refl (both inside one (mark_first k.RightParen refl last))
+    let last = subst (λ open_parentheses. Leads open_parentheses after rest) (sym closed) two in
+    punctuation_first k.LeftParen refl (both inside one (punctuation_first k.RightParen refl last))
 
 -- an operator is no parenthesis
-operator_depth : (op : Operator) (depth : ℕ) → depth_after (operator_kind op) depth ≡ depth
-operator_depth o.Or depth = refl
-operator_depth _ depth = refl
+operator_open_parentheses : (op : Operator) (open_parentheses : ℕ) → open_parentheses_after (operator_kind op) open_parentheses ≡ open_parentheses
+operator_open_parentheses o.Or open_parentheses = refl
+operator_open_parentheses _ open_parentheses = refl
 
-operator_first : {before behind : ℕ} (op : Operator) {words : List Word} → Leads before behind words → Leads before behind (mark (operator_kind op) ∷ words)
-operator_first {before} {behind} op {words} rest = mark_first (operator_kind op) (operator_mark op) (subst (λ depth. Leads depth behind words) (sym (operator_depth op before)) rest)
+operator_first : {before after : ℕ} (op : Operator) {words : List Word} → Leads before after words → Leads before after (punctuation (operator_kind op) ∷ words)
+operator_first {before} {after} op {words} rest = punctuation_first (operator_kind op) (operator_punctuation op) (subst (λ open_parentheses. Leads open_parentheses after words) (sym (operator_open_parentheses op before)) rest)
 
--- The last of the words may end its line where no parenthesis is open behind it.
+-- The last of the words may end its line where no parenthesis is open after it.
 ended_leads : (words : List Word) {before : ℕ} → Leads before 0 words → Leads before 0 (ended words)
 ended_leads [] all = all
 ended_leads (w ∷ []) all =
@@ -166,48 +148,48 @@ ended_leads (w ∷ next ∷ words) all =
 
 -- ---- expressions
 
-label_leads : (x : Option Text) (depth : ℕ) → PlainLabel x → Leads depth depth (label_words x)
-label_leads None depth plain = nothing
-label_leads (Some x) depth plain = named_first plain (mark_first k.Assign refl nothing)
+label_leads : (x : Option Text) (open_parentheses : ℕ) → PlainLabel x → Leads open_parentheses open_parentheses (label_words x)
+label_leads None open_parentheses plain = nothing
+label_leads (Some x) open_parentheses plain = named_first plain (punctuation_first k.Assign refl nothing)
 
-comma_leads : (begins : Bool) (depth : ℕ) → Leads depth depth (comma_words begins)
-comma_leads true depth = nothing
-comma_leads false depth = mark_first k.Comma refl nothing
+comma_leads : (begins : Bool) (open_parentheses : ℕ) → Leads open_parentheses open_parentheses (comma_words begins)
+comma_leads true open_parentheses = nothing
+comma_leads false open_parentheses = punctuation_first k.Comma refl nothing
 
 mutual
-  expr_leads : (e : Expr) (r depth : ℕ) → Plain r e → Leads depth depth (expr_words e)
-  expr_leads (int n) r depth plain = word_first (number_word n plain) refl nothing
-  expr_leads (bool b) r depth plain = word_first (truth_is b) refl nothing
-  expr_leads (str x) r depth plain = word_first (said_word x plain) refl nothing
-  expr_leads (name x line) r depth plain = named_first plain nothing
-  expr_leads (call x es line) r depth (named, plain) = named_first named (enclosed (args_words true es) (args_lead true es (depth + 1) plain) nothing)
-  expr_leads (dots e ds) r depth (high, some, plain, more) = both (expr_words e) (expr_leads e 0 depth plain) (dots_lead ds depth more)
-  expr_leads (minus e line) r depth (high, plain) = mark_first k.Minus refl (expr_leads e 2 depth plain)
-  expr_leads (not_ e line) r depth (high, plain) = mark_first k.Not refl (expr_leads e 2 depth plain)
-  expr_leads (chain e ss) r depth (high, some, plain, more) = both (expr_words e) (expr_leads e (rank_of ss - 1) depth plain) (steps_lead ss (rank_of ss) depth more)
-  expr_leads (compare op a b line) r depth (high, ranks, left, right) =
-      both (expr_words a) (expr_leads a 4 depth left) (operator_first op (expr_leads b 4 depth right))
-  expr_leads (pick c a b line) r depth (high, asks, one, other) =
-      both (expr_words c) (expr_leads c 7 depth asks)
-      (mark_first k.Question refl (both (expr_words a) (expr_leads a 8 depth one) (mark_first k.Colon refl (expr_leads b 8 depth other))))
-  expr_leads (group e) r depth plain = enclosed (expr_words e) (expr_leads e 8 (depth + 1) plain) nothing
+  expr_leads : (e : Expr) (r open_parentheses : ℕ) → Plain r e → Leads open_parentheses open_parentheses (expr_words e)
+  expr_leads (int n) r open_parentheses plain = word_first (number_word n plain) refl nothing
+  expr_leads (bool b) r open_parentheses plain = word_first (truth_word b) refl nothing
+  expr_leads (str x) r open_parentheses plain = word_first (said_word x plain) refl nothing
+  expr_leads (name x line) r open_parentheses plain = named_first plain nothing
+  expr_leads (call x es line) r open_parentheses (named, plain) = named_first named (enclosed (args_words true es) (args_lead true es (open_parentheses + 1) plain) nothing)
+  expr_leads (method_calls e ds) r open_parentheses (high, some, plain, more) = both (expr_words e) (expr_leads e 0 open_parentheses plain) (method_calls_lead ds open_parentheses more)
+  expr_leads (minus e line) r open_parentheses (high, plain) = punctuation_first k.Minus refl (expr_leads e 2 open_parentheses plain)
+  expr_leads (not_ e line) r open_parentheses (high, plain) = punctuation_first k.Not refl (expr_leads e 2 open_parentheses plain)
+  expr_leads (chain e ss) r open_parentheses (high, some, plain, more) = both (expr_words e) (expr_leads e (precedence_of_steps ss - 1) open_parentheses plain) (steps_lead ss (precedence_of_steps ss) open_parentheses more)
+  expr_leads (compare op a b line) r open_parentheses (high, precedences, left, right) =
+      both (expr_words a) (expr_leads a 4 open_parentheses left) (operator_first op (expr_leads b 4 open_parentheses right))
+  expr_leads (conditional c a b line) r open_parentheses (high, asks, one, other) =
+      both (expr_words c) (expr_leads c 7 open_parentheses asks)
+      (punctuation_first k.Question refl (both (expr_words a) (expr_leads a 8 open_parentheses one) (punctuation_first k.Colon refl (expr_leads b 8 open_parentheses other))))
+  expr_leads (group e) r open_parentheses plain = enclosed (expr_words e) (expr_leads e 8 (open_parentheses + 1) plain) nothing
 
-  args_lead : (begins : Bool) (es : Args) (depth : ℕ) → PlainArgs es → Leads depth depth (args_words begins es)
-  args_lead begins no_args depth plain = nothing
-  args_lead begins (arg x e es) depth (label, plain, more) =
-      both (comma_words begins) (comma_leads begins depth)
-      (both (label_words x) (label_leads x depth label)
-      (both (expr_words e) (expr_leads e 8 depth plain) (args_lead false es depth more)))
+  args_lead : (begins : Bool) (es : Args) (open_parentheses : ℕ) → PlainArgs es → Leads open_parentheses open_parentheses (args_words begins es)
+  args_lead begins no_args open_parentheses plain = nothing
+  args_lead begins (arg x e es) open_parentheses (label, plain, more) =
+      both (comma_words begins) (comma_leads begins open_parentheses)
+      (both (label_words x) (label_leads x open_parentheses label)
+      (both (expr_words e) (expr_leads e 8 open_parentheses plain) (args_lead false es open_parentheses more)))
 
-  dots_lead : (ds : Dots) (depth : ℕ) → PlainDots ds → Leads depth depth (dots_words ds)
-  dots_lead no_dots depth plain = nothing
-  dots_lead (word x line ds) depth (named, more) = mark_first k.Dot refl (named_first named (dots_lead ds depth more))
-  dots_lead (dot x es line ds) depth (named, plain, more) =
-      mark_first k.Dot refl (named_first named (enclosed (args_words true es) (args_lead true es (depth + 1) plain) (dots_lead ds depth more)))
+  method_calls_lead : (ds : MethodCalls) (open_parentheses : ℕ) → PlainMethodCalls ds → Leads open_parentheses open_parentheses (method_calls_words ds)
+  method_calls_lead no_method_calls open_parentheses plain = nothing
+  method_calls_lead (method x line ds) open_parentheses (named, more) = punctuation_first k.Dot refl (named_first named (method_calls_lead ds open_parentheses more))
+  method_calls_lead (method_call x es line ds) open_parentheses (named, plain, more) =
+      punctuation_first k.Dot refl (named_first named (enclosed (args_words true es) (args_lead true es (open_parentheses + 1) plain) (method_calls_lead ds open_parentheses more)))
 
-  steps_lead : (ss : Steps) (r depth : ℕ) → PlainSteps r ss → Leads depth depth (steps_words ss)
-  steps_lead no_steps r depth plain = nothing
-  steps_lead (step op e line ss) r depth (ranks, plain, more) = operator_first op (both (expr_words e) (expr_leads e (r - 1) depth plain) (steps_lead ss r depth more))
+  steps_lead : (ss : Steps) (r open_parentheses : ℕ) → PlainSteps r ss → Leads open_parentheses open_parentheses (steps_words ss)
+  steps_lead no_steps r open_parentheses plain = nothing
+  steps_lead (step op e line ss) r open_parentheses (precedences, plain, more) = operator_first op (both (expr_words e) (expr_leads e (r - 1) open_parentheses plain) (steps_lead ss r open_parentheses more))
 
 -- ---- statements
 
@@ -216,43 +198,43 @@ condition_leads e plain = enclosed (expr_words e) (expr_leads e 8 1 plain) nothi
 
 step_leads : (c : Option Expr) → PlainStep c → Leads 1 1 (step_words c)
 step_leads None plain = nothing
-step_leads (Some e) plain = mark_first k.Comma refl (expr_leads e 8 1 plain)
+step_leads (Some e) plain = punctuation_first k.Comma refl (expr_leads e 8 1 plain)
 
-assign_leads : (x : Text) (e : Expr) → IsNamed x → Plain 8 e → Leads 0 0 (ident x ∷ mark k.Assign ∷ expr_words e)
-assign_leads x e named plain = named_first named (mark_first k.Assign refl (expr_leads e 8 0 plain))
+assign_leads : (x : Text) (e : Expr) → IsNamed x → Plain 8 e → Leads 0 0 (ident x ∷ punctuation k.Assign ∷ expr_words e)
+assign_leads x e named plain = named_first named (punctuation_first k.Assign refl (expr_leads e 8 0 plain))
 
 head_leads : (x : Text) (a b : Expr) (c : Option Expr) → IsNamed x → Plain 8 a → Plain 8 b → PlainStep c → Leads 0 0 (head_words x a b c)
 head_leads x a b c named from to by =
-    mark_first k.LeftParen refl (named_first named (mark_first k.Assign refl
+    punctuation_first k.LeftParen refl (named_first named (punctuation_first k.Assign refl
     (both (expr_words a) (expr_leads a 8 1 from)
-    (mark_first k.Comma refl (both (expr_words b) (expr_leads b 8 1 to)
-    (both (step_words c) (step_leads c by) (mark_first k.RightParen refl nothing)))))))
+    (punctuation_first k.Comma refl (both (expr_words b) (expr_leads b 8 1 to)
+    (both (step_words c) (step_leads c by) (punctuation_first k.RightParen refl nothing)))))))
 
 braces_lead : (inside : List Word) → Leads 0 0 inside → Leads 0 0 (braces_words inside)
-braces_lead inside all = mark_first k.LeftBrace refl (both inside all (mark_first k.RightBrace refl nothing))
+braces_lead inside all = punctuation_first k.LeftBrace refl (both inside all (punctuation_first k.RightBrace refl nothing))
 
 else_word_leads : (begins : Bool) → Leads 0 0 (else_word begins)
 else_word_leads true = nothing
-else_word_leads false = word_first else_is refl nothing
+else_word_leads false = word_first (keyword_word reserved.Else (λ same. cc same)) refl nothing
 
 arm_leads : (begins : Bool) (e : Expr) (b : Block) (rest : Arms) → Plain 8 e → Leads 0 0 (block_words b) → Leads 0 0 (arms_words false rest) → Leads 0 0 (arms_words begins (arm e b rest))
 arm_leads begins e b rest plain body more =
     both (else_word begins) (else_word_leads begins)
-    (word_first if_is refl (both (condition_words e) (condition_leads e plain)
+    (word_first (keyword_word reserved.If (λ same. cc same)) refl (both (condition_words e) (condition_leads e plain)
     (both (braces_words (block_words b)) (braces_lead (block_words b) body) more)))
 
 mutual
   kind_leads : (what : Kind) → PlainKind what → Leads 0 0 (kind_words what)
-  kind_leads (global x e) (named, plain) = word_first global_is refl (assign_leads x e named plain)
+  kind_leads (global x e) (named, plain) = word_first (keyword_word reserved.Global (λ same. cc same)) refl (assign_leads x e named plain)
   kind_leads (assign x e) (named, plain) = assign_leads x e named plain
-  kind_leads (return e) plain = word_first return_is refl (expr_leads e 8 0 plain)
+  kind_leads (return e) plain = word_first (keyword_word reserved.Return (λ same. cc same)) refl (expr_leads e 8 0 plain)
   kind_leads (if_ no_arms other) plain = absurd plain
   kind_leads (if_ (arm e b rest) other) (plain, body, more, last) =
       both (arms_words true (arm e b rest)) (arm_leads true e b rest plain (block_leads b body) (arms_lead rest more)) (else_leads other last)
   kind_leads (while e b) (plain, body) =
-      word_first while_is refl (both (condition_words e) (condition_leads e plain) (braces_lead (block_words b) (block_leads b body)))
+      word_first (keyword_word reserved.While (λ same. cc same)) refl (both (condition_words e) (condition_leads e plain) (braces_lead (block_words b) (block_leads b body)))
   kind_leads (for x a b c d) (named, from, to, by, body) =
-      word_first for_is refl (both (head_words x a b c) (head_leads x a b c named from to by) (braces_lead (block_words d) (block_leads d body)))
+      word_first (keyword_word reserved.For (λ same. cc same)) refl (both (head_words x a b c) (head_leads x a b c named from to by) (braces_lead (block_words d) (block_leads d body)))
   kind_leads (value e) plain = expr_leads e 8 0 plain
 
   arms_lead : (arms : Arms) → PlainArms arms → Leads 0 0 (arms_words false arms)
@@ -261,7 +243,7 @@ mutual
 
   else_leads : (other : Else) → PlainElse other → Leads 0 0 (else_words other)
   else_leads no_else plain = nothing
-  else_leads (else_ b) plain = word_first else_is refl (braces_lead (block_words b) (block_leads b plain))
+  else_leads (else_ b) plain = word_first (keyword_word reserved.Else (λ same. cc same)) refl (braces_lead (block_words b) (block_leads b plain))
 
   block_leads : (b : Block) → PlainBlock b → Leads 0 0 (block_words b)
   block_leads no_more plain = nothing
@@ -277,11 +259,11 @@ params_lead : (params : List Parameter) (begins must : Bool) → PlainParams mus
 params_lead [] begins must plain = nothing
 params_lead (p ∷ ps) begins must (follows, plain, more) =
     both (comma_words begins) (comma_leads begins 1)
-    (both (param_words p) (word_first (type_is p.word) refl (param_leads p.optional p.name plain)) (params_lead ps false p.optional more))
+    (both (param_words p) (word_first (type_word p.word) refl (param_leads p.optional p.name plain)) (params_lead ps false p.optional more))
 
 function_leads : (f : Function) → PlainFunction f → Leads 0 0 (function_words f)
 function_leads f plain =
-    word_first function_is refl (named_first plain.name
+    word_first (keyword_word reserved.Function (λ same. cc same)) refl (named_first plain.name
     (enclosed (params_words true f.params) (params_lead f.params true false plain.params) (braces_lead (block_words f.body) (block_leads f.body plain.body))))
 
 functions_lead : (fs : List Function) → PlainFunctions fs → Leads 0 0 (functions_words fs)

@@ -1,3 +1,3 @@
 pub mod Printed
-pub mod Lines
+pub mod WithoutLines
 pub mod Laws

@@ -1,7 +1,7 @@
 //! Scripts in the language of AviSynth+ as text.
 //!
-//! `printed` (`specs/Printed.antt`) says how a tree is written; `print` writes it so. `laws` has that a script which is
-//! written is read back as the same script.
+//! `print` answers exactly the text that `printed` says of a tree (`specs/Printed.antt`). `laws` says that the text of a
+//! script which was read is read as the same script again, apart from lines.
 #![tactic(auto)]
 
 pub mod laws;

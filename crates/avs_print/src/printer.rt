@@ -6,12 +6,13 @@ ghost use Rattle.avs_lex.specs.Written.{written};
 ghost use Rattle.avs_lex.specs.declared.token.TokenKind.TheVariants as k;
 ghost use Rattle.avs_print.specs.Printed as p;
 ghost use Rattle.avs_print.specs.Printed.{Puts, EndsLine};
+ghost use Rattle.avs_tree.specs.Grammar.{truth as truth_of};
 ghost use Rattle.avs_tree.specs.Tree.{else_};
-ghost use Rattle.avs_tree.specs.View.{expr_view, arg_view, dot_view, step_view, args_of, dots_of, steps_of, kind_view, arm_view, statement_view, arms_of, block_view, function_view, script_view};
+ghost use Rattle.avs_tree.specs.View.{expr_view, arg_view, method_call_view, step_view, args_of, method_calls_of, steps_of, kind_view, arm_view, statement_view, arms_of, block_view, function_view, script_view};
 
 use avs_tree::{
-    Arg, Arm, DotCall, Expr, Function, Operator, Parameter, Script, Statement, StatementKind, Step,
-    TypeWord,
+    Arg, Arm, Expr, Function, Keyword, MethodCall, Operator, Parameter, Script, Statement,
+    StatementKind, Step,
 };
 use fv_io::Text;
 use itoa::Buffer;
@@ -53,22 +54,10 @@ fn operator_text(op: Operator) -> &'static str
     }
 }
 
-fn type_text(word: TypeWord) -> &'static str
-    ensures { result.now ≡ p.type_text word }
+fn truth_keyword(truth: bool) -> Keyword
+    ensures { result ≡ truth_of truth }
 {
-    match word {
-        TypeWord::Clip => "clip",
-        TypeWord::Int => "int",
-        TypeWord::String => "string",
-        TypeWord::Bool => "bool",
-        TypeWord::Val => "val",
-    }
-}
-
-fn truth_text(truth: bool) -> &'static str
-    ensures { result.now ≡ p.truth_word truth }
-{
-    if truth { "true" } else { "false" }
+    if truth { Keyword::True } else { Keyword::False }
 }
 
 fn has_quote(text: &str) -> bool
@@ -111,7 +100,7 @@ impl Printer {
         if first {
             return Ok(());
         }
-        self.put("else")
+        self.put(Keyword::Else.word())
     }
 
     fn label(&mut self, name: &Option<Text>) -> Result<(), AllocError>
@@ -183,14 +172,14 @@ impl Printer {
     {
         match e {
             Expr::Int(number) => self.number(*number),
-            Expr::Bool(truth) => self.put(truth_text(*truth)),
+            Expr::Bool(truth) => self.put(truth_keyword(*truth).word()),
             Expr::Str(text) => self.string(text.as_str()),
             Expr::Name { name, .. } => self.put(name.as_str()),
             Expr::Call { name, args, .. } => {
                 self.put(name.as_str())?;
                 self.args(args)
             }
-            Expr::Dots { first, calls } => {
+            Expr::MethodCalls { first, calls } => {
                 self.expr(first)?;
                 self.calls(calls)
             }
@@ -209,7 +198,7 @@ impl Printer {
                 self.expr(left)?;
                 self.signed(operator_text(*op), right)
             }
-            Expr::Pick {
+            Expr::Conditional {
                 condition,
                 yes,
                 no,
@@ -223,11 +212,12 @@ impl Printer {
         }
     }
 
-    // A sign, and the operand behind it.
+    // A sign, and the operand after it.
     #[cycle(print_expression)]
     #[tactic(auto, using(crate::proofs::PrintLemmas::putting))]
     fn signed(&mut self, sign: &str, operand: &Expr) -> Result<(), AllocError>
-        ensures { OnOk result (self.new ≡ self.old ++ (sign.now ++ 32 ∷ written (p.expr_words (expr_view operand.now)))) }
+        ensures { OnOk result
+            (self.new ≡ self.old ++ (sign.now ++ 32 ∷ written (p.expr_words (expr_view operand.now)))) }
     {
         self.put(sign)?;
         self.expr(operand)
@@ -248,7 +238,8 @@ impl Printer {
     #[cycle(print_expression)]
     #[tactic(auto, using(crate::proofs::PrintLemmas::putting))]
     fn args(&mut self, args: &[Arg]) -> Result<(), AllocError>
-        ensures { OnOk result (Puts (p.mark k.LeftParen ∷ (p.args_words true (args_of (map arg_view args.now)) ++ p.mark k.RightParen ∷ [])) self.old self.new) }
+        ensures { OnOk result (Puts (p.punctuation k.LeftParen ∷ (p.args_words true
+            (args_of (map arg_view args.now)) ++ p.punctuation k.RightParen ∷ [])) self.old self.new) }
     {
         self.put("(")?;
         self.arg_list(args)?;
@@ -272,8 +263,9 @@ impl Printer {
 
     #[cycle(print_expression)]
     #[tactic(auto, using(crate::proofs::PrintLemmas::putting))]
-    fn call(&mut self, call: &DotCall) -> Result<(), AllocError>
-        ensures { OnOk result (Puts (p.dots_words (dots_of (dot_view call.now ∷ []))) self.old self.new) }
+    fn call(&mut self, call: &MethodCall) -> Result<(), AllocError>
+        ensures { OnOk result
+            (Puts (p.method_calls_words (method_calls_of (method_call_view call.now ∷ []))) self.old self.new) }
     {
         self.put(".")?;
         self.put(call.name.as_str())?;
@@ -284,9 +276,10 @@ impl Printer {
     }
 
     #[cycle(print_expression)]
-    #[tactic(auto, using(crate::proofs::PrintLemmas::putting, crate::proofs::PrintLemmas::dots_more, crate::proofs::PrintLemmas::dots_one))]
-    fn calls(&mut self, calls: &[DotCall]) -> Result<(), AllocError>
-        ensures { OnOk result (Puts (p.dots_words (dots_of (map dot_view calls.now))) self.old self.new) }
+    #[tactic(auto, using(crate::proofs::PrintLemmas::putting, crate::proofs::PrintLemmas::method_calls_more, crate::proofs::PrintLemmas::method_calls_one))]
+    fn calls(&mut self, calls: &[MethodCall]) -> Result<(), AllocError>
+        ensures { OnOk result
+            (Puts (p.method_calls_words (method_calls_of (map method_call_view calls.now))) self.old self.new) }
     {
         for call in calls {
             self.call(call)?;
@@ -306,8 +299,7 @@ impl Printer {
         Ok(())
     }
 
-    // Ends the line behind the words that were put since the text had this size: a newline stands in the place of the
-    // last blank.
+    // Ends the line after the words that were put since the text had this size: a newline replaces the last blank.
     fn end_line(&mut self, start: usize) -> Result<(), AllocError>
         ensures { OnOk result (EndsLine start self.old self.new) }
     {
@@ -329,7 +321,8 @@ impl Printer {
     // `name = expression`.
     #[tactic(auto, using(crate::proofs::PrintLemmas::putting))]
     fn assignment(&mut self, name: &Text, value: &Expr) -> Result<(), AllocError>
-        ensures { OnOk result (Puts (p.ident name.now ∷ p.mark k.Assign ∷ p.expr_words (expr_view value.now)) self.old self.new) }
+        ensures { OnOk result
+            (Puts (p.ident name.now ∷ p.punctuation k.Assign ∷ p.expr_words (expr_view value.now)) self.old self.new) }
     {
         self.put(name.as_str())?;
         self.put("=")?;
@@ -357,7 +350,8 @@ impl Printer {
         last: &Expr,
         step: &Option<Expr>,
     ) -> Result<(), AllocError>
-        ensures { OnOk result (Puts (p.head_words name.now (expr_view first.now) (expr_view last.now) (option_map expr_view step.now)) self.old self.new) }
+        ensures { OnOk result (Puts (p.head_words name.now (expr_view first.now)
+            (expr_view last.now) (option_map expr_view step.now)) self.old self.new) }
     {
         self.put("(")?;
         self.assignment(name, first)?;
@@ -375,12 +369,12 @@ impl Printer {
     {
         match kind {
             StatementKind::Global { name, value } => {
-                self.put("global")?;
+                self.put(Keyword::Global.word())?;
                 self.assignment(name, value)
             }
             StatementKind::Assign { name, value } => self.assignment(name, value),
             StatementKind::Return(value) => {
-                self.put("return")?;
+                self.put(Keyword::Return.word())?;
                 self.expr(value)
             }
             StatementKind::If { arms, other } => {
@@ -391,7 +385,7 @@ impl Printer {
                 }
             }
             StatementKind::While { condition, body } => {
-                self.put("while")?;
+                self.put(Keyword::While.word())?;
                 self.enclosed(condition)?;
                 self.braces(body)
             }
@@ -402,7 +396,7 @@ impl Printer {
                 step,
                 body,
             } => {
-                self.put("for")?;
+                self.put(Keyword::For.word())?;
                 self.for_head(name, first, last, step)?;
                 self.braces(body)
             }
@@ -416,7 +410,7 @@ impl Printer {
     fn arm(&mut self, arm: &Arm) -> Result<(), AllocError>
         ensures { OnOk result (Puts (p.arms_words true (arms_of (arm_view arm.now ∷ []))) self.old self.new) }
     {
-        self.put("if")?;
+        self.put(Keyword::If.word())?;
         self.enclosed(&arm.condition)?;
         self.braces(&arm.body)
     }
@@ -441,7 +435,7 @@ impl Printer {
     fn last_arm(&mut self, body: &[Statement]) -> Result<(), AllocError>
         ensures { OnOk result (Puts (p.else_words (else_ (block_view body.now))) self.old self.new) }
     {
-        self.put("else")?;
+        self.put(Keyword::Else.word())?;
         self.braces(body)
     }
 
@@ -495,7 +489,7 @@ impl Printer {
         let mut first = true;
         for param in params {
             self.comma(first)?;
-            self.put(type_text(param.word))?;
+            self.put(param.word.word())?;
             self.param_name(param)?;
             first = false;
         }
@@ -506,7 +500,7 @@ impl Printer {
     fn function_words(&mut self, function: &Function) -> Result<(), AllocError>
         ensures { OnOk result (Puts (p.function_words (function_view function.now)) self.old self.new) }
     {
-        self.put("function")?;
+        self.put(Keyword::Function.word())?;
         self.put(function.name.as_str())?;
         self.put("(")?;
         self.params(&function.params)?;
@@ -542,7 +536,7 @@ impl Printer {
     }
 }
 
-/// The text of a script: its functions and then its statements, each with a newline behind it. An `Err` is want of memory.
+/// The text of a script: its functions and then its statements, each with a newline after it. An `Err` is out of memory.
 pub fn print(alloc: Global, script: &Script) -> Result<Text, AllocError>
     ensures { IfOk result (λ text. text ≡ p.printed (script_view script.now)) }
 {
@@ -550,5 +544,5 @@ pub fn print(alloc: Global, script: &Script) -> Result<Text, AllocError>
         text: String::new(alloc),
     };
     printer.script(script)?;
-    Text::from_str(alloc, printer.text.as_str())
+    Ok(Text::from(printer.text))
 }

@@ -1,14 +1,15 @@
 -- The grammar of expressions, after `The full AviSynth grammar` of the AviSynth+ documentation. It says of the tokens ts
--- that they are an expression, and then us. A chain of operators of one rank is a list.
+-- that they are an expression, and then us. A chain of operators of one precedence is a list.
 use Rattle.std.specs.Prelude.{◌≡◌, ◌≤◌, ℕ, suc, ◌-◌, max, Bool, true, false, ◌∷◌, Option, Some, None}
-use Rattle.avs_tree.specs.Lexeme.{Text, Lexemes, precedence_of}
-use Rattle.avs_tree.specs.Tree.{Expr, int, bool, str, name, call, dots, minus, not_, chain, compare, pick, group, Args, no_args, arg, Dots, no_dots, word, dot, Steps, no_steps, step}
+use Rattle.avs_tree.specs.Lexeme.{Lexemes, precedence_of}
+use Rattle.avs_lex.specs.Characters.{Text}
+use Rattle.avs_tree.specs.Tree.{Expr, int, bool, str, name, call, method_calls, minus, not_, chain, compare, conditional, group, Args, no_args, arg, MethodCalls, no_method_calls, method, method_call, Steps, no_steps, step}
 use Rattle.avs_tree.specs.declared.symbol.Symbol.{Symbol}
 use Rattle.avs_tree.specs.declared.symbol.Symbol.TheVariants as s
-use Rattle.avs_tree.specs.declared.symbol.Keyword.{Keyword}
-use Rattle.avs_tree.specs.declared.symbol.Keyword.TheVariants as w
-use Rattle.avs_tree.specs.declared.symbol.Mark.{Mark}
-use Rattle.avs_tree.specs.declared.symbol.Mark.TheVariants as m
+use Rattle.avs_tree.specs.declared.words.Keyword.{Keyword}
+use Rattle.avs_tree.specs.declared.words.Keyword.TheVariants as w
+use Rattle.avs_tree.specs.declared.symbol.Punctuation.{Punctuation}
+use Rattle.avs_tree.specs.declared.symbol.Punctuation.TheVariants as m
 use Rattle.avs_tree.specs.declared.tree.Operator.TheVariants as o
 
 -- ---- one token, and then us
@@ -21,8 +22,8 @@ IsAt symbol line ts us = (x : Text) × (ts ≡ (symbol, x, line) ∷ us)
 abbrev pub Is : Symbol → Lexemes → Lexemes → Type 0
 Is symbol ts us = (line : ℕ) × IsAt symbol line ts us
 
-abbrev pub IsMark : Mark → Lexemes → Lexemes → Type 0
-IsMark mark = Is (s.Mark mark)
+abbrev pub IsPunctuation : Punctuation → Lexemes → Lexemes → Type 0
+IsPunctuation punctuation = Is (s.Punctuation punctuation)
 
 abbrev pub IsKeyword : Keyword → Lexemes → Lexemes → Type 0
 IsKeyword keyword = Is (s.Keyword keyword)
@@ -47,68 +48,68 @@ truth false = w.False
 -- the name of an argument and `=`, or nothing
 abbrev pub Labels : Option Text → Lexemes → Lexemes → Type 0
 Labels None ts us = ts ≡ us
-Labels (Some x) ts us = (vs : Lexemes) × IsName x ts vs × IsMark m.Assign vs us
+Labels (Some x) ts us = (vs : Lexemes) × IsName x ts vs × IsPunctuation m.Assign vs us
 
 -- ---- expressions
 
--- Operators that go on: all but comparisons, of which no two follow one another.
+-- Operators of a chain: all but comparisons, of which no two follow one another.
 abbrev pub Chains : Steps → Type 0
 Chains no_steps = ⊥
 Chains (step op e line ss) = precedence_of op ≡ 5 → ⊥
 
-abbrev pub rank_of : Steps → ℕ
-rank_of no_steps = 0
-rank_of (step op e line ss) = precedence_of op
+abbrev pub precedence_of_steps : Steps → ℕ
+precedence_of_steps no_steps = 0
+precedence_of_steps (step op e line ss) = precedence_of op
 
-abbrev pub Calls : Dots → Type 0
-Calls no_dots = ⊥
-Calls _ = Unit {0}
+abbrev pub HasMethodCall : MethodCalls → Type 0
+HasMethodCall no_method_calls = ⊥
+HasMethodCall _ = Unit {0}
 
--- An expression of this rank at most: 0 is a primary, 1 one with dots, 2 one with `-` or `!` before it, 3 a product, 4 a
--- sum, 5 a comparison, 6 an `&&`, 7 an `||`, and 8 one with `?`.
+-- An expression of at most this precedence: 0 is a primary, 1 one with method calls, 2 one with `-` or `!` before it, 3 a
+-- product, 4 a sum, 5 a comparison, 6 an `&&`, 7 an `||`, and 8 a conditional.
 abbrev mutual
-  pub Spells : ℕ → Expr → Lexemes → Lexemes → Type 0
-  Spells r (int n) ts us = Is (s.Int n) ts us
-  Spells r (bool b) ts us = IsKeyword (truth b) ts us
-  Spells r (str x) ts us = IsString x ts us
-  Spells r (name x line) ts us = IsNameAt x line ts us
-  Spells r (call x es line) ts us = (vs ws : Lexemes) × IsNameAt x line ts vs × IsMark m.LeftParen vs ws × SpellsArgs es ws us
-  Spells r (group e) ts us = (vs ws : Lexemes) × IsMark m.LeftParen ts vs × Spells 8 e vs ws × IsMark m.RightParen ws us
-  Spells r (dots e ds) ts us = (1 ≤ r) × Calls ds × (vs : Lexemes) × Spells 0 e ts vs × SpellsDots ds vs us
-  Spells r (minus e line) ts us = (2 ≤ r) × (vs : Lexemes) × IsAt (s.Operator o.Minus) line ts vs × Spells 2 e vs us
-  Spells r (not_ e line) ts us = (2 ≤ r) × (vs : Lexemes) × IsAt (s.Mark m.Not) line ts vs × Spells 2 e vs us
-  Spells r (chain e ss) ts us = (rank_of ss ≤ r) × Chains ss × (vs : Lexemes) × Spells (rank_of ss - 1) e ts vs × SpellsSteps (rank_of ss) ss vs us
-  Spells r (compare op a b line) ts us =
-      (5 ≤ r) × (precedence_of op ≡ 5) × (vs ws : Lexemes) × Spells 4 a ts vs × IsAt (s.Operator op) line vs ws × Spells 4 b ws us
-  Spells r (pick c a b line) ts us =
-      (8 ≤ r) × (vs ws xs ys : Lexemes) × Spells 7 c ts vs × IsAt (s.Mark m.Question) line vs ws × Spells 8 a ws xs × IsMark m.Colon xs ys × Spells 8 b ys us
+  pub Derives : ℕ → Expr → Lexemes → Lexemes → Type 0
+  Derives r (int n) ts us = Is (s.Int n) ts us
+  Derives r (bool b) ts us = IsKeyword (truth b) ts us
+  Derives r (str x) ts us = IsString x ts us
+  Derives r (name x line) ts us = IsNameAt x line ts us
+  Derives r (call x es line) ts us = (vs ws : Lexemes) × IsNameAt x line ts vs × IsPunctuation m.LeftParen vs ws × DerivesArgs es ws us
+  Derives r (group e) ts us = (vs ws : Lexemes) × IsPunctuation m.LeftParen ts vs × Derives 8 e vs ws × IsPunctuation m.RightParen ws us
+  Derives r (method_calls e ds) ts us = (1 ≤ r) × HasMethodCall ds × (vs : Lexemes) × Derives 0 e ts vs × DerivesMethodCalls ds vs us
+  Derives r (minus e line) ts us = (2 ≤ r) × (vs : Lexemes) × IsAt (s.Operator o.Minus) line ts vs × Derives 2 e vs us
+  Derives r (not_ e line) ts us = (2 ≤ r) × (vs : Lexemes) × IsAt (s.Punctuation m.Not) line ts vs × Derives 2 e vs us
+  Derives r (chain e ss) ts us = (precedence_of_steps ss ≤ r) × Chains ss × (vs : Lexemes) × Derives (precedence_of_steps ss - 1) e ts vs × DerivesSteps (precedence_of_steps ss) ss vs us
+  Derives r (compare op a b line) ts us =
+      (5 ≤ r) × (precedence_of op ≡ 5) × (vs ws : Lexemes) × Derives 4 a ts vs × IsAt (s.Operator op) line vs ws × Derives 4 b ws us
+  Derives r (conditional c a b line) ts us =
+      (8 ≤ r) × (vs ws xs ys : Lexemes) × Derives 7 c ts vs × IsAt (s.Punctuation m.Question) line vs ws × Derives 8 a ws xs × IsPunctuation m.Colon xs ys × Derives 8 b ys us
 
-  -- operators of one rank, each with the operand behind it
-  pub SpellsSteps : ℕ → Steps → Lexemes → Lexemes → Type 0
-  SpellsSteps r no_steps ts us = ts ≡ us
-  SpellsSteps r (step op e line ss) ts us =
-      (precedence_of op ≡ r) × (vs ws : Lexemes) × IsAt (s.Operator op) line ts vs × Spells (r - 1) e vs ws × SpellsSteps r ss ws us
+  -- operators of one precedence, each with the operand after it
+  pub DerivesSteps : ℕ → Steps → Lexemes → Lexemes → Type 0
+  DerivesSteps r no_steps ts us = ts ≡ us
+  DerivesSteps r (step op e line ss) ts us =
+      (precedence_of op ≡ r) × (vs ws : Lexemes) × IsAt (s.Operator op) line ts vs × Derives (r - 1) e vs ws × DerivesSteps r ss ws us
 
-  -- calls behind dots, with arguments or without
-  pub SpellsDots : Dots → Lexemes → Lexemes → Type 0
-  SpellsDots no_dots ts us = ts ≡ us
-  SpellsDots (word x line ds) ts us = (vs ws : Lexemes) × IsMark m.Dot ts vs × IsNameAt x line vs ws × SpellsDots ds ws us
-  SpellsDots (dot x es line ds) ts us =
-      (vs ws xs ys : Lexemes) × IsMark m.Dot ts vs × IsNameAt x line vs ws × IsMark m.LeftParen ws xs × SpellsArgs es xs ys × SpellsDots ds ys us
+  -- method calls, with arguments or without
+  pub DerivesMethodCalls : MethodCalls → Lexemes → Lexemes → Type 0
+  DerivesMethodCalls no_method_calls ts us = ts ≡ us
+  DerivesMethodCalls (method x line ds) ts us = (vs ws : Lexemes) × IsPunctuation m.Dot ts vs × IsNameAt x line vs ws × DerivesMethodCalls ds ws us
+  DerivesMethodCalls (method_call x es line ds) ts us =
+      (vs ws xs ys : Lexemes) × IsPunctuation m.Dot ts vs × IsNameAt x line vs ws × IsPunctuation m.LeftParen ws xs × DerivesArgs es xs ys × DerivesMethodCalls ds ys us
 
-  -- arguments, from behind their parenthesis on
-  pub SpellsArgs : Args → Lexemes → Lexemes → Type 0
-  SpellsArgs no_args ts us = IsMark m.RightParen ts us
-  SpellsArgs (arg x e es) ts us = (vs ws : Lexemes) × Labels x ts vs × Spells 8 e vs ws × SpellsMore es ws us
+  -- arguments and their right parenthesis
+  pub DerivesArgs : Args → Lexemes → Lexemes → Type 0
+  DerivesArgs no_args ts us = IsPunctuation m.RightParen ts us
+  DerivesArgs (arg x e es) ts us = (vs ws : Lexemes) × Labels x ts vs × Derives 8 e vs ws × DerivesMoreArgs es ws us
 
-  -- further arguments
-  pub SpellsMore : Args → Lexemes → Lexemes → Type 0
-  SpellsMore no_args ts us = IsMark m.RightParen ts us
-  SpellsMore (arg x e es) ts us = (vs ws xs : Lexemes) × IsMark m.Comma ts vs × Labels x vs ws × Spells 8 e ws xs × SpellsMore es xs us
+  -- further arguments and their right parenthesis
+  pub DerivesMoreArgs : Args → Lexemes → Lexemes → Type 0
+  DerivesMoreArgs no_args ts us = IsPunctuation m.RightParen ts us
+  DerivesMoreArgs (arg x e es) ts us = (vs ws xs : Lexemes) × IsPunctuation m.Comma ts vs × Labels x vs ws × Derives 8 e ws xs × DerivesMoreArgs es xs us
 
 -- ---- nesting
 
--- How deep an expression nests: parentheses, `-` and `!` before an operand, and the branches of a `?`.
+-- The nesting of an expression: parentheses, `-` and `!` before an operand, and the branches of a `?` are each one level.
 abbrev mutual
   pub nesting : Expr → ℕ
   nesting (int n) = 0
@@ -117,21 +118,21 @@ abbrev mutual
   nesting (name x line) = 0
   nesting (call x es line) = suc (args_nesting es)
   nesting (group e) = suc (nesting e)
-  nesting (dots e ds) = max (nesting e) (dots_nesting ds)
+  nesting (method_calls e ds) = max (nesting e) (method_calls_nesting ds)
   nesting (minus e line) = suc (nesting e)
   nesting (not_ e line) = suc (nesting e)
   nesting (chain e ss) = max (nesting e) (steps_nesting ss)
   nesting (compare op a b line) = max (nesting a) (nesting b)
-  nesting (pick c a b line) = max (nesting c) (suc (max (nesting a) (nesting b)))
+  nesting (conditional c a b line) = max (nesting c) (suc (max (nesting a) (nesting b)))
 
   pub steps_nesting : Steps → ℕ
   steps_nesting no_steps = 0
   steps_nesting (step op e line ss) = max (nesting e) (steps_nesting ss)
 
-  pub dots_nesting : Dots → ℕ
-  dots_nesting no_dots = 0
-  dots_nesting (word x line ds) = dots_nesting ds
-  dots_nesting (dot x es line ds) = max (suc (args_nesting es)) (dots_nesting ds)
+  pub method_calls_nesting : MethodCalls → ℕ
+  method_calls_nesting no_method_calls = 0
+  method_calls_nesting (method x line ds) = method_calls_nesting ds
+  method_calls_nesting (method_call x es line ds) = max (suc (args_nesting es)) (method_calls_nesting ds)
 
   pub args_nesting : Args → ℕ
   args_nesting no_args = 0

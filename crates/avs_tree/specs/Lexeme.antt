@@ -1,25 +1,19 @@
 -- What the grammar sees of a token: its symbol, what it says, and its line.
-use Rattle.std.specs.Prelude.{◌-◌, ℕ, Bool, ◌||◌, ◌&&◌, if◌then◌else◌, List, [], ◌∷◌, map, length, codes, slice_range, slice_index, Option, Some, None, is_none}
+use Rattle.std.specs.Prelude.{◌-◌, ℕ, Bool, ◌&&◌, List, [], ◌∷◌, map, length, slice_range, slice_index, Option, Some, None, is_none}
 use Rattle.std.specs.List.{list_all}
-use Rattle.std.specs.Str.{str_eq_ignore_ascii_case}
-use Rattle.avs_lex.specs.Characters.{begins_name, continues_name}
+use Rattle.avs_lex.specs.Characters.{Text, begins_name, continues_name}
 use Rattle.avs_lex.specs.Spelling.{quotes_of}
 use Rattle.avs_lex.specs.TokenList.{bytes_of}
 use Rattle.avs_lex.specs.declared.token.Token.{Token}
 use Rattle.avs_lex.specs.declared.token.TokenKind.{TokenKind}
 use Rattle.avs_lex.specs.declared.token.TokenKind.TheVariants as k
+use Rattle.avs_tree.specs.Words.{keyword_of}
 use Rattle.avs_tree.specs.declared.symbol.Symbol.{Symbol}
 use Rattle.avs_tree.specs.declared.symbol.Symbol.TheVariants as s
-use Rattle.avs_tree.specs.declared.symbol.Keyword.{Keyword}
-use Rattle.avs_tree.specs.declared.symbol.Keyword.TheVariants as w
-use Rattle.avs_tree.specs.declared.symbol.Mark.TheVariants as m
+use Rattle.avs_tree.specs.declared.words.Keyword.{Keyword}
+use Rattle.avs_tree.specs.declared.symbol.Punctuation.TheVariants as m
 use Rattle.avs_tree.specs.declared.tree.Operator.{Operator}
 use Rattle.avs_tree.specs.declared.tree.Operator.TheVariants as o
-use Rattle.avs_tree.specs.declared.tree.TypeWord.{TypeWord}
-use Rattle.avs_tree.specs.declared.tree.TypeWord.TheVariants as y
-
-abbrev pub Text : Type 0
-Text = List ℕ
 
 abbrev pub Lexeme : Type 0
 Lexeme = Symbol × Text × ℕ
@@ -27,36 +21,7 @@ Lexeme = Symbol × Text × ℕ
 abbrev pub Lexemes : Type 0
 Lexemes = List Lexeme
 
-abbrev is : Text → Text → Bool
-is = str_eq_ignore_ascii_case
-
--- the reserved words, without regard to case
-unfoldable pub value_keyword_of : Text → Option Keyword
-value_keyword_of x =
-    if is x (codes "true") || is x (codes "yes") then Some w.True
-    else (if is x (codes "false") || is x (codes "no") then Some w.False
-    else (if is x (codes "__END__") then Some w.End else None))
-
-unfoldable pub keyword_of : Text → Option Keyword
-keyword_of x =
-    if is x (codes "function") then Some w.Function
-    else (if is x (codes "global") then Some w.Global
-    else (if is x (codes "return") then Some w.Return
-    else (if is x (codes "if") then Some w.If
-    else (if is x (codes "else") then Some w.Else
-    else (if is x (codes "while") then Some w.While
-    else (if is x (codes "for") then Some w.For else value_keyword_of x))))))
-
--- the words for the types of parameters
-unfoldable pub type_word_of : Text → Option TypeWord
-type_word_of x =
-    if is x (codes "clip") then Some y.Clip
-    else (if is x (codes "int") then Some y.Int
-    else (if is x (codes "string") then Some y.String
-    else (if is x (codes "bool") then Some y.Bool
-    else (if is x (codes "val") then Some y.Val else None))))
-
--- The rank of an operator: products bind tightest, then sums, comparisons, `&&` and `||`.
+-- The precedence of an operator: products bind tightest, then sums, comparisons, `&&` and `||`.
 abbrev pub precedence_of : Operator → ℕ
 precedence_of o.Times = 3
 precedence_of o.Divide = 3
@@ -73,7 +38,7 @@ precedence_of o.GreaterEqual = 5
 precedence_of o.And = 6
 precedence_of o.Or = 7
 
--- what stands between the quotes of a string
+-- what is between the quotes of a string
 unfoldable pub unquoted : Text → Text
 unquoted bytes = slice_range bytes (quotes_of bytes) (length bytes - quotes_of bytes)
 
@@ -93,18 +58,18 @@ abbrev pub symbol_by : TokenKind → Text → Symbol
 symbol_by k.Ident x = word_of (keyword_of x)
 symbol_by (k.Int n) x = s.Int n
 symbol_by k.Str x = s.Str
-symbol_by k.Newline x = s.Mark m.Newline
-symbol_by k.End x = s.Mark m.End
-symbol_by k.LeftParen x = s.Mark m.LeftParen
-symbol_by k.RightParen x = s.Mark m.RightParen
-symbol_by k.LeftBrace x = s.Mark m.LeftBrace
-symbol_by k.RightBrace x = s.Mark m.RightBrace
-symbol_by k.Comma x = s.Mark m.Comma
-symbol_by k.Dot x = s.Mark m.Dot
-symbol_by k.Assign x = s.Mark m.Assign
-symbol_by k.Not x = s.Mark m.Not
-symbol_by k.Question x = s.Mark m.Question
-symbol_by k.Colon x = s.Mark m.Colon
+symbol_by k.Newline x = s.Punctuation m.Newline
+symbol_by k.End x = s.Punctuation m.End
+symbol_by k.LeftParen x = s.Punctuation m.LeftParen
+symbol_by k.RightParen x = s.Punctuation m.RightParen
+symbol_by k.LeftBrace x = s.Punctuation m.LeftBrace
+symbol_by k.RightBrace x = s.Punctuation m.RightBrace
+symbol_by k.Comma x = s.Punctuation m.Comma
+symbol_by k.Dot x = s.Punctuation m.Dot
+symbol_by k.Assign x = s.Punctuation m.Assign
+symbol_by k.Not x = s.Punctuation m.Not
+symbol_by k.Question x = s.Punctuation m.Question
+symbol_by k.Colon x = s.Punctuation m.Colon
 symbol_by k.Equal x = s.Operator o.Equal
 symbol_by k.NotEqual x = s.Operator o.NotEqual
 symbol_by k.Less x = s.Operator o.Less

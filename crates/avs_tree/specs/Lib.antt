@@ -1,3 +1,4 @@
+pub mod Words
 pub mod Lexeme
 pub mod Tree
 pub mod View

@@ -1,6 +1,6 @@
--- The trees of scripts. Each list is a sort of its own.
+-- The trees of scripts. Each list is a type of its own.
 use Rattle.std.specs.Prelude.{ℕ, ℤ, Bool, true, false, List, Option}
-use Rattle.avs_tree.specs.Lexeme.{Text}
+use Rattle.avs_lex.specs.Characters.{Text}
 use Rattle.avs_tree.specs.declared.tree.Operator.{Operator}
 use Rattle.avs_tree.specs.declared.tree.Parameter.{Parameter}
 
@@ -12,23 +12,23 @@ mutual
     str : Text → Expr
     name : Text → ℕ → Expr
     call : Text → Args → ℕ → Expr
-    dots : Expr → Dots → Expr
+    method_calls : Expr → MethodCalls → Expr
     minus : Expr → ℕ → Expr
     not_ : Expr → ℕ → Expr
     chain : Expr → Steps → Expr
     compare : Operator → Expr → Expr → ℕ → Expr
-    pick : Expr → Expr → Expr → ℕ → Expr
+    conditional : Expr → Expr → Expr → ℕ → Expr
     group : Expr → Expr
 
   pub data Args : Type 0 where
     no_args : Args
     arg : Option Text → Expr → Args → Args
 
-  pub data Dots : Type 0 where
-    no_dots : Dots
+  pub data MethodCalls : Type 0 where
+    no_method_calls : MethodCalls
     -- without arguments
-    word : Text → ℕ → Dots → Dots
-    dot : Text → Args → ℕ → Dots → Dots
+    method : Text → ℕ → MethodCalls → MethodCalls
+    method_call : Text → Args → ℕ → MethodCalls → MethodCalls
 
   pub data Steps : Type 0 where
     no_steps : Steps

@@ -1,13 +1,13 @@
--- The tree that a value of the code stands for.
+-- The tree that a value of the code means.
 use Rattle.std.specs.Prelude.{ℕ, List, [], ◌∷◌, map, Option, Some, None, option_map}
-use Rattle.avs_tree.specs.Lexeme.{Text}
+use Rattle.avs_lex.specs.Characters.{Text}
 use Rattle.avs_tree.specs.Tree as t
 use Rattle.avs_tree.specs.declared.tree.Operator.{Operator}
 use Rattle.avs_tree.specs.declared.tree.Expr.{Expr, fold-Expr}
 use Rattle.avs_tree.specs.declared.tree.Arg.{Arg, fold-Arg}
-use Rattle.avs_tree.specs.declared.tree.DotCall.{DotCall, fold-DotCall}
+use Rattle.avs_tree.specs.declared.tree.MethodCall.{MethodCall, fold-MethodCall}
 use Rattle.avs_tree.specs.declared.tree.Step.{Step, fold-Step}
-use Rattle.avs_tree.specs.declared.tree.Expr.TheOpen.{Expr-F, Arg-F, DotCall-F, Step-F}
+use Rattle.avs_tree.specs.declared.tree.Expr.TheOpen.{Expr-F, Arg-F, MethodCall-F, Step-F}
 use Rattle.avs_tree.specs.declared.tree.Statement.{Statement, fold-Statement}
 use Rattle.avs_tree.specs.declared.tree.StatementKind.{StatementKind, fold-StatementKind}
 use Rattle.avs_tree.specs.declared.tree.Arm.{Arm, fold-Arm}
@@ -20,8 +20,8 @@ use Rattle.avs_tree.specs.declared.tree.Script.{Script}
 abbrev pub ArgIs : Type 0
 ArgIs = Option Text × t.Expr
 
-abbrev pub DotIs : Type 0
-DotIs = Text × (Option t.Args × ℕ)
+abbrev pub MethodCallIs : Type 0
+MethodCallIs = Text × (Option t.Args × ℕ)
 
 abbrev pub StepIs : Type 0
 StepIs = Operator × (t.Expr × ℕ)
@@ -30,52 +30,52 @@ abbrev pub args_of : List ArgIs → t.Args
 args_of [] = t.no_args
 args_of (a ∷ rest) = t.arg a.0 a.1 (args_of rest)
 
-abbrev pub dot_of : Text → Option t.Args → ℕ → t.Dots → t.Dots
-dot_of x None line ds = t.word x line ds
-dot_of x (Some es) line ds = t.dot x es line ds
+abbrev pub method_call_of : Text → Option t.Args → ℕ → t.MethodCalls → t.MethodCalls
+method_call_of x None line ds = t.method x line ds
+method_call_of x (Some es) line ds = t.method_call x es line ds
 
-abbrev pub dots_of : List DotIs → t.Dots
-dots_of [] = t.no_dots
-dots_of (d ∷ ds) = dot_of d.0 d.1.0 d.1.1 (dots_of ds)
+abbrev pub method_calls_of : List MethodCallIs → t.MethodCalls
+method_calls_of [] = t.no_method_calls
+method_calls_of (d ∷ ds) = method_call_of d.0 d.1.0 d.1.1 (method_calls_of ds)
 
 abbrev pub steps_of : List StepIs → t.Steps
 steps_of [] = t.no_steps
 steps_of (s ∷ ss) = t.step s.0 s.1.0 s.1.1 (steps_of ss)
 
-abbrev pub expr_layer : Expr-F t.Expr ArgIs DotIs StepIs → t.Expr
+abbrev pub expr_layer : Expr-F t.Expr ArgIs MethodCallIs StepIs → t.Expr
 expr_layer (Expr-F.Int n) = t.int n
 expr_layer (Expr-F.Bool b) = t.bool b
 expr_layer (Expr-F.Str x) = t.str x
 expr_layer (Expr-F.Name x line) = t.name x line
 expr_layer (Expr-F.Call x es line) = t.call x (args_of es.items) line
-expr_layer (Expr-F.Dots e ds) = t.dots e.value (dots_of ds.items)
+expr_layer (Expr-F.MethodCalls e ds) = t.method_calls e.value (method_calls_of ds.items)
 expr_layer (Expr-F.Minus e line) = t.minus e.value line
 expr_layer (Expr-F.Not e line) = t.not_ e.value line
 expr_layer (Expr-F.Chain e ss) = t.chain e.value (steps_of ss.items)
 expr_layer (Expr-F.Compare op a b line) = t.compare op a.value b.value line
-expr_layer (Expr-F.Pick c a b line) = t.pick c.value a.value b.value line
+expr_layer (Expr-F.Conditional c a b line) = t.conditional c.value a.value b.value line
 expr_layer (Expr-F.Group e) = t.group e.value
 
-abbrev pub arg_layer : Arg-F t.Expr ArgIs DotIs StepIs → ArgIs
+abbrev pub arg_layer : Arg-F t.Expr ArgIs MethodCallIs StepIs → ArgIs
 arg_layer a = (a.name, a.value)
 
-abbrev pub dot_layer : DotCall-F t.Expr ArgIs DotIs StepIs → DotIs
-dot_layer d = (d.name, (option_map (λ es. args_of es.items) d.args, d.line))
+abbrev pub method_call_layer : MethodCall-F t.Expr ArgIs MethodCallIs StepIs → MethodCallIs
+method_call_layer d = (d.name, (option_map (λ es. args_of es.items) d.args, d.line))
 
-abbrev pub step_layer : Step-F t.Expr ArgIs DotIs StepIs → StepIs
+abbrev pub step_layer : Step-F t.Expr ArgIs MethodCallIs StepIs → StepIs
 step_layer s = (s.op, (s.operand, s.line))
 
 abbrev pub expr_view : Expr → t.Expr
-expr_view = fold-Expr t.Expr ArgIs DotIs StepIs expr_layer arg_layer dot_layer step_layer
+expr_view = fold-Expr t.Expr ArgIs MethodCallIs StepIs expr_layer arg_layer method_call_layer step_layer
 
 abbrev pub arg_view : Arg → ArgIs
-arg_view = fold-Arg t.Expr ArgIs DotIs StepIs expr_layer arg_layer dot_layer step_layer
+arg_view = fold-Arg t.Expr ArgIs MethodCallIs StepIs expr_layer arg_layer method_call_layer step_layer
 
-abbrev pub dot_view : DotCall → DotIs
-dot_view = fold-DotCall t.Expr ArgIs DotIs StepIs expr_layer arg_layer dot_layer step_layer
+abbrev pub method_call_view : MethodCall → MethodCallIs
+method_call_view = fold-MethodCall t.Expr ArgIs MethodCallIs StepIs expr_layer arg_layer method_call_layer step_layer
 
 abbrev pub step_view : Step → StepIs
-step_view = fold-Step t.Expr ArgIs DotIs StepIs expr_layer arg_layer dot_layer step_layer
+step_view = fold-Step t.Expr ArgIs MethodCallIs StepIs expr_layer arg_layer method_call_layer step_layer
 
 -- ---- statements
 

@@ -1,14 +1,17 @@
 //! The trees of scripts in the language of AviSynth+, and the grammar that gives them.
 //!
-//! `Lexeme` (`specs/Lexeme.antt`) is what the grammar sees of a token, and `symbol_of` and `content` give it. `IsScript`
-//! (`specs/Script.antt`) says which tree the tokens of a script have; `HasTree`, that it nests no deeper than may be.
+//! `symbol_of` and `content` answer exactly what the grammar sees of a token, its `Lexeme` (`specs/Lexeme.antt`); the words of
+//! the language are the tables of `specs/Words.antt`. `IsScript` (`specs/Script.antt`) says which tree the tokens of a script
+//! have, and `HasTree` that it is within the limit of nesting.
 #![tactic(auto)]
 
 mod symbol;
 mod tree;
+mod words;
 
-pub use symbol::{Keyword, Mark, Symbol, content, is_name, precedence, symbol_of, type_word};
+pub use symbol::{Punctuation, Symbol, content, is_name, symbol_of};
 pub use tree::{
-    Arg, Arm, DotCall, Expr, Function, Operator, Parameter, Script, Statement, StatementKind, Step,
-    TypeWord,
+    Arg, Arm, Expr, Function, MethodCall, Operator, Parameter, Script, Statement, StatementKind,
+    Step,
 };
+pub use words::{Keyword, TypeWord, type_word};

@@ -1,7 +1,8 @@
 // Trees of scripts.
+use crate::words::TypeWord;
 use fv_io::Text;
 
-/// A script. Its functions and its statements each stand in the order of the text.
+/// A script. Its functions and its statements are each in the order of the text.
 #[derive(Drop, Debug)]
 pub struct Script {
     pub functions: Vec<Function>,
@@ -25,16 +26,6 @@ pub struct Parameter {
     pub optional: bool,
 }
 
-/// The type of a parameter.
-#[derive(Clone, Copy, Debug, PartialEq, Eq)]
-pub enum TypeWord {
-    Clip,
-    Int,
-    String,
-    Bool,
-    Val,
-}
-
 /// A statement and the line of its first token.
 #[cycle(statements)]
 #[derive(Drop, Debug)]
@@ -56,7 +47,7 @@ pub enum StatementKind {
         value: Expr,
     },
     Return(Expr),
-    /// `if`, and an arm more for each `else if`.
+    /// `if`, with one more arm for each `else if`.
     If {
         arms: Vec<Arm>,
         other: Option<Vec<Statement>>,
@@ -83,8 +74,8 @@ pub struct Arm {
     pub body: Vec<Statement>,
 }
 
-/// An expression. A chain of operators of one rank is a list, and a parenthesis is a group. A line is that of the name,
-/// the operator or the `?`.
+/// An expression. A chain of operators of one precedence is a list, and parentheses are a group. A line is that of the
+/// name, the operator or the `?`.
 #[cycle(expressions)]
 #[derive(Drop, Debug)]
 pub enum Expr {
@@ -100,9 +91,9 @@ pub enum Expr {
         args: Vec<Arg>,
         line: u32,
     },
-    Dots {
+    MethodCalls {
         first: Box<Expr>,
-        calls: Vec<DotCall>,
+        calls: Vec<MethodCall>,
     },
     Minus {
         operand: Box<Expr>,
@@ -122,7 +113,7 @@ pub enum Expr {
         right: Box<Expr>,
         line: u32,
     },
-    Pick {
+    Conditional {
         condition: Box<Expr>,
         yes: Box<Expr>,
         no: Box<Expr>,
@@ -139,16 +130,16 @@ pub struct Arg {
     pub value: Expr,
 }
 
-/// A call behind a dot, which needs no arguments.
+/// A method call: a name after a dot, with arguments or without.
 #[cycle(expressions)]
 #[derive(Drop, Debug)]
-pub struct DotCall {
+pub struct MethodCall {
     pub name: Text,
     pub args: Option<Vec<Arg>>,
     pub line: u32,
 }
 
-/// An operator of a chain and the operand behind it.
+/// An operator of a chain and the operand after it.
 #[cycle(expressions)]
 #[derive(Drop, Debug)]
 pub struct Step {
@@ -174,4 +165,27 @@ pub enum Operator {
     Times,
     Divide,
     Remainder,
+}
+
+impl Operator {
+    ghost use Rattle.std.specs.Prelude.{◌≡◌};
+    ghost use Rattle.avs_tree.specs.Lexeme.{precedence_of};
+
+    /// The precedence of the operator. A product binds tightest.
+    pub fn precedence(self) -> u8
+        ensures { result ≡ precedence_of self }
+    {
+        match self {
+            Operator::Times | Operator::Divide | Operator::Remainder => 3,
+            Operator::Plus | Operator::Minus | Operator::PlusPlus => 4,
+            Operator::Equal
+            | Operator::NotEqual
+            | Operator::Less
+            | Operator::LessEqual
+            | Operator::Greater
+            | Operator::GreaterEqual => 5,
+            Operator::And => 6,
+            Operator::Or => 7,
+        }
+    }
 }

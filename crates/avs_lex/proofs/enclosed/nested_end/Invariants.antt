@@ -2,12 +2,12 @@ use Rattle.std.proofs.Common.{◌≡◌, ◌≤◌, ◌-◌, drop, length}
 use Rattle.avs_lex.specs.Piece as s
 use Rattle.avs_lex.proofs.enclosed.nested_end.Given as goal
 
-abbrev pub invariant-loop-place : goal.invariant-loop-place
-invariant-loop-place l = record {
-  few : l.inner ≤ l.place;
-  within : l.place ≤ length l.rest;
-  rest : s.nested_end l.inner l.place (drop l.place l.rest) ≡ s.nested_end 0 2 (drop 2 l.rest);
+abbrev pub invariant-loop-offset : goal.invariant-loop-offset
+invariant-loop-offset l = record {
+  few : l.inner ≤ l.offset;
+  within : l.offset ≤ length l.rest;
+  rest : s.nested_end l.inner l.offset (drop l.offset l.rest) ≡ s.nested_end 0 2 (drop 2 l.rest);
 }
 
-abbrev pub decreases-loop-place : goal.decreases-loop-place
-decreases-loop-place l = length l.rest - l.place
+abbrev pub decreases-loop-offset : goal.decreases-loop-offset
+decreases-loop-offset l = length l.rest - l.offset

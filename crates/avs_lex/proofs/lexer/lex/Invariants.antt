@@ -5,10 +5,10 @@ use Rattle.avs_lex.proofs.lexer.lex.Given as goal
 
 abbrev pub invariant-pieces : goal.invariant-pieces
 invariant-pieces l = record {
-  place : IsIn l.fn.text l.cursor;
-  lines : l.cursor.line ≤ l.cursor.place + 1;
-  depth : l.depth ≤ l.cursor.place;
-  read : ReadTo l.fn.text l.cursor.place l.depth l.tokens.items;
+  offset : IsIn l.fn.text l.cursor;
+  lines : l.cursor.line ≤ l.cursor.offset + 1;
+  open_parentheses : l.open_parentheses ≤ l.cursor.offset;
+  read : ReadTo l.fn.text l.cursor.offset l.open_parentheses l.tokens.items;
 }
 
 abbrev pub decreases-pieces : goal.decreases-pieces

@@ -1,6 +1,6 @@
 use Rattle.std.proofs.Common.{◌∙◌, sym, get_or, arith}
 use Rattle.std.proofs.lemmas.Bool.Decides.{nat_tests}
-use Rattle.avs_lex.proofs.PieceLemmas.{IsOther, front_mark}
+use Rattle.avs_lex.proofs.PieceLemmas.{IsOther, front_punctuation}
 use Rattle.avs_lex.proofs.piece.front.Goals as goal
 
 pub returns-in_default : goal.returns-in_default
@@ -21,4 +21,4 @@ returns-in_default c =
       dollar = grind (arith, nat_tests);
       dot = grind (arith, nat_tests);
     } in
-    c.mark-in_default.ensures ∙ sym (front_mark c.args.depth rest other)
+    c.punctuation-in_default.ensures ∙ sym (front_punctuation c.args.open_parentheses rest other)

@@ -13,4 +13,4 @@ returns-else-is_end_line-clause-within c =
       | else-is_empty+then-begins_line w ↦ grind (arith, nat_tests)
       | else-is_empty+else-begins_line w ↦ grind (arith, nat_tests)
     ] in
-    subst (IsWithin c.args.rest.now) (sym c.front.ensures) (front_within c.args.depth c.args.rest.now some)
+    subst (IsWithin c.args.rest.now) (sym c.front.ensures) (front_within c.args.open_parentheses c.args.rest.now some)

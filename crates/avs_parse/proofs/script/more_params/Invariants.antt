@@ -1,5 +1,5 @@
 use Rattle.std.proofs.Common.{◌≡◌, ◌-◌, length}
-use Rattle.avs_parse.specs.ReadingScript.{more_params}
+use Rattle.avs_parse.specs.ParsingScript.{more_params}
 use Rattle.avs_parse.proofs.script.more_params.Given as goal
 
 abbrev pub invariant-loop-turn : goal.invariant-loop-turn

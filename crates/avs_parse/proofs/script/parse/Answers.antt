@@ -1,4 +1,4 @@
--- What was read is the tree, and what was refused has none.
+-- What was parsed is the tree, and what was refused has none.
 use Rattle.avs_parse.proofs.ParseLemmas.{has_tree, no_tree}
 use Rattle.avs_parse.proofs.script.parse.Goals as goal
 

@@ -5,5 +5,5 @@ use Rattle.avs_parse.proofs.statement.+block.Goals as goal
 pub items-requires : goal.items-requires
 items-requires t c = record {
   callable = λ some alloc old. search rules;
-  reads = λ some alloc old new r post. rw (block_below_is c.args.depth old.now some) (search rules);
+  answers = λ some alloc old new r post. rw (block_below_is c.args.levels_left old.now some) (search rules);
 }

@@ -1,5 +1,5 @@
 use Rattle.std.proofs.Common.{◌≡◌, length}
-use Rattle.avs_parse.specs.Reading.{skip}
+use Rattle.avs_parse.specs.Parsing.{skip}
 use Rattle.avs_parse.proofs.cursor.Tokens.skip_newlines.Given as goal
 
 abbrev pub invariant-loop-self : goal.invariant-loop-self

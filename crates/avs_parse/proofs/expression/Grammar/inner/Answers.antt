@@ -1,4 +1,4 @@
 use Rattle.avs_parse.proofs.expression.Grammar.inner.Goals as goal
 
-pub read-requires : goal.read-requires
-read-requires g c = (c.requires.deeper.deeper c.requires.room c.args.rank c.requires.is_rank).callable _ _
+pub parse-requires : goal.parse-requires
+parse-requires g c = (c.requires.deeper.deeper c.requires.may_open c.args.precedence c.requires.is_precedence).callable _ _

@@ -1,6 +1,6 @@
 use Rattle.std.proofs.Common.{arith}
 use Rattle.std.proofs.lemmas.Grind.{common_steps}
-use Rattle.avs_parse.specs.ReadingExpr.{more_args}
+use Rattle.avs_parse.specs.ParsingExpr.{more_args}
 use Rattle.avs_parse.proofs.Turns.{one_more}
 use Rattle.avs_parse.proofs.expression.Grammar.more_args.Goals as goal
 

@@ -1,6 +1,6 @@
 use Rattle.std.proofs.Common.{arith}
 use Rattle.std.proofs.lemmas.Grind.{common_steps}
-use Rattle.avs_parse.specs.ReadingExpr.{steps}
+use Rattle.avs_parse.specs.ParsingExpr.{steps}
 use Rattle.avs_parse.proofs.Turns.{one_more}
 use Rattle.avs_parse.proofs.expression.Grammar.steps.Goals as goal
 

@@ -1,4 +1,4 @@
 use Rattle.avs_parse.proofs.statement.Blocks.inner.Goals as goal
 
-pub read-requires : goal.read-requires
-read-requires g c = c.requires.inside.callable c.requires.room _ _
+pub parse-requires : goal.parse-requires
+parse-requires g c = c.requires.inside.callable c.requires.may_open _ _

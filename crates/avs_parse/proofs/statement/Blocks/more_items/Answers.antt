@@ -1,6 +1,6 @@
 use Rattle.std.proofs.Common.{arith}
 use Rattle.std.proofs.lemmas.Grind.{common_steps}
-use Rattle.avs_parse.specs.ReadingScript.{more_items}
+use Rattle.avs_parse.specs.ParsingScript.{more_items}
 use Rattle.avs_parse.proofs.Turns.{one_more}
 use Rattle.avs_parse.proofs.statement.Blocks.more_items.Goals as goal
 

@@ -1,4 +1,4 @@
--- A newline stands in the place of the last blank.
+-- A newline replaces the last blank.
 use Rattle.std.proofs.Common.{arith, inl, inr}
 use Rattle.std.proofs.lemmas.Grind.{common_steps}
 use Rattle.avs_print.proofs.PrintLemmas.{line_ends, line_stays}

@@ -1,4 +1,4 @@
--- What is left to be put, behind what was put, is what the whole list is.
+-- What was put and what is left to be put are the whole list.
 use Rattle.std.proofs.Common.{◌≡◌, ◌++◌, drop, true}
 use Rattle.avs_lex.specs.Written.{written}
 use Rattle.avs_print.specs.Printed.{params_words}

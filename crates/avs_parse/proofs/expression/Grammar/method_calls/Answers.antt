@@ -1,9 +1,9 @@
 use Rattle.std.proofs.Common.{arith}
 use Rattle.std.proofs.lemmas.Grind.{common_steps}
-use Rattle.avs_parse.specs.ReadingExpr.{dot_calls}
+use Rattle.avs_parse.specs.ParsingExpr.{more_method_calls}
 use Rattle.avs_parse.proofs.Turns.{one_more}
-use Rattle.avs_parse.proofs.expression.Grammar.dot_calls.Goals as goal
+use Rattle.avs_parse.proofs.expression.Grammar.method_calls.Goals as goal
 
 pub loop-turn-preserved : goal.loop-turn-preserved
-unfolding dot_calls
+unfolding more_method_calls
 loop-turn-preserved g c = grind (arith, common_steps, one_more)

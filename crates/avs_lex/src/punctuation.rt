@@ -7,7 +7,7 @@ use crate::piece::Piece;
 use crate::run::byte_at;
 use crate::{LexKind, TokenKind};
 
-// The mark of two characters.
+// The punctuation of two characters.
 fn pair(first: u8, second: u8) -> Option<TokenKind>
     ensures { result ≡ first_of pairs (first ∷ second ∷ []) }
 {
@@ -23,7 +23,7 @@ fn pair(first: u8, second: u8) -> Option<TokenKind>
     }
 }
 
-// The mark of one character.
+// The punctuation of one character.
 fn single(first: u8) -> Option<TokenKind>
     ensures { result ≡ first_of singles (first ∷ []) }
 {
@@ -49,10 +49,10 @@ fn single(first: u8) -> Option<TokenKind>
     }
 }
 
-/// The longest mark that stands first.
-pub fn mark(rest: &[u8]) -> Piece
+/// The longest punctuation at the front.
+pub fn punctuation(rest: &[u8]) -> Piece
     requires { 0 < length rest.now }
-    ensures { result ≡ s.mark rest.now }
+    ensures { result ≡ s.punctuation rest.now }
 {
     let (first, second) = (rest[0], byte_at(rest, 1));
     if let Some(kind) = pair(first, second) {
