@@ -1,8 +1,7 @@
-pub mod CopyLemmas
-pub mod MeaningLemmas
-pub mod RenderLemmas
-pub mod RunLemmas
-pub mod SayLemmas
-pub mod ScriptLemmas
-pub mod StopLemmas
-pub mod WordLemmas
+mod CopyLemmas
+mod MeaningLemmas
+mod RunLemmas
+mod SayLemmas
+mod ScriptLemmas
+mod StopLemmas
+mod WordLemmas

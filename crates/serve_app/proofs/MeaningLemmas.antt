@@ -2,20 +2,20 @@
 use Rattle.std.proofs.Common.{◌≡◌, ℕ, List, Some, None, refl, sym, ◌∙◌, ap, arith}
 use Rattle.std.specs.FinMap.{get}
 use Rattle.fv_io.specs.World.{World}
-use Rattle.fv_plane.specs.declared.format.Info.{Info}
+use Rattle.fv_plane.specs.Clip.{Clip}
 use Rattle.avs_lex.specs.declared.fault.LexKind.{LexKind}
 use Rattle.avs_lex.specs.declared.token.Token.{Token}
 use Rattle.avs_lex.specs.Tokens.{Tokens, LexFault}
-use Rattle.avs_lex.proofs.ReadingLemmas.{one_reading}
+use Rattle.avs_lex.proofs.CallerLemmas.{one_reading}
 use Rattle.avs_tree.specs.Lexeme.{lexemes}
 use Rattle.avs_tree.specs.Script.{HasTree}
 use Rattle.avs_tree.specs.Tree.{Script as Tree}
-use Rattle.avs_parse.proofs.CompleteScript.{one_tree}
-use Rattle.y4m_stream.proofs.ReadingLemmas.{reads_one_way}
+use Rattle.avs_parse.proofs.CallerLemmas.{one_tree}
+use Rattle.y4m_stream.proofs.CallerLemmas.{reads_one_way}
 use Rattle.serve_app.specs.declared.fault.InputFault.{InputFault}
 use Rattle.serve_app.specs.declared.fault.InputFault.TheVariants as of_input
 use Rattle.serve_app.specs.Script.{IsSourceCall, HasScript, Calls, IsUnparsed, Wrong, too_long, not_utf8, lexical, unparsed, unbuilt, IsWrong}
-use Rattle.serve_app.specs.Meaning.{Clip, Missing, Script, Input, CallsFor, MeansClip, IsScriptWrong, IsInputFault, MeansOneThing}
+use Rattle.serve_app.specs.Meaning.{a_clip, no_script, wrong_script, wrong_input, CallsFor, MeansClip, IsScriptWrong, IsInputFault, MeansOneThing}
 
 module _ (text : List ℕ) where
   -- a text has one tree
@@ -24,7 +24,7 @@ module _ (text : List ℕ) where
       let reading = one_reading text in
       let tokens = reading.one_list a.tokens b.tokens a.tokens_are b.tokens_are in
       let tree : HasTree (lexemes text b.tokens) one = rw tokens at a.tree_is in
-      one_tree (lexemes text b.tokens) one other tree.spelled (let same = b.tree_is in same.spelled)
+      one_tree (lexemes text b.tokens) one other tree.derived (let same = b.tree_is in same.derived)
 
   -- a tree calls for one file
   same_call : (tree : Tree) (name other : List ℕ) → IsSourceCall tree name → IsSourceCall tree other → name ≡ other
@@ -104,19 +104,21 @@ module _ (world : World) where
   calls_or_script : (script name : List ℕ) (wrong : Wrong) → CallsFor world script name → IsScriptWrong world script wrong → ⊥
   calls_or_script script name wrong one two = calls_or_wrong two.text name wrong (rw (same_bytes script one.text two.text one.text_is two.text_is) at one.calls) two.is
 
-  same_clip : (script : List ℕ) (one other : Info) (frames others : List (List ℕ)) → MeansClip world script one frames → MeansClip world script other others → Clip one frames ≡ Clip other others
-  same_clip script one other frames others a b =
+  same_clip : (script : List ℕ) (one other : Clip) → MeansClip world script one → MeansClip world script other → one ≡ other
+  same_clip script one other a b =
       let name_is = same_name script a.name b.name a.called b.called in
-      let bytes_is = same_bytes b.name a.bytes b.bytes (rw name_is at a.bytes_are) b.bytes_are in
-      let same = reads_one_way.one_stream b.bytes one other frames others (rw bytes_is at a.stream) b.stream in
-      ap (λ (i : Info). Clip i frames) same.0 ∙ ap (λ (fs : List (List ℕ)). Clip other fs) same.1
+      let here = a.file in
+      let there = b.file in
+      let bytes_is = same_bytes b.name here.bytes there.bytes (rw name_is at here.bytes_are) there.bytes_are in
+      reads_one_way.one_clip there.bytes one other (rw bytes_is at here.stream) there.stream
 
-  clip_or_input : (script : List ℕ) (info : Info) (frames : List (List ℕ)) (name : List ℕ) (fault : InputFault) → MeansClip world script info frames → CallsFor world script name → IsInputFault world name fault → ⊥
-  clip_or_input script info frames name of_input.NotThere clip calls none = not_there name clip.bytes (rw (same_name script clip.name name clip.called calls) at clip.bytes_are) none
-  clip_or_input script info frames name (of_input.Y4m fault) clip calls none =
-      let bytes_is = same_bytes name clip.bytes none.bytes (rw (same_name script clip.name name clip.called calls) at clip.bytes_are) none.bytes_are in
-      reads_one_way.not_both none.bytes info frames fault (rw bytes_is at clip.stream) none.wrong
-  clip_or_input script info frames name (of_input.Changed frame want got) clip calls none = none
+  clip_or_input : (script : List ℕ) (clip : Clip) (name : List ℕ) (fault : InputFault) → MeansClip world script clip → CallsFor world script name → IsInputFault world name fault → ⊥
+  clip_or_input script clip name of_input.NotThere means calls none = (let file = means.file in not_there name file.bytes (rw (same_name script means.name name means.called calls) at file.bytes_are) none)
+  clip_or_input script clip name (of_input.Y4m fault) means calls none =
+      let file = means.file in
+      let bytes_is = same_bytes name file.bytes none.bytes (rw (same_name script means.name name means.called calls) at file.bytes_are) none.bytes_are in
+      reads_one_way.not_both none.bytes clip fault (rw bytes_is at file.stream) none.wrong
+  clip_or_input script clip name (of_input.Changed frame want got) means calls none = none
 
   same_script : (script : List ℕ) (one other : Wrong) → IsScriptWrong world script one → IsScriptWrong world script other → one ≡ other
   same_script script one other a b = same_wrong b.text one other (rw (same_bytes script a.text b.text a.text_is b.text_is) at a.is) b.is
@@ -135,21 +137,21 @@ module _ (world : World) where
   there script name calls none = not_there script calls.text calls.text_is none
 
 pub means_one_thing : MeansOneThing
-means_one_thing world script (Clip info frames) (Clip other others) a b = same_clip world script info other frames others a b
-means_one_thing world script (Clip info frames) Missing a b = absurd (there world script a.name a.called b)
-means_one_thing world script (Clip info frames) (Script wrong) a b = absurd (calls_or_script world script a.name wrong a.called b)
-means_one_thing world script (Clip info frames) (Input name fault) a b = absurd (clip_or_input world script info frames name fault a b.0 b.1)
-means_one_thing world script Missing (Clip info frames) a b = absurd (there world script b.name b.called a)
-means_one_thing world script Missing Missing a b = refl
-means_one_thing world script Missing (Script wrong) a b = absurd (not_there world script b.text b.text_is a)
-means_one_thing world script Missing (Input name fault) a b = absurd (there world script name b.0 a)
-means_one_thing world script (Script wrong) (Clip info frames) a b = absurd (calls_or_script world script b.name wrong b.called a)
-means_one_thing world script (Script wrong) Missing a b = absurd (not_there world script a.text a.text_is b)
-means_one_thing world script (Script wrong) (Script other) a b = ap Script (same_script world script wrong other a b)
-means_one_thing world script (Script wrong) (Input name fault) a b = absurd (calls_or_script world script name wrong b.0 a)
-means_one_thing world script (Input name fault) (Clip info frames) a b = absurd (clip_or_input world script info frames name fault b a.0 a.1)
-means_one_thing world script (Input name fault) Missing a b = absurd (there world script name a.0 b)
-means_one_thing world script (Input name fault) (Script wrong) a b = absurd (calls_or_script world script name wrong a.0 b)
-means_one_thing world script (Input name fault) (Input another other) a b =
+means_one_thing world script (a_clip clip) (a_clip other) a b = ap a_clip (same_clip world script clip other a b)
+means_one_thing world script (a_clip clip) no_script a b = absurd (there world script a.name a.called b)
+means_one_thing world script (a_clip clip) (wrong_script wrong) a b = absurd (calls_or_script world script a.name wrong a.called b)
+means_one_thing world script (a_clip clip) (wrong_input name fault) a b = absurd (clip_or_input world script clip name fault a b.0 b.1)
+means_one_thing world script no_script (a_clip clip) a b = absurd (there world script b.name b.called a)
+means_one_thing world script no_script no_script a b = refl
+means_one_thing world script no_script (wrong_script wrong) a b = absurd (not_there world script b.text b.text_is a)
+means_one_thing world script no_script (wrong_input name fault) a b = absurd (there world script name b.0 a)
+means_one_thing world script (wrong_script wrong) (a_clip clip) a b = absurd (calls_or_script world script b.name wrong b.called a)
+means_one_thing world script (wrong_script wrong) no_script a b = absurd (not_there world script a.text a.text_is b)
+means_one_thing world script (wrong_script wrong) (wrong_script other) a b = ap wrong_script (same_script world script wrong other a b)
+means_one_thing world script (wrong_script wrong) (wrong_input name fault) a b = absurd (calls_or_script world script name wrong b.0 a)
+means_one_thing world script (wrong_input name fault) (a_clip clip) a b = absurd (clip_or_input world script clip name fault b a.0 a.1)
+means_one_thing world script (wrong_input name fault) no_script a b = absurd (there world script name a.0 b)
+means_one_thing world script (wrong_input name fault) (wrong_script wrong) a b = absurd (calls_or_script world script name wrong a.0 b)
+means_one_thing world script (wrong_input name fault) (wrong_input another other) a b =
     let name_is = same_name world script name another a.0 b.0 in
-    ap (λ (n : List ℕ). Input n fault) name_is ∙ ap (Input another) (same_input world another fault other (rw name_is at a.1) b.1)
+    ap (λ (n : List ℕ). wrong_input n fault) name_is ∙ ap (wrong_input another) (same_input world another fault other (rw name_is at a.1) b.1)

@@ -1,13 +1,15 @@
 -- Lines that are put, whole or cut short.
-use Rattle.std.proofs.Common.{◌≡◌, ℕ, ◌≤◌, ◌<◌, List, ◌++◌, length, take, get_or, Option, Result, Ok, Err, OnErr, true, arith}
+use Rattle.std.proofs.Common.{◌≡◌, ◌⊎◌, inl, inr, refl, [], ℕ, ◌<◌, List, ◌++◌, length, take, get_or, Result, Ok, Err, OnErr, true, arith}
 use Rattle.std.specs.Result.{is_err}
 use Rattle.std.proofs.lemmas.List.{append_assoc}
 use Rattle.std.specs.List.{flat_map}
-use Rattle.std.specs.Prelude.{codes}
-use Rattle.fv_io.specs.Causes.{Rose}
-use Rattle.fv_io.specs.Told.{with_piece, GetsPrefix}
-use Rattle.y4m_stream.proofs.PutLemmas.{put_cut, one_more}
-use Rattle.serve_app.specs.Lines.{Says}
+use Rattle.std.specs.Prelude.{codes, decimal}
+use Rattle.fv_io.specs.declared.sink.Sink.{Ghosts}
+use Rattle.fv_io.specs.Sink.{Puts, PutsPrefix, SinkFailed, IsLater}
+use Rattle.y4m_stream.proofs.CallerLemmas.{put_cut, one_more}
+use Rattle.y4m_stream.specs.declared.fault.Y4mFault.{Y4mFault}
+use Rattle.y4m_stream.specs.declared.fault.Y4mFault.TheVariants as of_stream
+use Rattle.serve_app.specs.Lines.{Says, y4m_detail}
 
 -- what holds of an answer that is an error
 pub of_err : {T E P : Type 0} (r : Result T E) → is_err r ≡ true → OnErr r P → P
@@ -15,19 +17,43 @@ of_err (Ok x) failed p = absurd (cc)
 of_err (Err e) failed p = p
 
 -- where a put failed, the line is cut short
-pub says_cut : {X : Type 0} (text : X → List ℕ) (xs : List X) (i : ℕ) (d : X) (old mid new : Option (List ℕ)) (before between after : ℕ) → i < length xs → mid ≡ with_piece old (flat_map text (take i xs)) → GetsPrefix mid new (text (get_or xs i d)) → before ≤ between → Rose between after
-    → Says old new before after (flat_map text xs)
-says_cut text xs i d old mid new before between after within put cut later rose = record {
-  cut = put_cut text xs i 1 old mid new put (rw (one_more text xs i d within) cut);
+pub says_cut : {X E : Type 0} (sink : Ghosts E) (text : X → List ℕ) (xs : List X) (i : ℕ) (d : X) (old mid new : E) → i < length xs → Puts sink old mid (flat_map text (take i xs)) → PutsPrefix sink mid new (text (get_or xs i d))
+    → IsLater sink old mid → IsLater sink mid new → SinkFailed sink mid new → Says sink old new (flat_map text xs)
+says_cut sink text xs i d old mid new within put cut before later failed = record {
+  cut = put_cut text xs i 1 (sink.bytes old) (sink.bytes mid) (sink.bytes new) put (rw (one_more text xs i d within) cut);
   whole = λ none. absurd (none (omega arith));
+  later = omega arith;
 }
 
--- a line is the same line in other words
-pub says_as : (old new : Option (List ℕ)) (before after : ℕ) (line other : List ℕ) → line ≡ other → Says old new before after line → Says old new before after other
-says_as old new before after line other same says = rw (← same) says
+-- a line that was put is also any line equal to it
+pub says_as : {E : Type 0} (sink : Ghosts E) (old new : E) (line other : List ℕ) → line ≡ other → Says sink old new line → Says sink old new other
+says_as sink old new line other same says = rw (← same) says
 
--- the numbers stand before the end of the line
+-- the numbers come before the end of the line
 pub changed_line : (name frame want got : List ℕ)
     → codes "input fault: " ++ (name ++ (codes ": " ++ (codes "Changed " ++ (frame ++ (codes " want " ++ (want ++ (codes " got " ++ (got ++ codes "\n"))))))))
     ≡ codes "input fault: " ++ (name ++ (codes ": " ++ ((codes "Changed " ++ (frame ++ (codes " want " ++ (want ++ (codes " got " ++ got))))) ++ codes "\n")))
 changed_line name frame want got = simp append_assoc
+
+pub detail_line : (name kind detail : List ℕ)
+    → codes "input fault: " ++ (name ++ (codes ": " ++ (kind ++ (codes " " ++ (detail ++ codes "\n"))))) ≡ codes "input fault: " ++ (name ++ (codes ": " ++ ((kind ++ (codes " " ++ detail)) ++ codes "\n")))
+detail_line name kind detail = simp append_assoc
+
+-- a fault of a stream that is about no letter and no frame
+pub no_detail : (fault : Y4mFault) → ((letter : ℕ) → fault ≡ of_stream.BadNumber letter → ⊥) → ((frame : ℕ) → fault ≡ of_stream.BadFrame frame → ⊥) → ((frame : ℕ) → fault ≡ of_stream.Truncated frame → ⊥) → y4m_detail fault ≡ []
+no_detail of_stream.NotY4m number frame cut = refl
+no_detail of_stream.HeadTooLong number frame cut = refl
+no_detail of_stream.NoSize number frame cut = refl
+no_detail (of_stream.BadNumber letter) number frame cut = absurd (number letter refl)
+no_detail of_stream.UnknownColour number frame cut = refl
+no_detail of_stream.BadSize number frame cut = refl
+no_detail of_stream.TooLarge number frame cut = refl
+no_detail of_stream.NoFrames number frame cut = refl
+no_detail of_stream.TooManyFrames number frame cut = refl
+no_detail (of_stream.BadFrame k) number frame cut = absurd (frame k refl)
+no_detail (of_stream.Truncated k) number frame cut = absurd (cut k refl)
+
+-- one that is about a frame
+pub of_frame : (fault : Y4mFault) (frame : ℕ) → (fault ≡ of_stream.BadFrame frame) ⊎ (fault ≡ of_stream.Truncated frame) → y4m_detail fault ≡ codes " " ++ decimal frame
+of_frame fault frame (inl is) = rw is refl
+of_frame fault frame (inr is) = rw is refl

@@ -7,9 +7,12 @@ use Rattle.avs_tree.specs.View.{args_of, arg_view, StatementIs, block_view, stat
 use Rattle.avs_tree.specs.declared.tree.Arg.{Arg}
 use Rattle.avs_tree.specs.declared.tree.Statement.{Statement}
 use Rattle.avs_tree.specs.declared.tree.Function.{Function}
-use Rattle.serve_app.specs.Script.{IsSource, IsSourceCall}
+use Rattle.fv_io.specs.declared.source.Source.{Ghosts}
+use Rattle.serve_app.specs.declared.stop.Stop.{Stop}
+use Rattle.serve_app.specs.declared.stop.Stop.TheVariants as of_stop
+use Rattle.serve_app.specs.Script.{IsSource, IsSourceCall, TextShows, ScriptShows}
 
--- what came into a buffer that is not full is all
+-- bytes that don't fill the buffer are the whole source
 pub read_whole : (told buf : List ℕ) (count place : ℕ) → place ≡ 0 → Fills (drop place told) count buf → count ≤ length buf → count ≢ length buf → take count buf ≡ told
 read_whole told buf count place start fills few other =
     let from_start : Fills (drop 0 told) count buf = rw start at fills in
@@ -21,17 +24,17 @@ longer told buf count place most start fills room full =
     let from_start : Fills (drop 0 told) count buf = rw start at fills in
     omega (arith, from_start.inside)
 
--- a text that leaves room in the buffer is short enough
+-- a text that doesn't fill the buffer is short enough
 pub short_enough : (told buf : List ℕ) (count most : ℕ) → take count buf ≡ told → length buf ≡ most + 1 → count ≤ length buf → count ≢ length buf → length told ≤ most
 short_enough told buf count most whole room few other = omega (arith, sym (ap length whole), length-take-le count buf few)
 
--- arguments that are one text are one
+-- arguments that are one text are a list of one argument
 pub one_argument : (args : List Arg) (name : List ℕ) → args_of (map arg_view args) ≡ arg None (str name) no_args → length args ≡ 1
 one_argument [] name is = absurd cc
 one_argument (a ∷ []) name is = refl
 one_argument (a ∷ b ∷ rest) name is = absurd cc
 
--- statements that are one are one
+-- statements that are one statement are a list of one
 pub one_statement : (body : List Statement) (kind : Kind) (line : ℕ) → block_view body ≡ then_ kind line no_more → length body ≡ 1
 one_statement [] kind line is = absurd cc
 one_statement (s ∷ []) kind line is = refl
@@ -60,3 +63,11 @@ of_value of None tree e line none one other = λ name call.
     let same : call.e ≡ e = cc in
     other name (rw same at call.source)
 of_value of (Some x) tree e line none one source = record { e = e; line = line; functions = none; statements = one; source = source }
+
+-- what a stop shows of a text it shows of the source of the text
+pub shows_of_text : {S : Type 0} (source : Ghosts S) (old new : S) (text : List ℕ) → ((told : List ℕ) → source.bytes old ≡ Some told → text ≡ told) → (stop : Stop (List ℕ)) → TextShows text stop → ScriptShows source old new stop
+shows_of_text source old new text same (of_stop.Script fault) shown = λ told is. rw (same told is) at shown
+shows_of_text source old new text same (of_stop.Input name fault) shown = shown
+shows_of_text source old new text same of_stop.Read shown = absurd shown
+shows_of_text source old new text same of_stop.Write shown = shown
+shows_of_text source old new text same of_stop.Memory shown = tt

@@ -2,5 +2,8 @@ pub mod Words
 pub mod Script
 pub mod Meaning
 pub mod Rendered
+pub mod StopKinds
+pub mod Stop
+pub mod Copying
 pub mod Lines
-pub mod Stops
+pub mod Headline

@@ -1,16 +1,32 @@
 -- What a script calls for, or what is wrong with its text. One form of tree is built so far: a call of Y4MSource.
 use Rattle.std.specs.Prelude.{◌≡◌, ◌<◌, ◌≤◌, ◌^◌, ℕ, List, [], length, codes, None, IsTrue}
+use Rattle.std.specs.Option.{ForSome}
 use Rattle.std.specs.Str.{IsUtf8, str_eq_ignore_ascii_case}
+use Rattle.fv_io.specs.declared.source.Source.{Ghosts}
+use Rattle.fv_io.specs.Source.{SourceFailed}
 use Rattle.avs_lex.specs.declared.fault.LexKind.{LexKind}
+use Rattle.avs_lex.specs.declared.fault.LexError.{LexError}
+use Rattle.avs_lex.specs.declared.fault.LexError.TheVariants as of_lex
+use Rattle.avs_parse.specs.declared.fault.ParseError.{ParseError}
+use Rattle.avs_parse.specs.declared.fault.ParseError.TheVariants as of_parse
 use Rattle.avs_lex.specs.declared.token.Token.{Token}
 use Rattle.avs_lex.specs.Tokens.{Tokens, LexFault}
 use Rattle.avs_tree.specs.Lexeme.{lexemes}
 use Rattle.avs_tree.specs.Script.{HasTree}
-use Rattle.avs_tree.specs.Tree.{Expr, str, call, arg, no_args, value, then_, no_more, Script}
+use Rattle.avs_tree.specs.View.{StatementIs}
+use Rattle.avs_tree.specs.Tree.{Expr, Args, str, call, arg, no_args, value, then_, no_more, Script}
 use Rattle.serve_app.specs.declared.fault.ScriptFault.{ScriptFault}
 use Rattle.serve_app.specs.declared.fault.ScriptFault.TheVariants as of_script
-use Rattle.serve_app.specs.declared.script.ScriptStop.{ScriptStop}
-use Rattle.serve_app.specs.declared.script.ScriptStop.TheVariants.{Fault, Read, Memory}
+use Rattle.serve_app.specs.declared.stop.Stop.{Stop}
+use Rattle.serve_app.specs.declared.stop.Stop.TheVariants as of_stop
+
+-- the arguments are one text, and no name is given to it
+abbrev pub IsOneText : Args → List ℕ → Type 0
+IsOneText args text = args ≡ arg None (str text) no_args
+
+-- the statement is this expression, and is in this line
+abbrev pub IsValue : StatementIs → Expr → ℕ → Type 0
+IsValue statement e line = statement ≡ (value e, line)
 
 -- a call of Y4MSource, in any case of letters, with one text and nothing else
 pub record IsSource (e : Expr) (name : List ℕ) : Type 0 where
@@ -73,19 +89,40 @@ IsWrong text (lexical kind line) = IsText text × LexFault text kind line
 IsWrong text unparsed = IsUnparsed text
 IsWrong text unbuilt = IsUnbuilt text
 
--- what a fault of a script shows of its text. Where tokens are no script, that is all that a fault shows so far: nothing
--- is said of its line, nor of which of the two it is.
-abbrev pub ExplainsText : List ℕ → ScriptFault → Type 0
-ExplainsText text of_script.NotThere = ⊥
-ExplainsText text of_script.ScriptTooLong = IsWrong text too_long
-ExplainsText text of_script.NotUtf8 = IsWrong text not_utf8
-ExplainsText text (of_script.Lex kind line) = IsWrong text (lexical kind line)
-ExplainsText text (of_script.Syntax line) = IsWrong text unparsed
-ExplainsText text (of_script.NestLimit line) = IsWrong text unparsed
-ExplainsText text of_script.Unbuilt = IsWrong text unbuilt
+-- what a fault of a script shows of its text. Where the tokens are no script, that is all that a fault shows so far:
+-- nothing is said of its line, nor of which of the two faults it is.
+abbrev pub IsTextFault : List ℕ → ScriptFault → Type 0
+IsTextFault text of_script.NotThere = ⊥
+IsTextFault text of_script.ScriptTooLong = IsWrong text too_long
+IsTextFault text of_script.NotUtf8 = IsWrong text not_utf8
+IsTextFault text (of_script.Lex kind line) = IsWrong text (lexical kind line)
+IsTextFault text (of_script.Syntax line) = IsWrong text unparsed
+IsTextFault text (of_script.NestLimit line) = IsWrong text unparsed
+IsTextFault text of_script.Unbuilt = IsWrong text unbuilt
 
--- what a stop shows of the text
-abbrev pub ExplainsStop : List ℕ → ScriptStop → Type 0
-ExplainsStop text (Fault fault) = ExplainsText text fault
-ExplainsStop text Read = Unit {0}
-ExplainsStop text Memory = Unit {0}
+-- ---- stops
+
+abbrev pub stop_of_lex : LexError → Stop (List ℕ)
+stop_of_lex (of_lex.Fault kind line) = of_stop.Script (of_script.Lex kind line)
+stop_of_lex of_lex.Memory = of_stop.Memory
+
+abbrev pub stop_of_parse : ParseError → Stop (List ℕ)
+stop_of_parse (of_parse.Syntax token line) = of_stop.Script (of_script.Syntax line)
+stop_of_parse (of_parse.NestLimit token line) = of_stop.Script (of_script.NestLimit line)
+stop_of_parse of_parse.Memory = of_stop.Memory
+
+-- what a stop shows of a text in memory
+abbrev pub TextShows : List ℕ → Stop (List ℕ) → Type 0
+TextShows text (of_stop.Script fault) = IsTextFault text fault
+TextShows text (of_stop.Input name fault) = ⊥
+TextShows text of_stop.Read = ⊥
+TextShows text of_stop.Write = ⊥
+TextShows text of_stop.Memory = Unit {0}
+
+-- what a stop shows of the script of a source
+abbrev pub ScriptShows : {S : Type 0} → Ghosts S → S → S → Stop (List ℕ) → Type 0
+ScriptShows source old new (of_stop.Script fault) = ForSome (source.bytes old) (λ text. IsTextFault text fault)
+ScriptShows source old new (of_stop.Input name fault) = ⊥
+ScriptShows source old new of_stop.Read = SourceFailed source old new
+ScriptShows source old new of_stop.Write = ⊥
+ScriptShows source old new of_stop.Memory = Unit {0}

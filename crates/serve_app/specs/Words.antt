@@ -1,4 +1,4 @@
--- The words behind the program's name.
+-- The words after the program's name.
 use Rattle.std.specs.Prelude.{◌≡◌, ◌≢◌, ◌⊎◌, ℕ, List, [], ◌∷◌, codes, slice_index}
 
 -- a word that is no option: one that doesn't begin with `-`, or `-` alone

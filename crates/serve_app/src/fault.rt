@@ -11,13 +11,13 @@ pub enum ScriptFault {
     ScriptTooLong,
     /// It isn't UTF-8.
     NotUtf8,
-    /// A line of it has no tokens.
+    /// Its text isn't made of tokens: the first fault is of this kind, in this line.
     Lex { kind: LexKind, line: u32 },
-    /// A token of this line goes on no script.
+    /// Its tokens are no script: the parse failed at a token of this line.
     Syntax { line: u32 },
-    /// A token of this line nests too deep.
+    /// Its expressions nest too deep, at a token of this line.
     NestLimit { line: u32 },
-    /// It has a form that isn't built yet.
+    /// It is a script of a form that the program doesn't render yet.
     Unbuilt,
 }
 
@@ -26,8 +26,8 @@ pub enum ScriptFault {
 pub enum InputFault {
     /// There is no file of its name.
     NotThere,
-    /// Its bytes are no stream.
+    /// Its bytes aren't a stream: this is their first fault.
     Y4m(Y4mFault),
-    /// Its bytes ended at `got` when they were read again, before `want`, the place just past the frame.
+    /// Its bytes ended at `got` when they were read again, before `want`, the offset just past the frame.
     Changed { frame: u32, want: u64, got: u64 },
 }

@@ -1,4 +1,4 @@
-// Laws of the definitions, each the contract of a function with nothing to do.
+// Laws of the definitions. Each is the contract of a function with an empty body.
 ghost use Rattle.serve_app.specs.Meaning.{MeansOneThing};
 
 /// A script means one thing at most.

@@ -1,6 +1,6 @@
-//! The program as a function over the outside: `run_plain` renders the clip of a script.
+//! The program as a function over files and sinks: `run_plain` renders the clip of a script.
 //!
-//! Its contract is the headline: what a status says was written, and why each status comes.
+//! Its contract, the headline, says what each status means: what was written, and why.
 #![tactic(auto)]
 
 mod copy;

@@ -1,31 +1,22 @@
 // The script of a source, read into its tree, and the file that it calls for.
-ghost use Rattle.std.specs.Prelude.{◌≡◌, ◌≤◌, ◌+◌, ◌^◌, length, map, codes, List, [], ◌∷◌, ℕ, Some, None, IfOk, IfErr, IsErrOf, MatchOption};
+ghost use Rattle.std.specs.Prelude.{◌≡◌, ◌≤◌, ◌+◌, ◌^◌, length, map, codes, List, [], ◌∷◌, ℕ, IfOk, IfErr, MatchOption};
 ghost use Rattle.std.specs.Str.{str_eq_ignore_ascii_case};
-ghost use Rattle.fv_io.specs.Causes.{Rose};
-ghost use Rattle.fv_io.specs.Reading.{KeepsSource};
-ghost use Rattle.avs_tree.specs.Tree.{Expr as ExprTree, arg, str, no_args, value};
+ghost use Rattle.std.specs.Option.{ForSome};
+ghost use Rattle.fv_io.specs.Source.{KeepsSource};
+ghost use Rattle.avs_tree.specs.Tree.{Expr as ExprTree};
 ghost use Rattle.avs_tree.specs.View.{args_of, arg_view, expr_view, statement_view, script_view};
-ghost use Rattle.serve_app.specs.Script.{IsSource, IsSourceCall, HasScript, Calls, ExplainsStop};
+ghost use Rattle.serve_app.specs.Script.{IsOneText, IsValue, IsSource, IsSourceCall, HasScript, Calls};
+ghost use Rattle.serve_app.specs.Script.{TextShows, ScriptShows};
 
 use crate::fault::ScriptFault;
-use avs_lex::{LexError, lex};
-use avs_parse::{Arg, Expr, ParseError, Script, Statement, StatementKind, parse};
+use crate::stop::Stop;
+use avs_lex::lex;
+use avs_parse::{Arg, Expr, Script, Statement, StatementKind, parse};
 use fv_io::{Source, Text, read_full};
 use std::alloc::Global;
 
-// How many bytes a script may have.
+/// How many bytes a script may have.
 const LONGEST: usize = 1_048_576;
-
-/// Why a script names no source.
-#[derive(Clone, Copy, Debug, PartialEq, Eq)]
-pub(crate) enum ScriptStop {
-    /// The script has this fault.
-    Fault(ScriptFault),
-    /// The source failed.
-    Read,
-    /// Memory ran out.
-    Memory,
-}
 
 // Whether a call of this name is of the source.
 fn is_source(name: &str) -> bool
@@ -46,9 +37,8 @@ fn only<T>(items: &[T]) -> Option<&T>
 
 // The text that is the one argument.
 fn only_text(args: &[Arg]) -> Option<&Text>
-    ensures { MatchOption result
-        ((name : List ℕ) → args_of (map arg_view args.now) ≡ arg None (str name) no_args → ⊥)
-        (λ name. args_of (map arg_view args.now) ≡ arg None (str name.now) no_args) }
+    ensures { MatchOption result ((text : List ℕ) → IsOneText (args_of (map arg_view args.now)) text → ⊥)
+        (λ text. IsOneText (args_of (map arg_view args.now)) text.now) }
 {
     let Some(arg) = only(args) else {
         return None;
@@ -64,7 +54,8 @@ fn only_text(args: &[Arg]) -> Option<&Text>
 
 // The file that an expression calls for.
 fn named_by(value: &Expr) -> Option<&Text>
-    ensures { MatchOption result ((name : List ℕ) → IsSource (expr_view value.now) name → ⊥) (λ name. IsSource (expr_view value.now) name.now) }
+    ensures { MatchOption result ((name : List ℕ) → IsSource (expr_view value.now) name → ⊥)
+        (λ name. IsSource (expr_view value.now) name.now) }
 {
     match value {
         Expr::Call { name, args, .. } if is_source(name.as_str()) => only_text(args),
@@ -74,9 +65,8 @@ fn named_by(value: &Expr) -> Option<&Text>
 
 // The expression that a statement is.
 fn expression_of(statement: &Statement) -> Option<&Expr>
-    ensures { MatchOption result
-        ((e : ExprTree) (line : ℕ) → statement_view statement.now ≡ (value e, line) → ⊥)
-        (λ e. statement_view statement.now ≡ (value (expr_view e.now), statement.now.line)) }
+    ensures { MatchOption result ((e : ExprTree) (line : ℕ) → IsValue (statement_view statement.now) e line → ⊥)
+        (λ e. IsValue (statement_view statement.now) (expr_view e.now) statement.now.line) }
 {
     match &statement.kind {
         StatementKind::Value(value) => Some(value),
@@ -86,7 +76,8 @@ fn expression_of(statement: &Statement) -> Option<&Expr>
 
 // The file that a script calls for.
 fn called_file(script: &Script) -> Option<&Text>
-    ensures { MatchOption result ((name : List ℕ) → IsSourceCall (script_view script.now) name → ⊥) (λ name. IsSourceCall (script_view script.now) name.now) }
+    ensures { MatchOption result ((name : List ℕ) → IsSourceCall (script_view script.now) name → ⊥)
+        (λ name. IsSourceCall (script_view script.now) name.now) }
 {
     if !script.functions.is_empty() {
         return None;
@@ -101,72 +92,60 @@ fn called_file(script: &Script) -> Option<&Text>
 }
 
 // The tree of a text that is short enough for a script.
-fn read_tree(alloc: Global, text: &str) -> Result<Script, ScriptStop>
+fn read_tree(alloc: Global, text: &str) -> Result<Script, Stop<Text>>
     requires { length text.now ≤ 2 ^ 20 }
     ensures tree { IfOk result (λ script. HasScript text.now (script_view script)) }
-    ensures fault { IfErr result (ExplainsStop text.now) }
-    ensures read { IsErrOf result ScriptStop.Read → ⊥ }
+    ensures stop { IfErr result (TextShows text.now) }
 {
-    let tokens = match lex(alloc, text) {
-        Ok(tokens) => tokens,
-        Err(LexError::Fault { kind, line }) => {
-            return Err(ScriptStop::Fault(ScriptFault::Lex { kind, line }));
-        }
-        Err(LexError::Memory) => return Err(ScriptStop::Memory),
+    let tokens = lex(alloc, text)?;
+    Ok(parse(alloc, text, &tokens)?)
+}
+
+// The name that a text calls for.
+fn name_in(alloc: Global, text: &str) -> Result<Text, Stop<Text>>
+    requires { length text.now ≤ 2 ^ 20 }
+    ensures calls { IfOk result (Calls text.now) }
+    ensures stop { IfErr result (TextShows text.now) }
+{
+    let script = read_tree(alloc, text)?;
+    let Some(name) = called_file(&script) else {
+        return Err(Stop::Script(ScriptFault::Unbuilt));
     };
-    match parse(alloc, text, &tokens) {
-        Ok(script) => Ok(script),
-        Err(ParseError::Syntax { line, .. }) => {
-            Err(ScriptStop::Fault(ScriptFault::Syntax { line }))
-        }
-        Err(ParseError::NestLimit { line, .. }) => {
-            Err(ScriptStop::Fault(ScriptFault::NestLimit { line }))
-        }
-        Err(ParseError::Memory) => Err(ScriptStop::Memory),
+    match Text::from_str(alloc, name.as_str()) {
+        Ok(name) => Ok(name),
+        Err(_) => Err(Stop::Memory),
     }
 }
 
 // The name that the script of a source calls for, read into a buffer that has room for one byte more than a script.
-fn read_name<S: Source>(alloc: Global, source: &mut S, buf: &mut [u8]) -> Result<Text, ScriptStop>
+fn read_name<S: Source>(alloc: Global, source: &mut S, buf: &mut [u8]) -> Result<Text, Stop<Text>>
     requires start { S.place source.old ≡ 0 }
     requires room { length buf.old ≡ 2 ^ 20 + 1 }
-    ensures calls { IfOk result (λ name. (told : List ℕ) → S.bytes source.old ≡ Some told → Calls told name) }
-    ensures fault { IfErr result (λ stop. (told : List ℕ) → S.bytes source.old ≡ Some told → ExplainsStop told stop) }
-    ensures keeps { KeepsSource S.bytes S.rewinds S.faults source.old source.new }
-    ensures read { IsErrOf result ScriptStop.Read → Rose (S.faults source.old) (S.faults source.new) }
+    ensures calls { IfOk result (λ name. ForSome (S.bytes source.old) (λ told. Calls told name)) }
+    ensures stop { IfErr result (ScriptShows S.Source source.old source.new) }
+    ensures keeps { KeepsSource S.Source source.old source.new }
 {
     let Ok(count) = read_full(source, buf) else {
-        return Err(ScriptStop::Read);
+        return Err(Stop::Read);
     };
     if count == buf.len() {
-        return Err(ScriptStop::Fault(ScriptFault::ScriptTooLong));
+        return Err(Stop::Script(ScriptFault::ScriptTooLong));
     }
     let Ok(text) = std::str::from_utf8(&buf[..count]) else {
-        return Err(ScriptStop::Fault(ScriptFault::NotUtf8));
+        return Err(Stop::Script(ScriptFault::NotUtf8));
     };
-    let script = match read_tree(alloc, text) {
-        Ok(script) => script,
-        Err(stop) => return Err(stop),
-    };
-    let Some(name) = called_file(&script) else {
-        return Err(ScriptStop::Fault(ScriptFault::Unbuilt));
-    };
-    match Text::from_str(alloc, name.as_str()) {
-        Ok(name) => Ok(name),
-        Err(_) => Err(ScriptStop::Memory),
-    }
+    name_in(alloc, text)
 }
 
 /// The name of the file that the script of a source just fetched calls for.
-pub(crate) fn read_script<S: Source>(alloc: Global, source: &mut S) -> Result<Text, ScriptStop>
+pub(crate) fn read_script<S: Source>(alloc: Global, source: &mut S) -> Result<Text, Stop<Text>>
     requires { S.place source.old ≡ 0 }
-    ensures calls { IfOk result (λ name. (told : List ℕ) → S.bytes source.old ≡ Some told → Calls told name) }
-    ensures fault { IfErr result (λ stop. (told : List ℕ) → S.bytes source.old ≡ Some told → ExplainsStop told stop) }
-    ensures keeps { KeepsSource S.bytes S.rewinds S.faults source.old source.new }
-    ensures read { IsErrOf result ScriptStop.Read → Rose (S.faults source.old) (S.faults source.new) }
+    ensures calls { IfOk result (λ name. ForSome (S.bytes source.old) (λ told. Calls told name)) }
+    ensures stop { IfErr result (ScriptShows S.Source source.old source.new) }
+    ensures keeps { KeepsSource S.Source source.old source.new }
 {
     let Ok(mut buf) = vec![in alloc; 0u8; room()] else {
-        return Err(ScriptStop::Memory);
+        return Err(Stop::Memory);
     };
     read_name(alloc, source, &mut buf)
 }

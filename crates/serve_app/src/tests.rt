@@ -1,11 +1,11 @@
-// Runs over files in memory: what a status leaves on both outputs, and where the outside fails.
+// Runs over files in memory: what is on both outputs at each status, and how failed reads and writes end a run.
 use super::*;
 use fv_io::{MemFiles, MemSink, Text, Trip};
 use std::alloc::{AllocError, Global};
 use std::process::Abort;
 use std::test::Fail;
 
-// A file of four frames, which is its own text: the head ends at 36, and the frames at 43, 50, 57 and 64.
+// A file of four frames, which a render copies unchanged: the head ends at 36, and the frames at 43, 50, 57 and 64.
 const CLIP: &[u8] =
     b"YUV4MPEG2 W1 H1 F25:1 Ip A1:1 Cmono\nFRAME\n\x00FRAME\n\x01FRAME\n\x02FRAME\n\x03";
 
@@ -20,8 +20,8 @@ fn start(bytes: &[u8], count: usize) -> &[u8] {
     &bytes[..count.min(bytes.len())]
 }
 
-// The script under its name, and the start of the clip as `m4.y4m`, which gives five bytes a read.
-fn shelf(
+// The script under its name, and the first `size` bytes of the clip as `m4.y4m`. Each read gives at most five bytes.
+fn script_and_clip(
     alloc: Global,
     name: &str,
     script: &[u8],
@@ -41,7 +41,7 @@ fn shelf(
     Ok(files)
 }
 
-// A run into sinks with so much room.
+// A run into sinks with this much room.
 fn run(
     alloc: Global,
     words: &[&str],
@@ -58,7 +58,7 @@ fn run(
     Ok((ending.status, out, err))
 }
 
-// The run ends with this status, so many bytes of the text on `out`, and this on `err`.
+// The run ends with this status, this many bytes of the text on `out`, and this line on `err`.
 fn ends(
     rt: &impl Abort,
     alloc: Global,
@@ -91,14 +91,14 @@ fn a_render_succeeds(rt: HostRuntime) -> Result<(), Fail> {
         (SCRIPT, 64, 64),
     ];
     for (script, size, text) in rows {
-        let mut files = shelf(alloc, "s.avs", script, size, &[])?;
+        let mut files = script_and_clip(alloc, "s.avs", script, size, &[])?;
         ends(&rt, alloc, RENDER, &mut files, (99, 99), (0, text, ""))?;
         assert_eq!(rt; files.faults(), 0);
     }
     Ok(())
 }
 
-// The input's head is written anew, and each fault of its bytes is named.
+// The output has a head of its own, and each fault of the input's bytes is named.
 #[test]
 fn inputs_are_streams(rt: HostRuntime) -> Result<(), Fail> {
     let alloc = rt.alloc();
@@ -124,7 +124,7 @@ fn inputs_are_streams(rt: HostRuntime) -> Result<(), Fail> {
         let mut input = head.as_bytes().to_vec(alloc)?;
         input.extend_from_slice(b"\n")?;
         input.extend_from_slice(frame)?;
-        let mut files = shelf(alloc, "s.avs", SCRIPT, 0, &[])?;
+        let mut files = script_and_clip(alloc, "s.avs", SCRIPT, 0, &[])?;
         files.add(Text::from_str(alloc, "m4.y4m")?, input, 5, Vec::new(alloc))?;
         let (status, out, err) = run(alloc, RENDER, &mut files, (99, 99))?;
         let mut text = want.as_bytes().to_vec(alloc)?;
@@ -152,12 +152,12 @@ fn words_ask_for_a_render(rt: HostRuntime) -> Result<(), Fail> {
         &["info", "s.avs"],
     ];
     for words in rows {
-        let mut files = shelf(alloc, "s.avs", SCRIPT, 64, &[])?;
+        let mut files = script_and_clip(alloc, "s.avs", SCRIPT, 64, &[])?;
         files.fail_fetch(1)?;
         ends(&rt, alloc, words, &mut files, (99, 999), (1, 0, USAGE))?;
         assert_eq!(rt; files.faults(), 0);
     }
-    let mut files = shelf(alloc, "-", SCRIPT, 64, &[])?;
+    let mut files = script_and_clip(alloc, "-", SCRIPT, 64, &[])?;
     let words: &[&str] = &["render", "-"];
     ends(&rt, alloc, words, &mut files, (99, 99), (0, 64, ""))?;
     Ok(())
@@ -220,7 +220,7 @@ fn scripts_have_faults(rt: HostRuntime) -> Result<(), Fail> {
         let script = vec![in alloc; b' '; size]?;
         is_wrong(&rt, alloc, &script, line, kind)?;
     }
-    let mut files = shelf(alloc, "t.avs", SCRIPT, 64, &[])?;
+    let mut files = script_and_clip(alloc, "t.avs", SCRIPT, 64, &[])?;
     let line = "script fault: s.avs line 0: NotThere\n";
     ends(&rt, alloc, RENDER, &mut files, (99, 99), (2, 0, line))?;
     ends(&rt, alloc, RENDER, &mut files, (99, 3), (2, 0, "scr"))?;
@@ -238,7 +238,7 @@ fn inputs_have_faults(rt: HostRuntime) -> Result<(), Fail> {
         (SCRIPT, 63, "m4.y4m: Truncated 3"),
     ];
     for (script, size, fault) in rows {
-        let mut files = shelf(alloc, "s.avs", script, size, &[])?;
+        let mut files = script_and_clip(alloc, "s.avs", script, size, &[])?;
         let said = format!(in alloc; "input fault: {fault}\n")?;
         ends(
             &rt,
@@ -266,7 +266,7 @@ fn an_input_changes_while_it_is_read(rt: HostRuntime) -> Result<(), Fail> {
         ),
         (0, (3, 36, "input fault: m4.y4m: Changed 0 want 43 got 0\n")),
     ] {
-        let mut files = shelf(alloc, "s.avs", SCRIPT, 64, &[])?;
+        let mut files = script_and_clip(alloc, "s.avs", SCRIPT, 64, &[])?;
         files.add_shrinking(
             Text::from_str(alloc, "m4.y4m")?,
             CLIP.to_vec(alloc)?,
@@ -281,12 +281,32 @@ fn an_input_changes_while_it_is_read(rt: HostRuntime) -> Result<(), Fail> {
 fn the_outside_fails(rt: HostRuntime) -> Result<(), Fail> {
     let alloc = rt.alloc();
     for call in 1..3 {
-        let mut files = shelf(alloc, "s.avs", SCRIPT, 64, &[])?;
+        let mut files = script_and_clip(alloc, "s.avs", SCRIPT, 64, &[])?;
         files.fail_fetch(call)?;
         let want = (4, 0, "read fault\n");
         ends(&rt, alloc, RENDER, &mut files, (99, 99), want)?;
         assert_eq!(rt; files.faults(), 1);
     }
+    // Each file is fetched once, so a third fetch never comes.
+    let mut files = script_and_clip(alloc, "s.avs", SCRIPT, 64, &[])?;
+    files.fail_fetch(3)?;
+    ends(&rt, alloc, RENDER, &mut files, (99, 99), (0, 64, ""))?;
+    assert_eq!(rt; files.faults(), 0);
+    // A read of the script fails.
+    let trip = Trip::Read {
+        rewinds: 0,
+        place: 7,
+    };
+    let mut files = script_and_clip(alloc, "s.avs", SCRIPT, 64, &[])?;
+    files.add(
+        Text::from_str(alloc, "s.avs")?,
+        SCRIPT.to_vec(alloc)?,
+        5,
+        vec![in alloc; trip; 1]?,
+    )?;
+    let want = (4, 0, "read fault\n");
+    ends(&rt, alloc, RENDER, &mut files, (99, 99), want)?;
+    assert_eq!(rt; files.faults(), 1);
     for (trip, text) in [
         (
             Trip::Read {
@@ -313,6 +333,13 @@ fn the_outside_fails(rt: HostRuntime) -> Result<(), Fail> {
         (
             Trip::Read {
                 rewinds: 1,
+                place: 51,
+            },
+            50,
+        ),
+        (
+            Trip::Read {
+                rewinds: 1,
                 place: 56,
             },
             50,
@@ -325,7 +352,7 @@ fn the_outside_fails(rt: HostRuntime) -> Result<(), Fail> {
             57,
         ),
     ] {
-        let mut files = shelf(alloc, "s.avs", SCRIPT, 64, &[trip])?;
+        let mut files = script_and_clip(alloc, "s.avs", SCRIPT, 64, &[trip])?;
         let want = (4, text, "read fault\n");
         ends(&rt, alloc, RENDER, &mut files, (99, 99), want)?;
         assert_eq!(rt; files.faults(), 1);
@@ -336,7 +363,7 @@ fn the_outside_fails(rt: HostRuntime) -> Result<(), Fail> {
         (60, 5, "write fault\n"),
         (64, 0, ""),
     ] {
-        let mut files = shelf(alloc, "s.avs", SCRIPT, 64, &[])?;
+        let mut files = script_and_clip(alloc, "s.avs", SCRIPT, 64, &[])?;
         let want = (status, room, line);
         ends(&rt, alloc, RENDER, &mut files, (room, 99), want)?;
         assert_eq!(rt; files.faults(), 0);
@@ -344,11 +371,11 @@ fn the_outside_fails(rt: HostRuntime) -> Result<(), Fail> {
     Ok(())
 }
 
-// It is whole, or memory was wanting: to be run with each allocation refused in turn.
+// The text is whole, or the run was out of memory. Run it with each allocation failing in turn.
 #[test]
-fn want_of_memory_is_named(rt: HostRuntime) -> Result<(), Fail> {
+fn out_of_memory_is_named(rt: HostRuntime) -> Result<(), Fail> {
     let alloc = rt.alloc();
-    let mut files = shelf(alloc, "s.avs", SCRIPT, 64, &[])?;
+    let mut files = script_and_clip(alloc, "s.avs", SCRIPT, 64, &[])?;
     let (status, out, err) = run(alloc, RENDER, &mut files, (99, 99))?;
     let want: (usize, &[u8]) = if status == 6 {
         (out.bytes().len(), b"no memory\n")

@@ -1,4 +1,4 @@
-// The words behind the program's name.
+// The words after the program's name.
 ghost use Rattle.std.specs.Prelude.{◌≡◌, List, ℕ, None, IfSome};
 ghost use Rattle.std.specs.Bool.{MatchBool};
 ghost use Rattle.serve_app.specs.Words.{IsPlainWord, IsRender};

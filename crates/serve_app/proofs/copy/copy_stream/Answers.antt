@@ -1,29 +1,21 @@
 -- The clip is that of the bytes.
-use Rattle.std.proofs.Common.{◌≡◌, ◌⊎◌, ℕ, List, Some, inr, ◌∙◌}
-use Rattle.std.proofs.lemmas.Result.{on_ok_weaker, on_err_weaker}
-use Rattle.serve_app.specs.Stops.{PutsText, PutsPrefix, IsUnchanged, ExplainsCopy}
-use Rattle.serve_app.proofs.StopLemmas.{ok_all, err_all, each_err, each_err_all, explains}
+use Rattle.std.proofs.Common.{None, Err, ap}
+use Rattle.std.proofs.lemmas.Result.{on_ok_weaker, MatchResult-weaker}
+use Rattle.serve_app.proofs.CopyLemmas.{index_shows, all_frames, clip_stops}
 use Rattle.serve_app.proofs.copy.copy_stream.Goals as goal
+
+pub returns-in-Err-clause-stop : goal.returns-in-Err-clause-stop
+returns-in-Err-clause-stop g c =
+    rw c.from.ensures (index_shows g.S.Source g.K.Sink c.args.source c.index.new.source c.args.out.now c.in-Err.fault c.in-Err.ensures.fault (λ is. c.in-Err.ensures.read (ap Err is)))
 
 pub returns-clause-whole : goal.returns-clause-whole
 returns-clause-whole g c =
-    let put = rw c.new-clip.ensures at c.put_clip-copied.ensures.put in
-    ok_all c.put_clip-copied.result (λ (told : List ℕ). g.S.Source.bytes c.args.source ≡ Some told) (λ told. PutsText told (g.K.Sink.bytes c.args.out.now) (g.K.Sink.bytes c.put_clip-copied.new.out))
-    (λ told is. let found = c.in-Ok.ensures.found told is in
-    on_ok_weaker c.put_clip-copied.result (λ done. record { info = c.in-Ok.index.info; frames = found.0; is = found.1.stream; put = done }) (put told found.0 (c.in-Ok.ensures.keeps.told ∙ is) found.1))
+    let e = rw c.new-clip.ensures at c.put_clip-copied.ensures.put in
+    on_ok_weaker c.put_clip-copied.result
+    (all_frames g.S.Source g.K.Sink c.args.source (record { source = c.index.new.source; index = c.in-Ok.index; place = None }) c.put_clip-copied.new.clip c.args.out.now c.put_clip-copied.new.out c.in-Ok.ensures.keeps.told c.in-Ok.ensures.found) e
 
-pub returns-clause-cut : goal.returns-clause-cut
-returns-clause-cut g c =
-    let old = g.K.Sink.bytes c.args.out.now in
-    let new = g.K.Sink.bytes c.put_clip-copied.new.out in
-    let cut = rw c.new-clip.ensures at c.put_clip-copied.ensures.cut in
-    err_all c.put_clip-copied.result (λ (told : List ℕ). g.S.Source.bytes c.args.source ≡ Some told) (λ told. (new ≡ old) ⊎ PutsPrefix told old new)
-    (λ told is. let found = c.in-Ok.ensures.found told is in
-    on_err_weaker c.put_clip-copied.result (λ done. inr (record { info = c.in-Ok.index.info; frames = found.0; is = found.1.stream; put = done })) (cut told found.0 (c.in-Ok.ensures.keeps.told ∙ is) found.1))
-
-pub returns-clause-explained : goal.returns-clause-explained
-returns-clause-explained g c =
-    let unchanged = rw c.new-clip.ensures at c.put_clip-copied.ensures.unchanged in
-    each_err_all c.put_clip-copied.result (λ (told : List ℕ). g.S.Source.bytes c.args.source ≡ Some told) ExplainsCopy
-    (λ told is. let found = c.in-Ok.ensures.found told is in
-    each_err c.put_clip-copied.result IsUnchanged (ExplainsCopy told) (explains told (record { info = c.in-Ok.index.info; frames = found.0; stream = found.1.stream })) (unchanged told found.0 (c.in-Ok.ensures.keeps.told ∙ is) found.1))
+pub returns-clause-stop : goal.returns-clause-stop
+returns-clause-stop g c =
+    let e = rw c.new-clip.ensures at c.put_clip-copied.ensures.stop in
+    let stops = clip_stops g.S.Source g.K.Sink c.args.source (record { source = c.index.new.source; index = c.in-Ok.index; place = None }) c.put_clip-copied.new.clip c.args.out.now c.put_clip-copied.new.out c.in-Ok.ensures.keeps.told c.in-Ok.ensures.found c.in-Ok.ensures.keeps.later in
+    MatchResult-weaker c.put_clip-copied.result e (λ x nothing. nothing) (λ stop shown. rw c.into_source.ensures (stops stop shown))

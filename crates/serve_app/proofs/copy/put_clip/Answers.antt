@@ -1,28 +1,48 @@
--- The head, and then the frames.
-use Rattle.std.proofs.Common.{◌≡◌, ℕ, List, ◌∙◌, ap}
-use Rattle.std.proofs.lemmas.Result.{on_ok_weaker, on_err_weaker}
-use Rattle.fv_io.specs.Told.{with_piece, with_piece_twice, gets_more, gets_after}
-use Rattle.y4m_stream.specs.Head.{head}
-use Rattle.y4m_stream.specs.Stream.{frames_text}
-use Rattle.y4m_stream.proofs.PutLemmas.{on_err}
+-- The head, and then frame after frame.
+use Rattle.std.proofs.Common.{◌≡◌, ◌<◌, Err, refl, ap, ◌∙◌, arith, rules}
+use Rattle.serve_app.proofs.CopyLemmas.{head_stops, first_frames, more_frames, frame_stops}
 use Rattle.serve_app.proofs.copy.put_clip.Goals as goal
-use Rattle.serve_app.proofs.copy.put_clip.Goals.{After-put_frames}
-use Rattle.serve_app.proofs.copy.put_clip.Given.{Over}
+use Rattle.serve_app.proofs.copy.put_clip.Goals.{After-put_frame}
 
--- the head is put
-before : (g : Over) (c : After-put_frames g) → g.K.Sink.bytes c.put_head.new.out ≡ with_piece (g.K.Sink.bytes c.args.out.now) (head c.args.clip.now.index.info)
-before g c = c.in_ok-put_head.ensures.put ∙ ap (λ i. with_piece (g.K.Sink.bytes c.args.out.now) (head i)) c.info.ensures.info
+pub returns-in_err-put_head-clause-stop : goal.returns-in_err-put_head-clause-stop
+returns-in_err-put_head-clause-stop g c =
+    let stop = c.in_err-put_head.field-0.0 in
+    let fact = head_stops g.S.Source g.K.Sink c.args.clip.now c.args.clip.now c.args.clip.now c.args.out.now c.args.out.now c.put_head.new.out stop (rw c.info-info.ensures.info at c.in_err-put_head.ensures.stop) in
+    let is : c.from_residual.result ≡ Err stop = search rules in
+    rw is fact
 
-pub returns-in_err-put_head-clause-cut : goal.returns-in_err-put_head-clause-cut
-returns-in_err-put_head-clause-cut g c told frames is indexes =
-    on_err c.from_residual.result (gets_more _ _ (head c.args.clip.now.index.info) (frames_text frames) (rw c.info.ensures.info at c.in_err-put_head.ensures.cut))
+pub loop-n-init : goal.loop-n-init
+loop-n-init g c =
+    let put = rw c.info-info.ensures.info at c.in_ok-put_head.ensures.put in
+    record {
+      index = refl;
+      told = refl;
+      put = first_frames g.S.Source g.K.Sink c.args.clip.now c.args.clip.now c.args.clip.now c.args.out.now c.put_head.new.out c.put_head.new.out put;
+      later = c.in_ok-put_head.ensures.later;
+      later_source = omega arith;
+    }
 
-pub returns-clause-put : goal.returns-clause-put
-returns-clause-put g c told frames is indexes =
-    let old = g.K.Sink.bytes c.args.out.now in
-    let first : List ℕ = head c.args.clip.now.index.info in
-    on_ok_weaker c.put_frames.result (λ put. put ∙ ap (λ o. with_piece o (frames_text frames)) (before g c) ∙ with_piece_twice old first (frames_text frames)) (c.put_frames.ensures.put told frames is indexes)
+pub returns-in_err-put_frame-clause-stop : goal.returns-in_err-put_frame-clause-stop
+returns-in_err-put_frame-clause-stop g c =
+    let i = c.loop-n.invariant in
+    let stop = c.in_err-put_frame.field-0.0 in
+    let inside : c.loop-n.n < c.args.clip.now.index.info.frames = omega (arith, ap (λ x. x.frames) c.info-info.ensures.info, c.loop-n-test.true) in
+    let is_index = c.info-info.ensures.index in
+    let fact = frame_stops g.S.Source g.K.Sink c.args.clip.now c.loop-n.clip c.put_frame.new.clip c.args.out.now c.loop-n.out c.put_frame.new.out i.index i.told c.loop-n.n inside i.put is_index i.later_source i.later stop c.in_err-put_frame.ensures.stop in
+    let is : c.from_residual-in_err-put_frame.result ≡ Err stop = search rules in
+    rw is fact
 
-pub returns-clause-cut : goal.returns-clause-cut
-returns-clause-cut g c told frames is indexes =
-    on_err_weaker c.put_frames.result (gets_after _ _ _ (head c.args.clip.now.index.info) (frames_text frames) (before g c)) (c.put_frames.ensures.cut told frames is indexes)
+pub loop-n-preserved : goal.loop-n-preserved
+loop-n-preserved g c =
+    let i = c.loop-n.invariant in
+    let e = c.in_ok-put_frame.ensures in
+    let keeps = e.keeps in
+    let kept = keeps.keeps in
+    let inside : c.loop-n.n < c.args.clip.now.index.info.frames = omega (arith, ap (λ x. x.frames) c.info-info.ensures.info, c.loop-n-test.true) in
+    record {
+      index = keeps.index ∙ i.index;
+      told = kept.told ∙ i.told;
+      put = more_frames g.S.Source g.K.Sink c.args.clip.now c.loop-n.clip c.put_frame.new.clip c.args.out.now c.loop-n.out c.put_frame.new.out i.index i.told c.loop-n.n inside i.put e.put;
+      later = omega (arith, e.later, i.later);
+      later_source = omega (arith, kept.later, i.later_source);
+    }

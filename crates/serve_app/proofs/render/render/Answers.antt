@@ -1,24 +1,14 @@
--- The file that the script calls for is copied.
+-- The script calls for the file that is copied.
 use Rattle.std.proofs.Common.{◌∙◌}
-use Rattle.serve_app.proofs.RenderLemmas.{renders, renders_prefix, has_clip}
+use Rattle.serve_app.proofs.StopLemmas.{render_shows}
 use Rattle.serve_app.proofs.render.render.Goals as goal
 
 pub returns-in-Ok-clause-whole : goal.returns-in-Ok-clause-whole
-returns-in-Ok-clause-whole g c world honest = renders world c.args.script.now c.in_ok-name.name (c.in_ok-name.ensures.called world honest) _ _ (c.in-Ok.ensures.whole world (c.in_ok-name.ensures.world ∙ honest))
+returns-in-Ok-clause-whole g c world is =
+    let put = c.in-Ok.ensures.whole world (c.in_ok-name.ensures.keeps.world ∙ is) in
+    (put.0, record { name = c.in_ok-name.name; called = c.in_ok-name.ensures.called world is; file = put.1 }, put.2)
 
-pub returns-in-Err-Input-clause-cut : goal.returns-in-Err-Input-clause-cut
-returns-in-Err-Input-clause-cut g c world honest = renders_prefix world c.args.script.now c.in_ok-name.name (c.in_ok-name.ensures.called world honest) _ _ (c.in-Err-Input.ensures.cut world (c.in_ok-name.ensures.world ∙ honest))
-
-pub returns-in-Err-Read-clause-cut : goal.returns-in-Err-Read-clause-cut
-returns-in-Err-Read-clause-cut g c world honest = renders_prefix world c.args.script.now c.in_ok-name.name (c.in_ok-name.ensures.called world honest) _ _ (c.in-Err-Read.ensures.cut world (c.in_ok-name.ensures.world ∙ honest))
-
-pub returns-in-Err-Write-clause-cut : goal.returns-in-Err-Write-clause-cut
-returns-in-Err-Write-clause-cut g c world honest = renders_prefix world c.args.script.now c.in_ok-name.name (c.in_ok-name.ensures.called world honest) _ _ (c.in-Err-Write.ensures.cut world (c.in_ok-name.ensures.world ∙ honest))
-
-pub returns-in-Err-Write-clause-explained : goal.returns-in-Err-Write-clause-explained
-returns-in-Err-Write-clause-explained g c world honest =
-    let stream = rw c.in-Err-Write.field-0-is at (c.in-Err-Write.ensures.explained world (c.in_ok-name.ensures.world ∙ honest)) in
-    has_clip world c.args.script.now c.in_ok-name.name (c.in_ok-name.ensures.called world honest) stream
-
-pub returns-in-Err-Memory-clause-cut : goal.returns-in-Err-Memory-clause-cut
-returns-in-Err-Memory-clause-cut g c world honest = renders_prefix world c.args.script.now c.in_ok-name.name (c.in_ok-name.ensures.called world honest) _ _ (c.in-Err-Memory.ensures.cut world (c.in_ok-name.ensures.world ∙ honest))
+pub returns-in-Err-clause-stop : goal.returns-in-Err-clause-stop
+returns-in-Err-clause-stop g c =
+    rw c.with_name.ensures
+    (render_shows g.F.Files g.K.Sink c.args.script.now c.in_ok-name.name c.args.files.now c.called_name.new.files c.copy_file.new.files c.args.out.now c.copy_file.new.out c.in_ok-name.ensures.called c.in_ok-name.ensures.keeps c.in-Err.stop c.in-Err.ensures.stop)

@@ -3,8 +3,8 @@ use Rattle.std.specs.Fmt.{decimal}
 use Rattle.serve_app.proofs.SayLemmas.{says_as, changed_line}
 use Rattle.serve_app.proofs.say.say_changed.Goals as goal
 
-pub returns-clause-said : goal.returns-clause-said
-returns-clause-said g c =
-    says_as _ _ _ _ _ _
+pub returns : goal.returns
+returns g c =
+    says_as g.E.Sink c.args.err.now c.say.new.err _ _
     (rw (c.as_str.ensures, c.format-frame.ensures.text, c.format-want.ensures.text, c.format-got.ensures.text) (changed_line c.args.name.now (decimal c.args.frame) (decimal c.args.want) (decimal c.args.got)))
-    c.say.ensures.said
+    c.say.ensures

@@ -1,35 +1,16 @@
 -- The line is that of the kind.
+use Rattle.std.proofs.lemmas.List.{append-nil}
+use Rattle.y4m_stream.specs.FaultNames.{fault_name}
+use Rattle.serve_app.proofs.SayLemmas.{no_detail, of_frame}
 use Rattle.serve_app.proofs.say.say_y4m.Goals as goal
 
-pub returns-in-NotY4m-clause-said : goal.returns-in-NotY4m-clause-said
-returns-in-NotY4m-clause-said g c = rw c.in-NotY4m.is c.say_input_kind.ensures.said
+pub returns-in-BadNumber : goal.returns-in-BadNumber
+returns-in-BadNumber g c = rw c.in-BadNumber.is (rw (c.name-kind.ensures, c.in-BadNumber.is, c.encode_utf8.ensures.value) at c.say_input_detail.ensures)
 
-pub returns-in-HeadTooLong-clause-said : goal.returns-in-HeadTooLong-clause-said
-returns-in-HeadTooLong-clause-said g c = rw c.in-HeadTooLong.is c.say_input_kind-in-HeadTooLong.ensures.said
+pub returns-in_default : goal.returns-in_default
+returns-in_default g c =
+    let none = no_detail c.args.fault c.in_default.not-BadNumber c.in_default.not-BadFrame c.in_default.not-Truncated in
+    rw (none, append-nil (fault_name c.args.fault)) (rw c.name-kind.ensures at c.say_input_kind.ensures)
 
-pub returns-in-NoSize-clause-said : goal.returns-in-NoSize-clause-said
-returns-in-NoSize-clause-said g c = rw c.in-NoSize.is c.say_input_kind-in-NoSize.ensures.said
-
-pub returns-in-BadNumber-clause-said : goal.returns-in-BadNumber-clause-said
-returns-in-BadNumber-clause-said g c = rw c.in-BadNumber.is c.say_bad_number.ensures.said
-
-pub returns-in-UnknownColour-clause-said : goal.returns-in-UnknownColour-clause-said
-returns-in-UnknownColour-clause-said g c = rw c.in-UnknownColour.is c.say_input_kind-in-UnknownColour.ensures.said
-
-pub returns-in-BadSize-clause-said : goal.returns-in-BadSize-clause-said
-returns-in-BadSize-clause-said g c = rw c.in-BadSize.is c.say_input_kind-in-BadSize.ensures.said
-
-pub returns-in-TooLarge-clause-said : goal.returns-in-TooLarge-clause-said
-returns-in-TooLarge-clause-said g c = rw c.in-TooLarge.is c.say_input_kind-in-TooLarge.ensures.said
-
-pub returns-in-NoFrames-clause-said : goal.returns-in-NoFrames-clause-said
-returns-in-NoFrames-clause-said g c = rw c.in-NoFrames.is c.say_input_kind-in-NoFrames.ensures.said
-
-pub returns-in-TooManyFrames-clause-said : goal.returns-in-TooManyFrames-clause-said
-returns-in-TooManyFrames-clause-said g c = rw c.in-TooManyFrames.is c.say_input_kind-in-TooManyFrames.ensures.said
-
-pub returns-in-BadFrame-clause-said : goal.returns-in-BadFrame-clause-said
-returns-in-BadFrame-clause-said g c = rw c.in-BadFrame.is c.say_frame.ensures.said
-
-pub returns-in-Truncated-clause-said : goal.returns-in-Truncated-clause-said
-returns-in-Truncated-clause-said g c = rw c.in-Truncated.is c.say_frame-in-Truncated.ensures.said
+pub returns-in-BadFrame : goal.returns-in-BadFrame
+returns-in-BadFrame g c = rw (of_frame c.args.fault c.in-BadFrame.frame c.in-BadFrame.is) (rw (c.name-kind.ensures, c.format.ensures.text) at c.say_input_detail-in-BadFrame.ensures)
