@@ -8,13 +8,16 @@ use real::{RealFiles, RealSink};
 use serve_app::run_plain;
 use std::alloc::{AllocError, Global};
 use std::env;
+use std::io::ErrorKind;
 use std::process::ExitCode;
 
-// The words behind the program's name. Where the system has none to give there are none.
+// The words after the program's name. Where one is no text there are none, which asks for nothing.
 fn words_of(rt: &HostRuntime, alloc: Global) -> Result<Vec<Text>, AllocError> {
     let mut words = Vec::new(alloc);
-    let Ok(args) = env::args(rt) else {
-        return Ok(words);
+    let args = match env::args(rt) {
+        Ok(args) => args,
+        Err(error) if error.kind() == ErrorKind::OutOfMemory => return Err(AllocError),
+        Err(_) => return Ok(words),
     };
     for arg in args.skip(1) {
         words.push(Text::from_str(alloc, arg.as_str())?)?;

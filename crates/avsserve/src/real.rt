@@ -1,10 +1,22 @@
 // The files and the standard streams of the system, as the traits of the outside. They tell no content.
-ghost use Rattle.std.specs.Prelude.{None};
+ghost use Rattle.std.specs.Prelude.{None, ◌≤◌, IfOk};
 
 use fv_io::{Failed, FetchFault, Sink, Source, Text};
 use std::fs::{self, File};
-use std::io::{ErrorKind, Read, Seek, Write};
+use std::io::{self, ErrorKind, Read, Seek, SeekFrom, Write};
 use std::rt::Files;
+
+// Goes past the next `size` bytes of a file, or to its end where it has fewer, and answers how many these were. The bytes
+// aren't read.
+fn skip_in<F: Seek>(file: &mut F, size: u64) -> io::Result<u64>
+    ensures { IfOk result (λ count. count ≤ size) }
+{
+    let start = file.stream_position()?;
+    let end = file.seek(SeekFrom::End(0))?;
+    let place = start.saturating_add(size).min(end.max(start));
+    file.seek(SeekFrom::Start(place))?;
+    Ok(place - start)
+}
 
 /// An open file. Its count of faults rises at each error of the system.
 #[derive(Drop)]
@@ -39,6 +51,16 @@ impl<F: Read + Seek + Drop> Source for RealSource<F> {
                 self.rewinds = self.rewinds.saturating_add(1);
                 Ok(())
             }
+            Err(_) => {
+                self.faults = self.faults.saturating_add(1);
+                Err(Failed)
+            }
+        }
+    }
+
+    fn skip(&mut self, size: u64) -> Result<u64, Failed> {
+        match skip_in(&mut self.file, size) {
+            Ok(count) => Ok(count),
             Err(_) => {
                 self.faults = self.faults.saturating_add(1);
                 Err(Failed)
@@ -88,14 +110,14 @@ impl<'a, R: Files<File = File>> fv_io::Files for RealFiles<'a, R> {
                     rewinds: 0,
                 })
             }
-            Err(error) => {
-                if error.kind() == ErrorKind::NotFound {
-                    Err(FetchFault::NotThere)
-                } else {
+            Err(error) => match error.kind() {
+                ErrorKind::NotFound => Err(FetchFault::NotThere),
+                ErrorKind::OutOfMemory => Err(FetchFault::Memory),
+                _ => {
                     self.faults = self.faults.saturating_add(1);
                     Err(FetchFault::Failed)
                 }
-            }
+            },
         }
     }
 
