@@ -3,10 +3,10 @@
 
     tests/hostile.py [--runs N] [--seed S]
 
-Each run renders a file at a limit of the format, or one made by a few mutations of a sound stream, or of bytes at random. What it must do is
-computed here a second time, plainly, from the format's description: the fault that is said, or the text that is written.
-The program may use 64 MiB of memory in all: room for a frame of the largest size twice, and for the places of the most
-frames.
+The program is built first. Each run renders a file at a limit of the format, or one made by a few mutations of a sound
+stream, or of bytes at random. What it must do is computed here a second time, plainly, from the format's description: the
+fault that is said, or the text that is written. The program may use 64 MiB of memory in all: room for a frame of the
+largest size twice, and for the offsets of the most frames.
 """
 import argparse, os, random, re, resource, subprocess, sys, tempfile
 
@@ -165,6 +165,7 @@ def edges():
     million = b"YUV4MPEG2 W1 H1 Cmono\n" + b"FRAME\n\x7f" * 1_000_000
     yield million
     yield million + b"F"
+    yield million + b"FRAME\n\x7f"
     yield b"YUV4MPEG2 W65535 H256 Cmono\nFRAME\n" + b"\x01" * (65535 * 256)
     yield b"YUV4MPEG2 W65535 H257 Cmono\nFRAME\n"
     yield (b"YUV4MPEG2 W4096 H4096 Cmono\n" + b"FRAME\n" + b"\x02" * 2**24 + b"FRAME\n" + b"\x03" * 2**24)
@@ -182,6 +183,7 @@ def main():
     options.add_argument("--runs", type=int, default=4000)
     options.add_argument("--seed", type=int, default=1)
     options = options.parse_args()
+    subprocess.run([os.path.join(ROOT, "build")], check=True)
     rng = random.Random(options.seed)
     kinds = {}
     with tempfile.TemporaryDirectory() as room:

@@ -9,7 +9,7 @@ if ! have ffmpeg; then
     echo "peers: skipped, ffmpeg is not installed"
     exit 0
 fi
-[ -x "$program" ] || ./build
+./build
 room=$(mktemp -d)
 trap 'rm -rf "$room"' EXIT
 cd "$room"
