@@ -10,6 +10,7 @@ It builds bin/avsserve and measures it and each other PROGRAM (an earlier build,
   small    20,000 frames of 16x16 to /dev/null: the median wall time, and the ratio to ffmpeg
   sparse   a file of 5 GB with holes for its samples: the wall time until it is indexed
   memory   the peak of resident memory of the copy
+  script   scripts of 1 MiB of several kinds: wall time and peak of resident memory until each is refused
 
 The files are made once, in avsserve-bench in the temporary folder, and take 400 MB. Without ffmpeg its columns are empty.
 Other work on the machine disturbs the wall times: look at `uptime` before.
@@ -86,11 +87,24 @@ def line(figure, found, column, unit, scale):
 
 
 def peak(argv):
-    probe = ("import resource, subprocess, sys\n"
-             "subprocess.run(sys.argv[1:], stdout=subprocess.DEVNULL)\n"
-             "print(resource.getrusage(resource.RUSAGE_CHILDREN).ru_maxrss)")
+    """The wall time of one run in milliseconds, and its peak of resident memory in MB."""
+    probe = ("import resource, subprocess, sys, time\n"
+             "start = time.monotonic()\n"
+             "subprocess.run(sys.argv[1:], stdout=subprocess.DEVNULL, stderr=subprocess.DEVNULL)\n"
+             "took = time.monotonic() - start\n"
+             "print(took * 1000, resource.getrusage(resource.RUSAGE_CHILDREN).ru_maxrss / 1024)")
     done = subprocess.run(["python3", "-c", probe] + argv, cwd=DATA, stdout=subprocess.PIPE, check=True)
-    return int(done.stdout) / 1024
+    return tuple(float(word) for word in done.stdout.split())
+
+
+def scripts():
+    """Scripts of 1 MiB: what each repeats, with what is before and after."""
+    size = 1 << 20
+    for name, first, unit, last in (
+            ("string", '"', "a", '"'), ("comment", "/*", "x", "*/"), ("newlines", "", "\n", ""), ("parentheses", "", "(", ""),
+            ("operators", "1", "+1", ""), ("method calls", "a", ".f", ""), ("else if", "if(a){}\n", "else if(a){}\n", ""),
+            ("arguments", "f(1", ",1", ")"), ("statements", "", "a\n", ""), ("blocks", "", "if(a){b}\n", "")):
+        yield name, first + unit * ((size - len(first) - len(last)) // len(unit)) + last
 
 
 def main():
@@ -122,7 +136,11 @@ def main():
     line("small", medians(contenders("small", ("cat", "ffmpeg")), os.devnull, rounds), 0, "ms", 1000)
     line("sparse", medians(contenders("sparse", ()), os.devnull, 1, good=3), 0, "ms", 1000)
     for program in programs:
-        print("%-7s %-44s %8.1f MB" % ("memory", program, peak([program, "render", "copy.avs"])))
+        print("%-7s %-44s %8.1f MB" % ("memory", program, peak([program, "render", "copy.avs"])[1]))
+    for name, text in scripts():
+        with open(os.path.join(DATA, "large.avs"), "w") as out:
+            out.write(text)
+        print("%-7s %-44s %8.1f ms %6.1f MB" % ("script", name, *peak([programs[0], "render", "large.avs"])))
     os.remove(os.path.join(DATA, "out.y4m"))
 
 
