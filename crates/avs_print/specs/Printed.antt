@@ -190,8 +190,8 @@ abbrev pub printed : Script → Text
 printed tree = written (script_words tree)
 
 -- these words were put after what was there
-abbrev pub Puts : List Word → Text → Text → Type 0
-Puts words old new = new ≡ old ++ written words
+abbrev pub Appends : List Word → Text → Text → Type 0
+Appends words old new = new ≡ old ++ written words
 
 -- Where words were put after a text of this size, and the last one has a blank after it, it has a newline now.
 abbrev pub EndsLine : ℕ → Text → Text → Type 0

@@ -5,7 +5,7 @@ ghost use Rattle.avs_lex.specs.Spelling.{spelling};
 ghost use Rattle.avs_lex.specs.Written.{written};
 ghost use Rattle.avs_lex.specs.declared.token.TokenKind.TheVariants as k;
 ghost use Rattle.avs_print.specs.Printed as p;
-ghost use Rattle.avs_print.specs.Printed.{Puts, EndsLine};
+ghost use Rattle.avs_print.specs.Printed.{Appends, EndsLine};
 ghost use Rattle.avs_tree.specs.Grammar.{truth as truth_of};
 ghost use Rattle.avs_tree.specs.Tree.{else_};
 ghost use Rattle.avs_tree.specs.View.{expr_view, arg_view, method_call_view, step_view, args_of, method_calls_of, steps_of, kind_view, arm_view, statement_view, arms_of, block_view, function_view, script_view};
@@ -85,7 +85,7 @@ impl Printer {
 
     // The comma before an element of a list, but for the first.
     fn comma(&mut self, first: bool) -> Result<(), AllocError>
-        ensures { OnOk result (Puts (p.comma_words first) self.old self.new) }
+        ensures { OnOk result (Appends (p.comma_words first) self.old self.new) }
     {
         if first {
             return Ok(());
@@ -95,7 +95,7 @@ impl Printer {
 
     // The `else` before an arm, but for the first.
     fn otherwise(&mut self, first: bool) -> Result<(), AllocError>
-        ensures { OnOk result (Puts (p.else_word first) self.old self.new) }
+        ensures { OnOk result (Appends (p.else_word first) self.old self.new) }
     {
         if first {
             return Ok(());
@@ -104,7 +104,7 @@ impl Printer {
     }
 
     fn label(&mut self, name: &Option<Text>) -> Result<(), AllocError>
-        ensures { OnOk result (Puts (p.label_words name.now) self.old self.new) }
+        ensures { OnOk result (Appends (p.label_words name.now) self.old self.new) }
     {
         match name {
             None => Ok(()),
@@ -168,7 +168,7 @@ impl Printer {
     #[cycle(print_expression)]
     #[tactic(auto, using(crate::proofs::PrintLemmas::putting))]
     fn expr(&mut self, e: &Expr) -> Result<(), AllocError>
-        ensures { OnOk result (Puts (p.expr_words (expr_view e.now)) self.old self.new) }
+        ensures { OnOk result (Appends (p.expr_words (expr_view e.now)) self.old self.new) }
     {
         match e {
             Expr::Int(number) => self.number(*number),
@@ -227,7 +227,7 @@ impl Printer {
     #[cycle(print_expression)]
     #[tactic(auto, using(crate::proofs::PrintLemmas::putting))]
     fn enclosed(&mut self, e: &Expr) -> Result<(), AllocError>
-        ensures { OnOk result (Puts (p.condition_words (expr_view e.now)) self.old self.new) }
+        ensures { OnOk result (Appends (p.condition_words (expr_view e.now)) self.old self.new) }
     {
         self.put("(")?;
         self.expr(e)?;
@@ -238,7 +238,7 @@ impl Printer {
     #[cycle(print_expression)]
     #[tactic(auto, using(crate::proofs::PrintLemmas::putting))]
     fn args(&mut self, args: &[Arg]) -> Result<(), AllocError>
-        ensures { OnOk result (Puts (p.punctuation k.LeftParen ∷ (p.args_words true
+        ensures { OnOk result (Appends (p.punctuation k.LeftParen ∷ (p.args_words true
             (args_of (map arg_view args.now)) ++ p.punctuation k.RightParen ∷ [])) self.old self.new) }
     {
         self.put("(")?;
@@ -249,7 +249,7 @@ impl Printer {
     #[cycle(print_expression)]
     #[tactic(auto, using(crate::proofs::PrintLemmas::putting, crate::proofs::PrintLemmas::args_more))]
     fn arg_list(&mut self, args: &[Arg]) -> Result<(), AllocError>
-        ensures { OnOk result (Puts (p.args_words true (args_of (map arg_view args.now))) self.old self.new) }
+        ensures { OnOk result (Appends (p.args_words true (args_of (map arg_view args.now))) self.old self.new) }
     {
         let mut first = true;
         for arg in args {
@@ -265,7 +265,7 @@ impl Printer {
     #[tactic(auto, using(crate::proofs::PrintLemmas::putting))]
     fn call(&mut self, call: &MethodCall) -> Result<(), AllocError>
         ensures { OnOk result
-            (Puts (p.method_calls_words (method_calls_of (method_call_view call.now ∷ []))) self.old self.new) }
+            (Appends (p.method_calls_words (method_calls_of (method_call_view call.now ∷ []))) self.old self.new) }
     {
         self.put(".")?;
         self.put(call.name.as_str())?;
@@ -279,7 +279,7 @@ impl Printer {
     #[tactic(auto, using(crate::proofs::PrintLemmas::putting, crate::proofs::PrintLemmas::method_calls_more, crate::proofs::PrintLemmas::method_calls_one))]
     fn calls(&mut self, calls: &[MethodCall]) -> Result<(), AllocError>
         ensures { OnOk result
-            (Puts (p.method_calls_words (method_calls_of (map method_call_view calls.now))) self.old self.new) }
+            (Appends (p.method_calls_words (method_calls_of (map method_call_view calls.now))) self.old self.new) }
     {
         for call in calls {
             self.call(call)?;
@@ -290,7 +290,7 @@ impl Printer {
     #[cycle(print_expression)]
     #[tactic(auto, using(crate::proofs::PrintLemmas::putting, crate::proofs::PrintLemmas::steps_more))]
     fn steps(&mut self, steps: &[Step]) -> Result<(), AllocError>
-        ensures { OnOk result (Puts (p.steps_words (steps_of (map step_view steps.now))) self.old self.new) }
+        ensures { OnOk result (Appends (p.steps_words (steps_of (map step_view steps.now))) self.old self.new) }
     {
         for step in steps {
             self.put(operator_text(step.op))?;
@@ -321,8 +321,8 @@ impl Printer {
     // `name = expression`.
     #[tactic(auto, using(crate::proofs::PrintLemmas::putting))]
     fn assignment(&mut self, name: &Text, value: &Expr) -> Result<(), AllocError>
-        ensures { OnOk result
-            (Puts (p.ident name.now ∷ p.punctuation k.Assign ∷ p.expr_words (expr_view value.now)) self.old self.new) }
+        ensures { OnOk result (Appends
+            (p.ident name.now ∷ p.punctuation k.Assign ∷ p.expr_words (expr_view value.now)) self.old self.new) }
     {
         self.put(name.as_str())?;
         self.put("=")?;
@@ -331,7 +331,7 @@ impl Printer {
 
     #[tactic(auto, using(crate::proofs::PrintLemmas::putting))]
     fn for_step(&mut self, step: &Option<Expr>) -> Result<(), AllocError>
-        ensures { OnOk result (Puts (p.step_words (option_map expr_view step.now)) self.old self.new) }
+        ensures { OnOk result (Appends (p.step_words (option_map expr_view step.now)) self.old self.new) }
     {
         match step {
             None => Ok(()),
@@ -350,7 +350,7 @@ impl Printer {
         last: &Expr,
         step: &Option<Expr>,
     ) -> Result<(), AllocError>
-        ensures { OnOk result (Puts (p.head_words name.now (expr_view first.now)
+        ensures { OnOk result (Appends (p.head_words name.now (expr_view first.now)
             (expr_view last.now) (option_map expr_view step.now)) self.old self.new) }
     {
         self.put("(")?;
@@ -365,7 +365,7 @@ impl Printer {
     #[cycle(print_statement)]
     #[tactic(auto, using(crate::proofs::PrintLemmas::putting_statements))]
     fn kind(&mut self, kind: &StatementKind) -> Result<(), AllocError>
-        ensures { OnOk result (Puts (p.kind_words (kind_view kind.now)) self.old self.new) }
+        ensures { OnOk result (Appends (p.kind_words (kind_view kind.now)) self.old self.new) }
     {
         match kind {
             StatementKind::Global { name, value } => {
@@ -408,7 +408,7 @@ impl Printer {
     #[cycle(print_statement)]
     #[tactic(auto, using(crate::proofs::PrintLemmas::putting_statements))]
     fn arm(&mut self, arm: &Arm) -> Result<(), AllocError>
-        ensures { OnOk result (Puts (p.arms_words true (arms_of (arm_view arm.now ∷ []))) self.old self.new) }
+        ensures { OnOk result (Appends (p.arms_words true (arms_of (arm_view arm.now ∷ []))) self.old self.new) }
     {
         self.put(Keyword::If.word())?;
         self.enclosed(&arm.condition)?;
@@ -418,7 +418,7 @@ impl Printer {
     #[cycle(print_statement)]
     #[tactic(auto, using(crate::proofs::PrintLemmas::putting_statements, crate::proofs::PrintLemmas::arms_more, crate::proofs::PrintLemmas::arms_one))]
     fn arms(&mut self, arms: &[Arm]) -> Result<(), AllocError>
-        ensures { OnOk result (Puts (p.arms_words true (arms_of (map arm_view arms.now))) self.old self.new) }
+        ensures { OnOk result (Appends (p.arms_words true (arms_of (map arm_view arms.now))) self.old self.new) }
     {
         let mut first = true;
         for arm in arms {
@@ -433,7 +433,7 @@ impl Printer {
     #[cycle(print_statement)]
     #[tactic(auto, using(crate::proofs::PrintLemmas::putting_statements))]
     fn last_arm(&mut self, body: &[Statement]) -> Result<(), AllocError>
-        ensures { OnOk result (Puts (p.else_words (else_ (block_view body.now))) self.old self.new) }
+        ensures { OnOk result (Appends (p.else_words (else_ (block_view body.now))) self.old self.new) }
     {
         self.put(Keyword::Else.word())?;
         self.braces(body)
@@ -443,7 +443,7 @@ impl Printer {
     #[cycle(print_statement)]
     #[tactic(auto, using(crate::proofs::PrintLemmas::putting_statements))]
     fn braces(&mut self, body: &[Statement]) -> Result<(), AllocError>
-        ensures { OnOk result (Puts (p.braces_words (p.block_words (block_view body.now))) self.old self.new) }
+        ensures { OnOk result (Appends (p.braces_words (p.block_words (block_view body.now))) self.old self.new) }
     {
         self.put("{")?;
         self.block(body)?;
@@ -454,7 +454,7 @@ impl Printer {
     #[cycle(print_statement)]
     #[tactic(auto, using(crate::proofs::PrintLemmas::putting_statements, crate::proofs::PrintLemmas::block_more))]
     fn block(&mut self, body: &[Statement]) -> Result<(), AllocError>
-        ensures { OnOk result (Puts (p.block_words (block_view body.now)) self.old self.new) }
+        ensures { OnOk result (Appends (p.block_words (block_view body.now)) self.old self.new) }
     {
         for statement in body {
             self.statement(statement)?;
@@ -465,7 +465,7 @@ impl Printer {
     #[cycle(print_statement)]
     #[tactic(auto, using(crate::proofs::PrintLemmas::putting_statements))]
     fn statement(&mut self, statement: &Statement) -> Result<(), AllocError>
-        ensures { OnOk result (Puts (p.ended (p.kind_words (statement_view statement.now).0)) self.old self.new) }
+        ensures { OnOk result (Appends (p.ended (p.kind_words (statement_view statement.now).0)) self.old self.new) }
     {
         let start = self.size();
         self.kind(&statement.kind)?;
@@ -474,7 +474,7 @@ impl Printer {
     }
 
     fn param_name(&mut self, param: &Parameter) -> Result<(), AllocError>
-        ensures { OnOk result (Puts (p.param_name param.now.optional param.now.name ∷ []) self.old self.new) }
+        ensures { OnOk result (Appends (p.param_name param.now.optional param.now.name ∷ []) self.old self.new) }
     {
         if param.optional {
             return self.string(param.name.as_str());
@@ -484,7 +484,7 @@ impl Printer {
 
     #[tactic(auto, using(crate::proofs::PrintLemmas::putting, crate::proofs::PrintLemmas::params_more))]
     fn params(&mut self, params: &[Parameter]) -> Result<(), AllocError>
-        ensures { OnOk result (Puts (p.params_words true params.now) self.old self.new) }
+        ensures { OnOk result (Appends (p.params_words true params.now) self.old self.new) }
     {
         let mut first = true;
         for param in params {
@@ -498,7 +498,7 @@ impl Printer {
 
     #[tactic(auto, using(crate::proofs::PrintLemmas::putting))]
     fn function_words(&mut self, function: &Function) -> Result<(), AllocError>
-        ensures { OnOk result (Puts (p.function_words (function_view function.now)) self.old self.new) }
+        ensures { OnOk result (Appends (p.function_words (function_view function.now)) self.old self.new) }
     {
         self.put(Keyword::Function.word())?;
         self.put(function.name.as_str())?;
@@ -509,7 +509,7 @@ impl Printer {
     }
 
     fn function(&mut self, function: &Function) -> Result<(), AllocError>
-        ensures { OnOk result (Puts (p.ended (p.function_words (function_view function.now))) self.old self.new) }
+        ensures { OnOk result (Appends (p.ended (p.function_words (function_view function.now))) self.old self.new) }
     {
         let start = self.size();
         self.function_words(function)?;
@@ -519,7 +519,7 @@ impl Printer {
 
     #[tactic(auto, using(crate::proofs::PrintLemmas::putting, crate::proofs::PrintLemmas::functions_more))]
     fn functions(&mut self, functions: &[Function]) -> Result<(), AllocError>
-        ensures { OnOk result (Puts (p.functions_words (map function_view functions.now)) self.old self.new) }
+        ensures { OnOk result (Appends (p.functions_words (map function_view functions.now)) self.old self.new) }
     {
         for function in functions {
             self.function(function)?;
@@ -529,7 +529,7 @@ impl Printer {
 
     #[tactic(auto, using(crate::proofs::PrintLemmas::putting))]
     fn script(&mut self, script: &Script) -> Result<(), AllocError>
-        ensures { OnOk result (Puts (p.script_words (script_view script.now)) self.old self.new) }
+        ensures { OnOk result (Appends (p.script_words (script_view script.now)) self.old self.new) }
     {
         self.functions(&script.functions)?;
         self.block(&script.statements)

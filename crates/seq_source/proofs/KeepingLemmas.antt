@@ -5,7 +5,7 @@ use Rattle.fv_io.specs.Source.{KeepsSource}
 use Rattle.seq_source.specs.declared.fault.SeqFault.{SeqFault}
 use Rattle.seq_source.specs.declared.fault.SeqFault.TheVariants.{Read, Changed, Memory}
 use Rattle.seq_source.specs.FrameSource.{RewindsOnce}
-use Rattle.seq_source.specs.Faults.{Shows, IsNoChange}
+use Rattle.seq_source.specs.Faults.{FaultShows, IsNoChange}
 
 module _ {S : Type 0} (source : Ghosts S) where
   pub no_rewind : (old new : S) → KeepsSource source old new → RewindsOnce source old new
@@ -19,18 +19,18 @@ module _ {S : Type 0} (source : Ghosts S) where
   }
 
   -- a fault of the second call is one of both
-  pub shows_both : (old mid new : S) → RewindsOnce source old mid → (n past : ℕ) (fault : SeqFault) → Shows source mid new n past fault → Shows source old new n past fault
+  pub shows_both : (old mid new : S) → RewindsOnce source old mid → (n past : ℕ) (fault : SeqFault) → FaultShows source mid new n past fault → FaultShows source old new n past fault
   shows_both old mid new first n past Read shown = (let before = first.later in omega (arith, shown))
   shows_both old mid new first n past (Changed frame want got) shown =
       record { frame_is = shown.frame_is; want_is = shown.want_is; early = shown.early; ended = λ bytes is. shown.ended bytes (first.told ∙ is) }
   shows_both old mid new first n past Memory shown = tt
 
-  pub answer_shows : {T : Type 0} (r : Result T SeqFault) (old mid new : S) → RewindsOnce source old mid → (n past : ℕ) → IfErr r (Shows source mid new n past) → IfErr r (Shows source old new n past)
+  pub answer_shows : {T : Type 0} (r : Result T SeqFault) (old mid new : S) → RewindsOnce source old mid → (n past : ℕ) → IfErr r (FaultShows source mid new n past) → IfErr r (FaultShows source old new n past)
   answer_shows (Ok value) old mid new first n past shown = tt
   answer_shows (Err fault) old mid new first n past shown = shows_both old mid new first n past fault shown
 
 -- a fault over bytes that have all of the frame doesn't say that they changed
-pub no_change : {S : Type 0} (source : Ghosts S) (old new : S) (n past : ℕ) (told : List ℕ) → source.bytes old ≡ Some told → past ≤ length told → (fault : SeqFault) → Shows source old new n past fault → IsNoChange fault
+pub no_change : {S : Type 0} (source : Ghosts S) (old new : S) (n past : ℕ) (told : List ℕ) → source.bytes old ≡ Some told → past ≤ length told → (fault : SeqFault) → FaultShows source old new n past fault → IsNoChange fault
 no_change source old new n past told is inside Read shown = tt
 no_change source old new n past told is inside (Changed frame want got) shown =
     let want_is = shown.want_is in

@@ -13,10 +13,10 @@ pub record EndsEarly (told : Option (List ℕ)) (n past frame want got : ℕ) : 
   pub ended : (bytes : List ℕ) → told ≡ Some bytes → got ≡ length bytes
 
 -- what the fault shows where frame n, which ends just before offset `past`, was asked for
-abbrev pub Shows : {S : Type 0} → Ghosts S → S → S → ℕ → ℕ → SeqFault → Type 0
-Shows source old new n past Read = SourceFailed source old new
-Shows source old new n past (Changed frame want got) = EndsEarly (source.bytes old) n past frame want got
-Shows source old new n past Memory = Unit {0}
+abbrev pub FaultShows : {S : Type 0} → Ghosts S → S → S → ℕ → ℕ → SeqFault → Type 0
+FaultShows source old new n past Read = SourceFailed source old new
+FaultShows source old new n past (Changed frame want got) = EndsEarly (source.bytes old) n past frame want got
+FaultShows source old new n past Memory = Unit {0}
 
 -- the fault doesn't say that the bytes ended early
 abbrev pub IsNoChange : SeqFault → Type 0

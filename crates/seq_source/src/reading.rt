@@ -3,7 +3,7 @@ ghost use Rattle.std.specs.Prelude.{◌≡◌, ◌+◌, ◌<◌, ◌≤◌, ◌^
 ghost use Rattle.std.specs.Option.{ForSome};
 ghost use Rattle.fv_io.specs.Source.{KeepsSource};
 ghost use Rattle.seq_source.specs.FrameSource.{IsAt, ReadsFrame, RewindsOnce, end_of};
-ghost use Rattle.seq_source.specs.Faults.{Shows};
+ghost use Rattle.seq_source.specs.Faults.{FaultShows};
 
 use crate::fault::SeqFault;
 use fv_io::{Source, read_full};
@@ -22,7 +22,7 @@ fn go_back<S: Source>(source: &mut S, known: Option<u64>, start: u64) -> Result<
     ensures is_at { IfOk result (IsAt S.Source source.new) }
     ensures goes_on { IfSome known (λ place. place ≤ start → S.rewinds source.new ≡ S.rewinds source.old) }
     ensures keeps { RewindsOnce S.Source source.old source.new }
-    ensures fault { IfErr result (λ fault. (n past : ℕ) → Shows S.Source source.old source.new n past fault) }
+    ensures fault { IfErr result (λ fault. (n past : ℕ) → FaultShows S.Source source.old source.new n past fault) }
 {
     match known {
         Some(place) if place <= start => Ok(place),
@@ -49,7 +49,7 @@ fn go_on<S: Source>(
     ensures near { IfOk result (λ now. start ≤ now + 2 ^ 13) }
     ensures is_at { IfOk result (IsAt S.Source source.new) }
     ensures keeps { KeepsSource S.Source source.old source.new }
-    ensures fault { IfErr result (Shows S.Source source.old source.new n end) }
+    ensures fault { IfErr result (FaultShows S.Source source.old source.new n end) }
 {
     let gap = start - place;
     if gap <= MOST_BEFORE {
@@ -82,7 +82,7 @@ fn approach<S: Source>(
     ensures is_at { IfOk result (IsAt S.Source source.new) }
     ensures goes_on { IfSome known (λ place. place ≤ start → S.rewinds source.new ≡ S.rewinds source.old) }
     ensures keeps { RewindsOnce S.Source source.old source.new }
-    ensures fault { IfErr result (Shows S.Source source.old source.new n end) }
+    ensures fault { IfErr result (FaultShows S.Source source.old source.new n end) }
 {
     let place = go_back(source, known, start)?;
     go_on(source, n, place, start, end)
@@ -103,7 +103,7 @@ fn read_up_to<S: Source>(
         bytes.new ≡ take (length bytes.old) (drop place told))) }
     ensures whole { OnOk result (ForSome (S.bytes source.old) (λ told. place + length bytes.old ≤ length told)) }
     ensures keeps { KeepsSource S.Source source.old source.new }
-    ensures fault { IfErr result (Shows S.Source source.old source.new n (place + length bytes.old)) }
+    ensures fault { IfErr result (FaultShows S.Source source.old source.new n (place + length bytes.old)) }
 {
     let end = place + bytes.len() as u64;
     let got = place + read_full(source, bytes)? as u64;
@@ -129,7 +129,7 @@ pub(crate) fn read_indexed<S: Source>(
     requires is_at { ForSome known (IsAt S.Source source.old) }
     requires inside { n < index.now.info.frames }
     ensures read { IfOk result (λ r. ReadsFrame S.Source source.old source.new index.now n r.0 r.1) }
-    ensures fault { IfErr result (Shows S.Source source.old source.new n (end_of index.now n)) }
+    ensures fault { IfErr result (FaultShows S.Source source.old source.new n (end_of index.now n)) }
     ensures goes_on { IfSome known (λ place. place ≤ slice_index index.now.offsets n →
         S.rewinds source.new ≡ S.rewinds source.old) }
     ensures keeps { RewindsOnce S.Source source.old source.new }

@@ -4,7 +4,7 @@ ghost use Rattle.std.specs.Option.{ForSome};
 ghost use Rattle.fv_plane.specs.Clip.{Clip, picture_at};
 ghost use Rattle.y4m_stream.specs.Index.{IsIndex};
 ghost use Rattle.seq_source.specs.FrameSource.{IsAt, HasFrames, KeepsFrames, end_of};
-ghost use Rattle.seq_source.specs.Faults.{Shows, IsNoChange};
+ghost use Rattle.seq_source.specs.Faults.{FaultShows, IsNoChange};
 
 use crate::fault::SeqFault;
 use crate::reading::read_indexed;
@@ -102,7 +102,7 @@ impl<S: Source> SeqSource<S> {
         // It comes only where the bytes have all of it. A fault says what happened.
         ensures whole { OnOk result (ForSome (S.bytes self.old.source) (λ told.
             end_of self.old.index n ≤ length told)) }
-        ensures fault { IfErr result (Shows S.Source self.old.source self.new.source n (end_of self.old.index n)) }
+        ensures fault { IfErr result (FaultShows S.Source self.old.source self.new.source n (end_of self.old.index n)) }
 
         // Where it leaves the source, and when that isn't rewound.
         ensures place { OnOk result (self.new.place ≡ Some (end_of self.old.index n)) }

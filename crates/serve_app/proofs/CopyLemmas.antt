@@ -23,7 +23,7 @@ use Rattle.y4m_stream.proofs.CallerLemmas.{reads_one_way}
 use Rattle.seq_source.specs.declared.fault.SeqFault.{SeqFault}
 use Rattle.seq_source.specs.declared.fault.SeqFault.TheVariants as of_seq
 use Rattle.seq_source.specs.FrameSource.{FrameSource, HasFrames, end_of}
-use Rattle.seq_source.specs.Faults.{Shows, IsNoChange}
+use Rattle.seq_source.specs.Faults.{FaultShows, IsNoChange}
 use Rattle.serve_app.specs.declared.fault.InputFault.TheVariants.{NotThere, Y4m, Changed}
 use Rattle.serve_app.specs.declared.stop.Stop.{Stop}
 use Rattle.serve_app.specs.declared.stop.Stop.TheVariants as of_stop
@@ -62,7 +62,7 @@ begins_with part clip n count inside begins =
 
 module _ {S K : Type 0} (source : of_source.Ghosts S) (sink : Ghosts K) (it then : FrameSource S) (n : ℕ) (old : K) where
   -- what a fault of a frame shows
-  pub frame_shows : (fault : SeqFault) → Shows source it.source then.source n (end_of it.index n) fault → ((clip : Clip) → HasFrames source it.source it.index clip → IsNoChange fault)
+  pub frame_shows : (fault : SeqFault) → FaultShows source it.source then.source n (end_of it.index n) fault → ((clip : Clip) → HasFrames source it.source it.index clip → IsNoChange fault)
       → FrameShows source sink it then old old n (stop_of_frame fault)
   frame_shows of_seq.Read shown none = (shown, refl)
   frame_shows (of_seq.Changed frame want got) shown none = (shown, none, refl)

@@ -1,6 +1,6 @@
 -- The source goes back, and then on.
 use Rattle.std.proofs.Common.{◌≡◌, Err, rules}
-use Rattle.seq_source.specs.Faults.{Shows}
+use Rattle.seq_source.specs.Faults.{FaultShows}
 use Rattle.seq_source.proofs.KeepingLemmas.{and_then, answer_shows}
 use Rattle.seq_source.proofs.reading.approach.Goals as goal
 
@@ -12,6 +12,6 @@ returns-clause-fault g c = answer_shows g.S.Source c.go_on.result c.args.source.
 
 pub returns-in_err-place-clause-fault : goal.returns-in_err-place-clause-fault
 returns-in_err-place-clause-fault g c =
-    let fact : Shows g.S.Source c.args.source.now c.go_back.new.source c.args.n c.args.end c.in_err-place.field-0.0 = c.in_err-place.ensures.fault c.args.n c.args.end in
+    let fact : FaultShows g.S.Source c.args.source.now c.go_back.new.source c.args.n c.args.end c.in_err-place.field-0.0 = c.in_err-place.ensures.fault c.args.n c.args.end in
     let is : c.from_residual.result ≡ Err c.in_err-place.field-0.0 = search rules in
     rw is fact
