@@ -4,8 +4,8 @@ use Rattle.std.proofs.lemmas.Bool.{and_parts, and_from, leb-true, le-leb}
 use Rattle.fv_plane.specs.declared.format.PixelType.{PixelType}
 use Rattle.fv_plane.specs.declared.format.PixelType.TheVariants.{Y8, YV12, YV16, YV24, YV411}
 use Rattle.fv_plane.specs.declared.format.Shape.{Shape}
-use Rattle.fv_plane.specs.Format.{IsLegal, has_whole_sides, planes, plane_height, sub_w, sub_h, frame_bytes}
-use Rattle.fv_plane.specs.Picture.{Picture, IsPicture}
+use Rattle.fv_plane.specs.Format.{IsLegal, has_whole_sides, planes, plane_width, plane_height, sub_w, sub_h, frame_bytes}
+use Rattle.fv_plane.specs.Picture.{Picture, IsPicture, row_of}
 use Rattle.fv_plane.specs.Bytes.{bytes_of, picture_of}
 use Rattle.fv_plane.proofs.CutLemmas as cut
 
@@ -94,3 +94,7 @@ some_rows shape p legal = some_either (p == 0) _ _ legal.some_height (some_down 
 -- a plane has as many rows as its height
 pub length-plane : (picture : Picture) (p : ℕ) → IsPicture picture → p < planes picture.shape.kind → length (get_or picture.planes p []) ≡ plane_height picture.shape p
 length-plane picture p is there = let plane = is.sizes p (let count = is.count in omega arith) in plane.count
+
+-- a row of a plane has as many samples as its width
+pub length-row : (picture : Picture) (p y : ℕ) → IsPicture picture → p < planes picture.shape.kind → y < plane_height picture.shape p → length (row_of picture.planes p y) ≡ plane_width picture.shape p
+length-row picture p y is there inside = let plane = is.sizes p (let count = is.count in omega arith) in plane.widths y inside

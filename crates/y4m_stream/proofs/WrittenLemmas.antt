@@ -27,6 +27,7 @@ use Rattle.fv_plane.proofs.CallerLemmas.{length-bytes_of, picture_of-bytes_of, w
 use Rattle.y4m_stream.specs.Laws.{WrittenIsStream}
 use Rattle.y4m_stream.specs.Parameters.{value, number, is_colon, ratio_in, rate_of, field_of, info_of, parameter_fault}
 use Rattle.y4m_stream.specs.Stream.{is_space, is_newline, has_magic, has_line, parameters, head_fault, head_info, size_of, body, may_begin, IsFrame, FramesThen, ConsistsOf, frames_text}
+use Rattle.fv_plane.proofs.GcdLemmas.{gcd_found}
 use Rattle.y4m_stream.proofs.GcdLemmas.{lowest_is}
 use Rattle.y4m_stream.proofs.LineLemmas.{written_words, split_words, head_is_line, line_ends}
 use Rattle.y4m_stream.proofs.NumberLemmas.{decimal_digits, number-decimal}
@@ -63,7 +64,7 @@ ratio_read num den few small =
 
 rate_read : (num den : ℕ) → IsRate num den → rate_of (Some (ratio num den)) ≡ Some (num, den)
 rate_read num den rate =
-    rw (ratio_read num den rate.most_num rate.most_den) (lowest_is num den 1 rate.lowest rate.some_num rate.some_den ∙ ap (λ n. Some (n, den / 1)) (div-one num) ∙ ap (λ n. Some (num, n)) (div-one den))
+    rw (ratio_read num den rate.most_num rate.most_den) (lowest_is num den rate.some_num rate.some_den ∙ rw (gcd_found num den 1 rate.lowest rate.some_num rate.some_den) (ap (λ n. Some (n, den / 1)) (div-one num) ∙ ap (λ n. Some (num, n)) (div-one den)))
 
 field_read : (field : Field) → field_of (Some (field_name field)) ≡ field
 field_read Progressive = refl

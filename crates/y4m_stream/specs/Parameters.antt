@@ -1,5 +1,5 @@
 -- What the parameters of a stream's head say: each is a letter and its value (yuv4mpeg(5) of mjpegtools).
-use Rattle.std.specs.Prelude.{ℕ, zero, suc, ◌+◌, ◌-◌, ◌*◌, ◌/◌, ◌%◌, ◌^◌, nat_le, nat_lt, ◌==◌, List, [], ◌∷◌, length, codes, Option, Some, None, Bool, not, ◌&&◌, ◌||◌, if◌then◌else◌, is_none, unwrap_or}
+use Rattle.std.specs.Prelude.{ℕ, ◌+◌, ◌-◌, ◌*◌, ◌/◌, ◌^◌, nat_le, nat_lt, ◌==◌, List, [], ◌∷◌, length, codes, Option, Some, None, Bool, not, ◌&&◌, ◌||◌, if◌then◌else◌, is_none, unwrap_or}
 use Rattle.std.specs.List.{list_all, before_first, after_first}
 use Rattle.std.specs.Option.{option_or, option_zip, option_and_then}
 use Rattle.std.specs.Char.{is_ascii_digit}
@@ -10,6 +10,7 @@ use Rattle.fv_plane.specs.declared.format.Field.TheVariants.{Progressive, Top, B
 use Rattle.fv_plane.specs.declared.format.Tag.TheVariants.{Jpeg}
 use Rattle.fv_plane.specs.declared.format.Info.{Info}
 use Rattle.fv_plane.specs.Format.{has_whole_sides, frame_bytes}
+use Rattle.fv_plane.specs.Rate.{gcd}
 use Rattle.fv_plane.specs.Refusals.{Refusals, first_fault}
 use Rattle.y4m_stream.specs.Colourspace.{Colourspace, colourspace_named}
 use Rattle.y4m_stream.specs.declared.fault.Y4mFault.{Y4mFault}
@@ -43,14 +44,6 @@ is_colon byte = byte == 58
 -- two numbers around a colon
 abbrev pub ratio_in : List ℕ → Option (ℕ × ℕ)
 ratio_in text = option_zip (number (before_first is_colon text)) (number (after_first is_colon text))
-
--- the greatest number up to n that divides both
-abbrev pub common_divisor : ℕ → ℕ → ℕ → ℕ
-common_divisor num den zero = 1
-common_divisor num den (suc n) = if num % suc n == 0 && den % suc n == 0 then suc n else common_divisor num den n
-
-unfoldable pub gcd : ℕ → ℕ → ℕ
-gcd num den = common_divisor num den num
 
 -- a rate in lowest terms: 0:0 means 25:1, and no other part may be 0
 abbrev pub lowest : ℕ × ℕ → Option (ℕ × ℕ)

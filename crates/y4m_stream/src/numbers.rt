@@ -1,7 +1,6 @@
 // Numbers of a head's parameters.
 ghost use Rattle.std.specs.Prelude.{◌≡◌, ◌<◌, ◌^◌, length, IfSome};
 ghost use Rattle.std.specs.Char.{is_ascii_digit};
-ghost use Rattle.std.specs.Int.{IsGcd};
 ghost use Rattle.std.specs.List.{list_all, position, before_first, after_first};
 ghost use Rattle.fv_plane.specs.Info.{IsRate};
 ghost use Rattle.y4m_stream.specs.Parameters.{number, is_colon, ratio_in, lowest};
@@ -61,20 +60,6 @@ pub(crate) fn ratio(text: &[u8]) -> Option<(u32, u32)>
     number(num).zip(number(den))
 }
 
-// The greatest common divisor.
-fn gcd(a: u32, b: u32) -> u32
-    ensures { IsGcd a b result }
-{
-    let mut x = a;
-    let mut y = b;
-    while y != 0 {
-        let rest = x % y;
-        x = y;
-        y = rest;
-    }
-    x
-}
-
 /// A rate in lowest terms. `0:0` means 25:1. The answer is None where only one part is 0.
 pub(crate) fn lowest(num: u32, den: u32) -> Option<(u32, u32)>
     requires num { num < 2 ^ 31 }
@@ -86,8 +71,8 @@ pub(crate) fn lowest(num: u32, den: u32) -> Option<(u32, u32)>
         (0, 0) => Some((25, 1)),
         (0, _) | (_, 0) => None,
         _ => {
-            let divisor = gcd(num, den);
-            Some((num / divisor, den / divisor))
+            let (num, den) = fv_plane::lowest(num as u128, den as u128);
+            Some((num as u32, den as u32))
         }
     }
 }

@@ -1,9 +1,0 @@
-use Rattle.std.proofs.Common.{arith}
-use Rattle.std.proofs.lemmas.Nat.Gcd.{IsGcd-from_mod, IsGcd-from_zero}
-use Rattle.y4m_stream.proofs.numbers.gcd.Goals as goal
-
-pub loop-y-preserved : goal.loop-y-preserved
-loop-y-preserved c g is = c.loop-y.invariant g (IsGcd-from_mod c.loop-y.x c.loop-y.y g is)
-
-pub returns : goal.returns
-returns c = c.loop-y.invariant c.loop-y.x (IsGcd-from_zero c.loop-y.x c.loop-y.y (omega arith))
