@@ -1,0 +1,93 @@
+-- The filters that join clips, a frame of each at a time (AviSynth+ wiki, "StackHorizontal / StackVertical", "Merge" and
+-- "YToUV"). c is the first clip.
+use Rattle.std.specs.Prelude.{ℕ, ◌+◌, ◌-◌, ◌*◌, ◌/◌, max, Bool, not, ◌&&◌, ◌||◌, if◌then◌else◌, ◌==◌, nat_lt, List, [], ◌∷◌, Option, is_none, Result}
+use Rattle.std.specs.Option.{unwrap_or}
+use Rattle.std.specs.List.{list_all, find, fold, sum_by}
+use Rattle.fv_plane.specs.declared.format.Info.{Info}
+use Rattle.fv_plane.specs.declared.format.Shape.{Shape}
+use Rattle.fv_plane.specs.declared.format.PixelType.{PixelType}
+use Rattle.fv_plane.specs.declared.format.PixelType.TheVariants.{Y8, YV12, YV16, YV24, YV411}
+use Rattle.fv_plane.specs.Format.{sub_w, sub_h, plane_width, plane_height}
+use Rattle.clip_term.specs.declared.fault.FilterFault.{FilterFault}
+use Rattle.clip_term.specs.declared.fault.FilterFault.TheVariants.{FormatDiffers, SizeDiffers}
+use Rattle.clip_term.specs.declared.op.JoinOp.{JoinOp}
+use Rattle.clip_term.specs.declared.op.JoinOp.TheVariants as op
+use Rattle.fv_plane.specs.Look.{Look, look_at}
+use Rattle.fv_plane.specs.Refusals.{Refusals, first_fault}
+use Rattle.clip_term.specs.Refusals.{rate_of, info_at, sized, same_format, same_size, disagreements, unless, limits}
+
+abbrev pub longest : List Info → ℕ
+longest infos = fold (λ most (d : Info). max most d.frames) 0 infos
+
+-- StackHorizontal, StackVertical: one picture after the other, from the left or from the top
+abbrev pub beside : List Info → List Look → Look
+beside [] looks p x y = 0
+beside (d ∷ ds) [] p x y = 0
+beside (d ∷ ds) (from ∷ looks) p x y =
+    let width = plane_width d.shape p in
+    if nat_lt x width then from p x y else beside ds looks p (x - width) y
+
+abbrev pub beneath : List Info → List Look → Look
+beneath [] looks p x y = 0
+beneath (d ∷ ds) [] p x y = 0
+beneath (d ∷ ds) (from ∷ looks) p x y =
+    let height = plane_height d.shape p in
+    if nat_lt y height then from p x y else beneath ds looks p x (y - height)
+
+-- YToUV: the format in which luma of the size of y has chroma of the size of u
+abbrev pub has_sizes : Shape → Shape → PixelType → Bool
+has_sizes u y kind = y.width == u.width * sub_w kind && y.height == u.height * sub_h kind
+
+abbrev pub kind_of : Shape → Shape → Option PixelType
+kind_of u y = find (has_sizes u y) (YV24 ∷ YV16 ∷ YV12 ∷ YV411 ∷ [])
+
+-- Refusals.
+
+abbrev pub join_refusals : JoinOp → Info → List Info → Refusals FilterFault
+join_refusals op.StackHorizontal c infos =
+    (FormatDiffers, not (list_all (λ (d : Info). same_format d.shape c.shape) infos))
+    ∷ (SizeDiffers, not (list_all (λ (d : Info). d.shape.height == c.shape.height) infos))
+    ∷ []
+join_refusals op.StackVertical c infos =
+    (FormatDiffers, not (list_all (λ (d : Info). same_format d.shape c.shape) infos))
+    ∷ (SizeDiffers, not (list_all (λ (d : Info). d.shape.width == c.shape.width) infos))
+    ∷ []
+join_refusals op.Merge c infos = disagreements infos
+join_refusals op.MergeLuma c infos = disagreements infos
+join_refusals op.MergeChroma c infos = disagreements infos
+join_refusals op.YToUV c infos =
+    (SizeDiffers, not (same_size c.shape (info_at infos 1).shape) || is_none (kind_of c.shape (info_at infos 2).shape))
+    ∷ []
+
+-- Length.
+
+abbrev pub join_length : JoinOp → Info → List Info → ℕ
+join_length op.StackHorizontal c infos = longest infos
+join_length op.StackVertical c infos = longest infos
+join_length _ c infos = c.frames
+
+-- Size.
+
+abbrev pub join_shape : JoinOp → Info → List Info → Shape
+join_shape op.StackHorizontal c infos = sized c.shape (sum_by (λ (d : Info). d.shape.width) infos) c.shape.height
+join_shape op.StackVertical c infos = sized c.shape c.shape.width (sum_by (λ (d : Info). d.shape.height) infos)
+join_shape op.YToUV c infos =
+    let y = (info_at infos 2).shape in
+    record c.shape { kind = unwrap_or (kind_of c.shape y) Y8; width = y.width; height = y.height }
+join_shape _ c infos = c.shape
+
+abbrev pub check_join : JoinOp → List Info → Result Info FilterFault
+check_join op infos =
+    let c = info_at infos 0 in
+    unless (first_fault (join_refusals op c infos))
+    (limits c (join_length op c infos) (rate_of c) (join_shape op c infos))
+
+-- Sample, in a plane at x and y.
+
+abbrev pub join_at : JoinOp → List Info → List Look → Look
+join_at op.StackHorizontal infos looks p x y = beside infos looks p x y
+join_at op.StackVertical infos looks p x y = beneath infos looks p x y
+join_at op.Merge infos looks p x y = (look_at looks 0 p x y + look_at looks 1 p x y + 1) / 2
+join_at op.MergeLuma infos looks p x y = look_at looks (if p == 0 then 1 else 0) p x y
+join_at op.MergeChroma infos looks p x y = look_at looks (if p == 0 then 0 else 1) p x y
+join_at op.YToUV infos looks p x y = look_at looks (if p == 0 then 2 else if p == 1 then 0 else 1) 0 x y

@@ -1,0 +1,10 @@
+pub mod Refusals
+pub mod Time
+pub mod Space
+pub mod Join
+pub mod Soft
+pub mod Blank
+pub mod Texts
+pub mod Filters
+pub mod ClipTerm
+pub mod Terms

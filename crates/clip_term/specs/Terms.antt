@@ -1,0 +1,198 @@
+-- A clip's info, each of its samples, and its pictures.
+use Rattle.std.specs.Prelude.{◌≡◌, ℕ, ◌+◌, ◌<◌, Bool, true, ◌&&◌, ◌||◌, ◌==◌, nat_le, ℤ, negsuc, int_lt, List, [], ◌∷◌, length, map, not, IsTrue, Result, Ok, Err, slice_index_or}
+use Rattle.std.specs.List.{All, range_with_len, list_all}
+use Rattle.fv_plane.specs.declared.format.Info.{Info}
+use Rattle.fv_plane.specs.declared.format.Shape.{Shape}
+use Rattle.fv_plane.specs.Info.{IsLawful, IsPar}
+use Rattle.fv_plane.specs.Picture.{Picture}
+use Rattle.clip_term.specs.declared.fault.FilterFault.{FilterFault}
+use Rattle.clip_term.specs.declared.op.Origin.{Origin}
+use Rattle.clip_term.specs.declared.op.TimeOp.{TimeOp}
+use Rattle.clip_term.specs.declared.op.TimeOp.TheVariants as time_op
+use Rattle.clip_term.specs.declared.op.JoinOp.{JoinOp}
+use Rattle.clip_term.specs.declared.op.JoinOp.TheVariants as join_op
+use Rattle.clip_term.specs.declared.op.SoftOp.{SoftOp}
+use Rattle.clip_term.specs.declared.op.SoftOp.TheVariants as soft_op
+use Rattle.fv_plane.specs.Look.{Look, nothing, look_at, look_in, picture_from}
+use Rattle.clip_term.specs.Refusals.{above, info_at, no_info}
+use Rattle.clip_term.specs.Time.{check_time, source_number, from_input, in_range}
+use Rattle.clip_term.specs.Space.{check_space, space_at}
+use Rattle.clip_term.specs.Join.{check_join, join_at}
+use Rattle.clip_term.specs.Soft.{check_soft, soft_asked, soft_at}
+use Rattle.clip_term.specs.Blank.{check_plain, colour_at}
+use Rattle.clip_term.specs.ClipTerm.{Act, source, plain, time, space, joined, soft, ClipTerm, applied, ClipTerms, no_terms, and_term}
+
+-- One op over its inputs.
+
+abbrev pub check : Act → List Info → Result Info FilterFault
+check (source name number info) infos = Ok info
+check (plain info colour) infos = check_plain info
+check (time op) infos = check_time op infos
+check (space op) infos = check_space op infos
+check (joined op) infos = check_join op infos
+check (soft op) infos = check_soft op infos
+
+-- the frames that are asked for frame n, in order
+abbrev pub asked : Act → List Info → ℕ → List Origin
+asked (source name number info) infos n = []
+asked (plain info colour) infos n = []
+asked (time op) infos n = source_number op infos n ∷ []
+asked (space op) infos n = in_range infos (from_input 0 n) ∷ []
+asked (joined op) infos n = map (λ i. in_range infos (from_input i n)) (range_with_len 0 (length infos))
+asked (soft op) infos n = soft_asked op infos n
+
+-- a book is the list of each source's frames
+abbrev pub frame_in : List (List Picture) → ℕ → ℕ → Shape → Picture
+frame_in book number n shape = slice_index_or (slice_index_or book number []) n (record { shape = shape; planes = [] })
+
+-- the sample that is made of the frames asked
+abbrev pub sample : List (List Picture) → Act → List Info → ℕ → List Look → Look
+sample book (source name number info) infos n looks p x y = look_in (frame_in book number n info.shape) p x y
+sample book (plain info colour) infos n looks p x y = colour_at colour info.shape p x y
+sample book (time op) infos n looks p x y = look_at looks 0 p x y
+sample book (space op) infos n looks p x y = space_at op (info_at infos 0).shape (look_at looks 0) p x y
+sample book (joined op) infos n looks p x y = join_at op infos looks p x y
+sample book (soft op) infos n looks p x y = soft_at op (info_at infos 0).shape looks p x y
+
+-- The whole tree.
+
+abbrev pub then_check : Act → Result (List Info) FilterFault → Result Info FilterFault
+then_check op (Ok infos) = check op infos
+then_check op (Err fault) = Err fault
+
+abbrev pub with_first : Result Info FilterFault → Result (List Info) FilterFault → Result (List Info) FilterFault
+with_first (Ok info) (Ok infos) = Ok (info ∷ infos)
+with_first (Ok info) (Err fault) = Err fault
+with_first (Err fault) _ = Err fault
+
+-- the info of a clip, or the first refusal
+unfoldable mutual
+  pub info_of : ClipTerm → Result Info FilterFault
+  info_of (applied op inputs) = then_check op (infos_of inputs)
+
+  pub infos_of : ClipTerms → Result (List Info) FilterFault
+  infos_of no_terms = Ok []
+  infos_of (and_term term rest) = with_first (info_of term) (infos_of rest)
+
+abbrev pub ok_or : {A E : Type 0} → A → Result A E → A
+ok_or d (Ok a) = a
+ok_or d (Err e) = d
+
+abbrev pub looks_of : List (ℕ → Look) → List Origin → List Look
+looks_of clips origins = map (λ (o : Origin). slice_index_or clips o.input (λ n. nothing) o.number) origins
+
+-- the sample of a clip at a frame number and a place
+unfoldable mutual
+  pub term_sample : List (List Picture) → ClipTerm → ℕ → Look
+  term_sample book (applied op inputs) n =
+      let infos = ok_or [] (infos_of inputs) in
+      sample book op infos n (looks_of (term_samples book inputs) (asked op infos n))
+
+  pub term_samples : List (List Picture) → ClipTerms → List (ℕ → Look)
+  term_samples book no_terms = []
+  term_samples book (and_term term rest) = term_sample book term ∷ term_samples book rest
+
+abbrev pub term_picture : List (List Picture) → ClipTerm → ℕ → Picture
+term_picture book term n = picture_from (ok_or no_info (info_of term)).shape (term_sample book term n)
+
+-- Sound ops: as many inputs, and such lists, as the row asks.
+
+abbrev pub time_inputs : TimeOp → ℕ → Bool
+time_inputs time_op.Interleave k = nat_le 2 k
+time_inputs time_op.UnalignedSplice k = nat_le 2 k
+time_inputs time_op.AlignedSplice k = nat_le 2 k
+time_inputs (time_op.ApplyRange first last) k = k == 2
+time_inputs _ k = k == 1
+
+abbrev pub join_inputs : JoinOp → ℕ → Bool
+join_inputs join_op.StackHorizontal k = nat_le 2 k
+join_inputs join_op.StackVertical k = nat_le 2 k
+join_inputs join_op.YToUV k = k == 3
+join_inputs _ k = k == 2
+
+abbrev pub time_lists : TimeOp → Bool
+time_lists (time_op.SelectEvery step offsets) = nat_le 1 (length offsets)
+time_lists (time_op.DuplicateFrame frames) = nat_le 1 (length frames)
+time_lists (time_op.DeleteFrame frames) = nat_le 1 (length frames)
+time_lists _ = true
+
+abbrev pub is_matrix : List ℤ → Bool
+is_matrix entries =
+    (length entries == 9 || length entries == 25) && list_all (λ z. not (int_lt z (negsuc 1023) || above z 1024)) entries
+
+abbrev pub soft_lists : SoftOp → Bool
+soft_lists (soft_op.TemporalSoften radius luma chroma) = true
+soft_lists (soft_op.GeneralConvolution bias matrix) = is_matrix matrix.entries
+
+abbrev pub IsSound : Act → ℕ → Type 0
+IsSound (source name number info) k = (k ≡ 0) × IsLawful info
+IsSound (plain info colour) k = (k ≡ 0) × IsPar info.par
+IsSound (time op) k = IsTrue (time_inputs op k && time_lists op)
+IsSound (space op) k = k ≡ 1
+IsSound (joined op) k = IsTrue (join_inputs op k)
+IsSound (soft op) k = (k ≡ 1) × IsTrue (soft_lists op)
+
+abbrev pub inputs_of : ClipTerms → ℕ
+inputs_of no_terms = 0
+inputs_of (and_term term rest) = 1 + inputs_of rest
+
+unfoldable mutual
+  pub IsSoundTerm : ClipTerm → Type 0
+  IsSoundTerm (applied op inputs) = IsSound op (inputs_of inputs) × AreSoundTerms inputs
+
+  pub AreSoundTerms : ClipTerms → Type 0
+  AreSoundTerms no_terms = Unit {0}
+  AreSoundTerms (and_term term rest) = IsSoundTerm term × AreSoundTerms rest
+
+abbrev pub AreLawful : List Info → Type 0
+AreLawful infos = (i : ℕ) → i < length infos → IsLawful (info_at infos i)
+
+-- what a check accepts is lawful
+abbrev pub ChecksLawful : Type 0
+ChecksLawful = (op : Act) (infos : List Info) (info : Info) → IsSound op (length infos) → AreLawful infos
+    → check op infos ≡ Ok info → IsLawful info
+
+-- so the info of a sound clip is lawful
+abbrev pub SoundLawful : Type 0
+SoundLawful = (term : ClipTerm) (info : Info) → IsSoundTerm term → info_of term ≡ Ok info → IsLawful info
+
+-- a frame of an input
+pub record IsAsked (infos : List Info) (o : Origin) : Type 0 where
+  pub input : o.input < length infos
+  pub number : o.number < (info_at infos o.input).frames
+
+abbrev pub AsksInRange : Type 0
+AsksInRange = (op : Act) (infos : List Info) (n : ℕ) → IsSound op (length infos) → AreLawful infos
+    → All (IsAsked infos) (asked op infos n)
+
+-- What a maker owes, and the law.
+
+-- what a filter makes of whole frames
+abbrev pub make : List (List Picture) → Act → List Info → Info → ℕ → List Picture → Picture
+make book op infos info n pictures = picture_from info.shape (sample book op infos n (map look_in pictures))
+
+abbrev pub no_picture : Picture
+no_picture = record { shape = no_info.shape; planes = [] }
+
+abbrev pub term_pictures : List (List Picture) → ClipTerms → List (ℕ → Picture)
+term_pictures book no_terms = []
+term_pictures book (and_term term rest) = term_picture book term ∷ term_pictures book rest
+
+abbrev pub asked_picture : List (ℕ → Picture) → Origin → Picture
+asked_picture clips origin = slice_index_or clips origin.input (λ n. no_picture) origin.number
+
+abbrev pub infos_in : ClipTerm → Result (List Info) FilterFault
+infos_in (applied op inputs) = infos_of inputs
+
+abbrev pub op_of : ClipTerm → Act
+op_of (applied op inputs) = op
+
+-- the pictures that the clip's filter asks for frame n
+abbrev pub asked_pictures : List (List Picture) → ClipTerm → List Info → ℕ → List Picture
+asked_pictures book (applied op inputs) infos n = map (asked_picture (term_pictures book inputs)) (asked op infos n)
+
+-- what a filter makes of its inputs' pictures is the clip's picture
+abbrev pub MakesPictures : Type 0
+MakesPictures = (book : List (List Picture)) (term : ClipTerm) (n : ℕ) (infos : List Info) (info : Info)
+    → IsSoundTerm term → infos_in term ≡ Ok infos → info_of term ≡ Ok info
+    → make book (op_of term) infos info n (asked_pictures book term infos n) ≡ term_picture book term n

@@ -1,0 +1,23 @@
+// Laws of the definitions, each the contract of a function with an empty body.
+ghost use Rattle.clip_term.specs.Terms.{AsksInRange, ChecksLawful, MakesPictures, SoundLawful};
+
+/// What a filter makes of its inputs' pictures is the clip's picture.
+#[tactic(auto, using(crate::proofs::PictureLemmas::makes_pictures))]
+pub fn makes_pictures()
+    ensures { MakesPictures }
+{}
+
+/// What a check accepts is lawful, where the op is sound and its clips are lawful.
+pub fn checks_lawful()
+    ensures { ChecksLawful }
+{}
+
+/// What a filter asks are frames of its inputs.
+pub fn asks_in_range()
+    ensures { AsksInRange }
+{}
+
+/// The info of a sound clip is lawful.
+pub fn sound_lawful()
+    ensures { SoundLawful }
+{}

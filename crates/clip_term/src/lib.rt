@@ -1,0 +1,18 @@
+//! Clips as terms of filters: what is known of a clip, and each of its samples.
+//!
+//! The definitions stand in `specs/`, one file for each group of filters, by the columns of a table: refusals, length, rate
+//! and size, the frames that are asked, and samples. `specs/Terms.antt` goes over the tree.
+#![tactic(auto)]
+
+mod fault;
+mod filter;
+pub mod laws;
+mod numbers;
+mod op;
+mod term;
+
+pub use fault::FilterFault;
+pub use filter::Filter;
+pub use numbers::Numbers;
+pub use op::{Channels, JoinOp, Matrix, Op, Origin, SoftOp, SpaceOp, TimeOp, TrimBound};
+pub use term::Term;
