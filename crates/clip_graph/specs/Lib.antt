@@ -1,0 +1,4 @@
+pub mod Plan
+pub mod Added
+pub mod Unfolding
+pub mod Nodes
