@@ -1,0 +1,328 @@
+// The checks of the group Space.
+ghost use Rattle.std.specs.Prelude.{◌≡◌, ◌-ℤ◌, pos, List, length, IfOk, ◌∷◌, [], ◌||◌};
+ghost use Rattle.fv_plane.specs.declared.format.Info.{Info};
+ghost use Rattle.fv_plane.specs.Info.{IsLawful};
+ghost use Rattle.fv_plane.specs.Refusals.{first_fault};
+ghost use Rattle.fv_plane.specs.declared.format.PixelType.TheVariants.{Y8, YV16, YV411};
+ghost use Rattle.clip_term.specs.declared.fault.FilterFault.TheVariants.{BadRange, TurnFormat, NeedsChroma};
+ghost use Rattle.clip_term.specs.declared.op.SpaceOp.TheVariants as op;
+ghost use Rattle.clip_term.specs.Refusals.{beyond, is_whole, are_whole, no_colour, same_kind};
+ghost use Rattle.clip_term.specs.Space.{size_from, cut_refusals, bad_bounds, is_no_part, is_outside, cover_more, bad_borders, space_refusals, space_shape, check_space};
+ghost use Rattle.clip_term.specs.ClipTerm.{space};
+ghost use Rattle.clip_term.specs.Terms.{IsSound, AreLawful};
+ghost use Rattle.clip_check.specs.Numbers.{shape_in};
+ghost use Rattle.clip_check.specs.Summaries.{TellsAll};
+
+use crate::limits::{Sides, limits, rate_of, sides_of};
+use crate::shared::{beyond, is_whole};
+use crate::summary::Summary;
+use clip_term::{FilterFault, SpaceOp};
+use fv_plane::{Info, PixelType, Shape};
+
+fn are_whole(shape: Shape, left: u64, top: u64, right: u64, bottom: u64) -> bool
+    ensures { result ≡ are_whole shape left top right bottom }
+{
+    is_whole(shape, left, top) && is_whole(shape, right, bottom)
+}
+
+// A size that is 0 or less counts from the far edge.
+fn size_from(start: i32, size: i32, whole: u32) -> i64
+    ensures { result ≡ size_from start size whole }
+{
+    if size > 0 {
+        size as i64
+    } else {
+        whole as i64 - start as i64 + size as i64
+    }
+}
+
+fn is_no_part(whole: u32, start: i32, size: i64) -> bool
+    ensures { result ≡ is_no_part whole start size }
+{
+    size < 1 || start as i128 + size as i128 > whole as i128
+}
+
+fn is_outside(shape: Shape, left: i32, top: i32, width: i64, height: i64) -> bool
+    ensures { result ≡ is_outside shape left top width height }
+{
+    is_no_part(shape.width, left, width) || is_no_part(shape.height, top, height)
+}
+
+fn cut_fault(shape: Shape, left: i32, top: i32, width: i64, height: i64) -> Option<FilterFault>
+    ensures { result ≡ first_fault (cut_refusals shape left top width height) }
+{
+    if is_outside(shape, left, top, width, height) {
+        return Some(FilterFault::OutOfPicture);
+    }
+    if are_whole(
+        shape,
+        left.unsigned_abs() as u64,
+        top.unsigned_abs() as u64,
+        width.unsigned_abs(),
+        height.unsigned_abs(),
+    ) {
+        None
+    } else {
+        Some(FilterFault::NotWholeChroma)
+    }
+}
+
+fn crop_fault(shape: Shape, left: i32, top: i32, width: i32, height: i32) -> Option<FilterFault>
+    ensures { result ≡ first_fault (space_refusals (op.Crop left top width height) shape) }
+{
+    if left < 0 || top < 0 {
+        return Some(FilterFault::BadRange);
+    }
+    cut_fault(
+        shape,
+        left,
+        top,
+        size_from(left, width, shape.width),
+        size_from(top, height, shape.height),
+    )
+}
+
+fn height_above(height: u32, n: i32) -> i64
+    ensures { result ≡ pos height -ℤ n }
+{
+    height as i64 - n as i64
+}
+
+fn bottom_fault(shape: Shape, n: i32) -> Option<FilterFault>
+    ensures { result ≡ first_fault (space_refusals (op.CropBottom n) shape) }
+{
+    if n < 0 {
+        return Some(FilterFault::BadRange);
+    }
+    cut_fault(
+        shape,
+        0,
+        0,
+        shape.width as i64,
+        height_above(shape.height, n),
+    )
+}
+
+fn no_colour(color: i32) -> bool
+    ensures { result ≡ no_colour color }
+{
+    beyond(color, 16_777_215)
+}
+
+fn bad_borders(left: i32, top: i32, right: i32, bottom: i32, color: i32) -> bool
+    ensures { result ≡ bad_borders left top right bottom color }
+{
+    left < 0 || top < 0 || right < 0 || bottom < 0 || no_colour(color)
+}
+
+fn borders_fault(
+    shape: Shape,
+    left: i32,
+    top: i32,
+    right: i32,
+    bottom: i32,
+    color_yuv: i32,
+) -> Option<FilterFault>
+    ensures { result ≡ first_fault (space_refusals (op.AddBorders left top right bottom color_yuv) shape) }
+{
+    if bad_borders(left, top, right, bottom, color_yuv) {
+        return Some(FilterFault::BadRange);
+    }
+    if are_whole(shape, left as u64, top as u64, right as u64, bottom as u64) {
+        None
+    } else {
+        Some(FilterFault::NotWholeChroma)
+    }
+}
+
+fn cover_more(shape: Shape, left: u32, top: u32, right: u32, bottom: u32) -> bool
+    ensures { result ≡ cover_more shape left top right bottom }
+{
+    top as u64 + bottom as u64 > shape.height as u64
+        || left as u64 + right as u64 > shape.width as u64
+}
+
+fn letter_box_fault(
+    shape: Shape,
+    top: i32,
+    bottom: i32,
+    x1: i32,
+    x2: i32,
+    color_yuv: i32,
+) -> Option<FilterFault>
+    ensures { result ≡ first_fault (space_refusals (op.LetterBox top bottom x1 x2 color_yuv) shape) }
+{
+    if bad_borders(x1, top, x2, bottom, color_yuv) {
+        return Some(FilterFault::BadRange);
+    }
+    if cover_more(shape, x1 as u32, top as u32, x2 as u32, bottom as u32) {
+        return Some(FilterFault::OutOfPicture);
+    }
+    if are_whole(shape, x1 as u64, top as u64, x2 as u64, bottom as u64) {
+        None
+    } else {
+        Some(FilterFault::NotWholeChroma)
+    }
+}
+
+fn turn_fault(kind: PixelType) -> Option<FilterFault>
+    ensures { result ≡ first_fault ((TurnFormat, same_kind kind YV16 || same_kind kind YV411) ∷ []) }
+{
+    match kind {
+        PixelType::YV16 | PixelType::YV411 => Some(FilterFault::TurnFormat),
+        _ => None,
+    }
+}
+
+fn chroma_fault(kind: PixelType) -> Option<FilterFault>
+    ensures { result ≡ first_fault ((NeedsChroma, same_kind kind Y8) ∷ []) }
+{
+    match kind {
+        PixelType::Y8 => Some(FilterFault::NeedsChroma),
+        _ => None,
+    }
+}
+
+fn bad_bounds(low: i32, high: i32) -> bool
+    ensures { result ≡ bad_bounds low high }
+{
+    beyond(low, 255) || beyond(high, 255) || high < low
+}
+
+fn limiter_fault(
+    min_luma: i32,
+    max_luma: i32,
+    min_chroma: i32,
+    max_chroma: i32,
+) -> Option<FilterFault>
+    ensures { result ≡ first_fault ((BadRange, bad_bounds min_luma max_luma || bad_bounds min_chroma max_chroma) ∷ []) }
+{
+    if bad_bounds(min_luma, max_luma) || bad_bounds(min_chroma, max_chroma) {
+        Some(FilterFault::BadRange)
+    } else {
+        None
+    }
+}
+
+// What the row refuses.
+fn space_fault(op: &SpaceOp, shape: Shape) -> Option<FilterFault>
+    ensures { result ≡ first_fault (space_refusals op.now shape) }
+{
+    match op {
+        SpaceOp::Crop {
+            left,
+            top,
+            width,
+            height,
+        } => crop_fault(shape, *left, *top, *width, *height),
+        SpaceOp::CropBottom { n } => bottom_fault(shape, *n),
+        SpaceOp::AddBorders {
+            left,
+            top,
+            right,
+            bottom,
+            color_yuv,
+        } => borders_fault(shape, *left, *top, *right, *bottom, *color_yuv),
+        SpaceOp::LetterBox {
+            top,
+            bottom,
+            x1,
+            x2,
+            color_yuv,
+        } => letter_box_fault(shape, *top, *bottom, *x1, *x2, *color_yuv),
+        SpaceOp::TurnLeft | SpaceOp::TurnRight => turn_fault(shape.kind),
+        SpaceOp::Limiter {
+            min_luma,
+            max_luma,
+            min_chroma,
+            max_chroma,
+        } => limiter_fault(*min_luma, *max_luma, *min_chroma, *max_chroma),
+        SpaceOp::UToY8 | SpaceOp::VToY8 => chroma_fault(shape.kind),
+        SpaceOp::ConvertToY8
+        | SpaceOp::FlipHorizontal
+        | SpaceOp::FlipVertical
+        | SpaceOp::Turn180
+        | SpaceOp::Greyscale
+        | SpaceOp::Invert { .. }
+        | SpaceOp::SwapUV => None,
+    }
+}
+
+fn of_size(kind: PixelType, width: u64, height: u64) -> Sides
+    ensures { shape_in result ≡ record { kind = kind; width = width; height = height } }
+{
+    Sides {
+        kind,
+        width: width as u128,
+        height: height as u128,
+    }
+}
+
+// The size of the row.
+fn space_sides(op: &SpaceOp, shape: Shape) -> Sides
+    ensures { shape_in result ≡ space_shape op.now shape }
+{
+    let whole_width = shape.width as u64;
+    let whole_height = shape.height as u64;
+    match op {
+        SpaceOp::Crop {
+            left,
+            top,
+            width,
+            height,
+        } => of_size(
+            shape.kind,
+            size_from(*left, *width, shape.width).unsigned_abs(),
+            size_from(*top, *height, shape.height).unsigned_abs(),
+        ),
+        SpaceOp::CropBottom { n } => of_size(
+            shape.kind,
+            whole_width,
+            whole_height.saturating_sub(n.unsigned_abs() as u64),
+        ),
+        SpaceOp::AddBorders {
+            left,
+            top,
+            right,
+            bottom,
+            ..
+        } => of_size(
+            shape.kind,
+            whole_width + left.unsigned_abs() as u64 + right.unsigned_abs() as u64,
+            whole_height + top.unsigned_abs() as u64 + bottom.unsigned_abs() as u64,
+        ),
+        SpaceOp::TurnLeft | SpaceOp::TurnRight => of_size(shape.kind, whole_height, whole_width),
+        SpaceOp::UToY8 => of_size(
+            PixelType::Y8,
+            shape.plane_width(1) as u64,
+            shape.plane_height(1) as u64,
+        ),
+        SpaceOp::VToY8 => of_size(
+            PixelType::Y8,
+            shape.plane_width(2) as u64,
+            shape.plane_height(2) as u64,
+        ),
+        SpaceOp::ConvertToY8 => of_size(PixelType::Y8, whole_width, whole_height),
+        _ => sides_of(shape),
+    }
+}
+
+/// The check of an op of the group Space over the summary of its clips.
+pub fn space_info(op: &SpaceOp, summary: &Summary) -> Result<Info, FilterFault>
+    ensures { (infos : List Info) → TellsAll summary.now infos → result ≡ check_space op.now infos }
+{
+    let c = summary.first;
+    match space_fault(op, c.shape) {
+        Some(fault) => Err(fault),
+        None => limits(c, c.frames as u128, rate_of(c), space_sides(op, c.shape)),
+    }
+}
+
+/// The info of a clip of the group Space over clips of these infos, or the first refusal.
+pub fn check_space(op: &SpaceOp, infos: &[Info]) -> Result<Info, FilterFault>
+    ensures exact { result ≡ check_space op.now infos.now }
+    ensures lawful { IsSound (space op.now) (length infos.now) → AreLawful infos.now →
+        IfOk result (λ info. IsLawful info) }
+{
+    space_info(op, &Summary::of(infos))
+}
