@@ -1,0 +1,4 @@
+pub mod NumberLemmas
+pub mod LengthLemmas
+pub mod ShownLemmas
+pub mod ExampleLemmas
