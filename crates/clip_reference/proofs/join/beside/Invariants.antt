@@ -1,0 +1,8 @@
+use Rattle.std.proofs.Common.{◌≡◌, map, drop}
+use Rattle.fv_plane.specs.Look.{look_in}
+use Rattle.clip_term.specs.Join.{beside}
+use Rattle.clip_reference.proofs.join.beside.Given as goal
+
+abbrev pub invariant-loop-i : goal.invariant-loop-i
+invariant-loop-i l =
+    beside (drop l.i l.infos) (map look_in (drop l.i l.frames)) l.plane l.left l.y ≡ beside l.infos (map look_in l.frames) l.plane l.x l.y

@@ -1,0 +1,11 @@
+use Rattle.std.proofs.Common.{[], length, map, arith}
+use Rattle.fv_plane.specs.Look.{look_in}
+use Rattle.clip_term.specs.ClipTerm.{act_of}
+use Rattle.clip_term.specs.Terms.{sample}
+use Rattle.fv_plane.proofs.FillLemmas.{row_listed}
+use Rattle.clip_reference.proofs.make.fill_row.Goals as goal
+
+pub returns : goal.returns
+returns c =
+    row_listed c.loop-x.row (sample [] (act_of c.args.op.now) c.args.infos.now 0 (map look_in c.args.frames.now)) c.args.plane (length c.args.row.now) c.args.y
+    c.loop-x.invariant.long (λ x h. c.loop-x.invariant.made x (omega arith))

@@ -1,0 +1,152 @@
+use Rattle.std.proofs.Common.{◌≡◌, ◌∙◌, List, ◌++◌, ◌∷◌, [], length, sym, ap, map, refl, arith, take, Ok, Err, ℕ, ◌<◌, get_or}
+use Rattle.std.proofs.lemmas.List.{take_all, map_more, length-map}
+use Rattle.std.proofs.lemmas.Result.{IfOk-weaker}
+use Rattle.fv_plane.specs.Picture.{Picture, blank}
+use Rattle.fv_plane.specs.declared.format.Info.{Info}
+use Rattle.fv_plane.specs.declared.format.Shape.{Shape}
+use Rattle.clip_term.specs.declared.term.Term.{out-Term}
+use Rattle.clip_term.specs.ClipTerm.{ClipTerm, act_of, term_of, clips}
+use Rattle.clip_term.specs.declared.op.Origin.{Origin}
+use Rattle.clip_term.specs.Terms.{asked, asked_picture, check, make, frame_in, term_picture, term_pictures}
+use Rattle.clip_term.proofs.LawfulLemmas.{checks_lawful}
+use Rattle.clip_reference.proofs.ReadyLemmas.{ready, filter_is}
+use Rattle.clip_reference.proofs.SizeLemmas.{fewer}
+use Rattle.clip_reference.proofs.TermLemmas.{node, accepted, gathered, inputs_ok, turn, is_blank, no_refusal, made_whole, source_frame, source_picture}
+use Rattle.clip_reference.proofs.reference.+reference_frame.Goals as goal
+
+pub frame-requires : goal.frame-requires
+frame-requires t c =
+    let a = accepted c.args.book.now c.args.term.now c.args.n c.requires.sound c.requires.inside c.requires.sources in
+    let source = rw c.in-Source.is at a in
+    let frame = source_frame c.args.book.now c.in-Source.name c.in-Source.number c.in-Source.info (out-Term c.args.term.now).inputs.items c.args.n source in
+    record { number = frame.listed; inside = frame.inside }
+
+pub returns-in-Source : goal.returns-in-Source
+returns-in-Source t c =
+    let book = c.args.book.now in
+    let a = accepted book c.args.term.now c.args.n c.requires.sound c.requires.inside c.requires.sources in
+    let source = rw c.in-Source.is at a in
+    let n = node c.args.term.now in
+    let is = rw c.in-Source.is at n in
+    IfOk-weaker c.frame.result (λ frame. (shape : Shape) → frame ≡ frame_in book c.in-Source.number c.args.n shape)
+    (λ frame. frame ≡ term_picture book (term_of c.args.term.now) c.args.n)
+    (λ frame e.
+    e c.in-Source.info.shape ∙ source_picture book c.in-Source.name c.in-Source.number c.in-Source.info (out-Term c.args.term.now).inputs.items c.args.n source
+    ∙ ap (λ (term : ClipTerm). term_picture book term c.args.n) (sym is))
+    c.frame.ensures
+
+pub blank-requires : goal.blank-requires
+blank-requires t c =
+    let a = accepted c.args.book.now c.args.term.now c.args.n c.requires.sound c.requires.inside c.requires.sources in
+    let plain = rw c.in-Blank.is at a in
+    (is_blank c.args.book.now c.in-Blank.info c.in-Blank.colour (out-Term c.args.term.now).inputs.items c.args.n plain).legal
+
+pub returns-in-Blank : goal.returns-in-Blank
+returns-in-Blank t c =
+    let book = c.args.book.now in
+    let a = accepted book c.args.term.now c.args.n c.requires.sound c.requires.inside c.requires.sources in
+    let plain = rw c.in-Blank.is at a in
+    let n = node c.args.term.now in
+    let is = rw c.in-Blank.is at n in
+    let made = is_blank book c.in-Blank.info c.in-Blank.colour (out-Term c.args.term.now).inputs.items c.args.n plain in
+    IfOk-weaker c.blank.result (λ frame. frame ≡ blank c.in-Blank.info.shape c.in-Blank.colour) (λ frame. frame ≡ term_picture book (term_of c.args.term.now) c.args.n)
+    (λ frame e. e ∙ made.picture ∙ ap (λ (term : ClipTerm). term_picture book term c.args.n) (sym is)) c.blank.ensures
+
+pub infos_of-requires : goal.infos_of-requires
+infos_of-requires t c =
+    let a = accepted c.args.book.now c.args.term.now c.args.n c.requires.sound c.requires.inside c.requires.sources in
+    rw c.deref.ensures.value (inputs_ok c.args.book.now (act_of (out-Term c.args.term.now).op) (out-Term c.args.term.now).inputs.items c.args.n a)
+
+pub asked-requires : goal.asked-requires
+asked-requires t c =
+    let g = gathered c.args.book.now c.args.term.now c.args.n c.deref.result.now c.in_ok-infos.infos.items c.requires.sound c.requires.inside c.requires.sources c.deref.ensures.value c.in_ok-infos.ensures in
+    rw c.deref-2.ensures.value (record { sound = g.known.sound; lawful = g.known.lawful; shown = g.known.shown })
+
+pub index-input-requires : goal.index-input-requires
+index-input-requires t c =
+    let op = act_of (out-Term c.args.term.now).op in
+    let ts = (out-Term c.args.term.now).inputs.items in
+    let infos = c.in_ok-infos.infos.items in
+    let origins = c.deref-origin-items.result.now in
+    let g = gathered c.args.book.now c.args.term.now c.args.n c.deref.result.now infos c.requires.sound c.requires.inside c.requires.sources c.deref.ensures.value c.in_ok-infos.ensures in
+    let same : origins ≡ asked op infos c.args.n = c.deref-origin-items.ensures.value ∙ c.in_ok-origins.ensures ∙ ap (λ ds. asked op ds c.args.n) c.deref-2.ensures.value in
+    let inside = (turn c.args.book.now op ts infos c.args.n g origins same c.loop-origin.origin-index (record { input = 0; number = 0 }) c.loop-origin-test.true _ c.args.term.now refl).inside in
+    let long = ap length c.deref.ensures.value in
+    omega (arith, c.deref.ensures.len)
+
+pub reference_frame-requires : goal.reference_frame-requires
+reference_frame-requires t c =
+    let op = act_of (out-Term c.args.term.now).op in
+    let ts = (out-Term c.args.term.now).inputs.items in
+    let infos = c.in_ok-infos.infos.items in
+    let origins = c.deref-origin-items.result.now in
+    let g = gathered c.args.book.now c.args.term.now c.args.n c.deref.result.now infos c.requires.sound c.requires.inside c.requires.sources c.deref.ensures.value c.in_ok-infos.ensures in
+    let same : origins ≡ asked op infos c.args.n = c.deref-origin-items.ensures.value ∙ c.in_ok-origins.ensures ∙ ap (λ ds. asked op ds c.args.n) c.deref-2.ensures.value in
+    let at = turn c.args.book.now op ts infos c.args.n g origins same c.loop-origin.origin-index _ c.loop-origin-test.true c.index-input.result.now _ c.index-input.ensures in
+    (fewer c.args.term.now c.index-input.result.now _ (get_or origins c.loop-origin.origin-index (record { input = 0; number = 0 })).input t at.inside c.index-input.ensures c.decreases, (at.sound, (at.shown, at.sources)))
+
+pub loop-origin-preserved : goal.loop-origin-preserved
+loop-origin-preserved t c =
+    let op = act_of (out-Term c.args.term.now).op in
+    let ts = (out-Term c.args.term.now).inputs.items in
+    let infos = c.in_ok-infos.infos.items in
+    let origins = c.deref-origin-items.result.now in
+    let g = gathered c.args.book.now c.args.term.now c.args.n c.deref.result.now infos c.requires.sound c.requires.inside c.requires.sources c.deref.ensures.value c.in_ok-infos.ensures in
+    let same : origins ≡ asked op infos c.args.n = c.deref-origin-items.ensures.value ∙ c.in_ok-origins.ensures ∙ ap (λ ds. asked op ds c.args.n) c.deref-2.ensures.value in
+    let i = c.loop-origin.origin-index in
+    let d : Origin = record { input = 0; number = 0 } in
+    let at = turn c.args.book.now op ts infos c.args.n g origins same i d c.loop-origin-test.true c.index-input.result.now _ c.index-input.ensures in
+    let f = asked_picture (term_pictures c.args.book.now (clips (map term_of ts))) in
+    let put : c.push.new.self.items ≡ c.loop-origin.frames.items ++ c.in_ok-reference_frame.field-0 ∷ [] = c.in_ok-push.ensures.items in
+    put ∙ ap (λ l. l ++ c.in_ok-reference_frame.field-0 ∷ []) c.loop-origin.invariant
+    ∙ ap (λ p. map f (take i origins) ++ p ∷ []) (c.in_ok-reference_frame.ensures ∙ sym at.picture) ∙ sym (map_more f origins i d c.loop-origin-test.true)
+
+pub made-requires : goal.made-requires
+made-requires t c =
+    let op = act_of (out-Term c.args.term.now).op in
+    let ts = (out-Term c.args.term.now).inputs.items in
+    let infos = c.in_ok-infos.infos.items in
+    let origins = c.deref-origin-items.result.now in
+    let g = gathered c.args.book.now c.args.term.now c.args.n c.deref.result.now infos c.requires.sound c.requires.inside c.requires.sources c.deref.ensures.value c.in_ok-infos.ensures in
+    let same : origins ≡ asked op infos c.args.n = c.deref-origin-items.ensures.value ∙ c.in_ok-origins.ensures ∙ ap (λ ds. asked op ds c.args.n) c.deref-2.ensures.value in
+    let k = g.known in
+    let f = asked_picture (term_pictures c.args.book.now (clips (map term_of ts))) in
+    let checked : check op infos ≡ Ok c.in-Ok.info = ap (check op) (sym c.deref-3.ensures.value) ∙ sym c.check.ensures.exact ∙ c.in-Ok.is in
+    let all : c.loop-origin.frames.items ≡ map f origins = c.loop-origin.invariant ∙ ap (map f) (take_all c.loop-origin.origin-index origins c.loop-origin-test.false) in
+    let long : length c.loop-origin.frames.items ≡ length (asked op infos c.args.n) = ap length all ∙ length-map origins f ∙ ap length same in
+    rw (c.deref-in-Ok.ensures.value, c.deref-in-Ok-2.ensures.value) (record {
+      legal = (checks_lawful op infos c.in-Ok.info k.sound k.lawful checked).shape;
+      ready = ready op infos c.in-Ok.info c.args.n (length c.loop-origin.frames.items) (filter_is (out-Term c.args.term.now).op c.in_default.not-Source c.in_default-op.not-Blank) k.sound checked long;
+    })
+
+pub unreachable-requires : goal.unreachable-requires
+unreachable-requires t c =
+    let op = act_of (out-Term c.args.term.now).op in
+    let ts = (out-Term c.args.term.now).inputs.items in
+    let infos = c.in_ok-infos.infos.items in
+    let origins = c.deref-origin-items.result.now in
+    let g = gathered c.args.book.now c.args.term.now c.args.n c.deref.result.now infos c.requires.sound c.requires.inside c.requires.sources c.deref.ensures.value c.in_ok-infos.ensures in
+    let same : origins ≡ asked op infos c.args.n = c.deref-origin-items.ensures.value ∙ c.in_ok-origins.ensures ∙ ap (λ ds. asked op ds c.args.n) c.deref-2.ensures.value in
+    let k = g.known in
+    let refused : check op infos ≡ Err c.in-Err.field-0 = ap (check op) (sym c.deref-3.ensures.value) ∙ sym c.check.ensures.exact ∙ c.in-Err.is in
+    no_refusal (check op infos) (λ (info : Info). c.args.n < info.frames) c.in-Err.field-0 k.shown refused
+
+pub returns : goal.returns
+returns t c =
+    let op = act_of (out-Term c.args.term.now).op in
+    let ts = (out-Term c.args.term.now).inputs.items in
+    let infos = c.in_ok-infos.infos.items in
+    let origins = c.deref-origin-items.result.now in
+    let g = gathered c.args.book.now c.args.term.now c.args.n c.deref.result.now infos c.requires.sound c.requires.inside c.requires.sources c.deref.ensures.value c.in_ok-infos.ensures in
+    let same : origins ≡ asked op infos c.args.n = c.deref-origin-items.ensures.value ∙ c.in_ok-origins.ensures ∙ ap (λ ds. asked op ds c.args.n) c.deref-2.ensures.value in
+    let book = c.args.book.now in
+    let n = c.args.n in
+    let f = asked_picture (term_pictures book (clips (map term_of ts))) in
+    let checked : check op infos ≡ Ok c.in-Ok.info = ap (check op) (sym c.deref-3.ensures.value) ∙ sym c.check.ensures.exact ∙ c.in-Ok.is in
+    let all : c.deref-in-Ok-2.result.now ≡ map f (asked op infos n)
+    = c.deref-in-Ok-2.ensures.value ∙ c.loop-origin.invariant ∙ ap (map f) (take_all c.loop-origin.origin-index origins c.loop-origin-test.false ∙ same) in
+    let law = made_whole book c.args.term.now n infos c.in-Ok.info c.deref-in-Ok-2.result.now c.requires.sound g.all checked all in
+    IfOk-weaker c.made.result (λ frame. (b : List (List Picture)) (m : ℕ) → frame ≡ make b op c.deref-in-Ok.result.now c.in-Ok.info m c.deref-in-Ok-2.result.now)
+    (λ frame. frame ≡ term_picture book (term_of c.args.term.now) n)
+    (λ frame is. is book n ∙ ap (λ ds. make book op ds c.in-Ok.info n c.deref-in-Ok-2.result.now) c.deref-in-Ok.ensures.value ∙ law)
+    c.made.ensures

@@ -1,0 +1,13 @@
+use Rattle.std.proofs.Common.{◌≡◌, map, take}
+use Rattle.clip_term.specs.declared.term.Term.{out-Term}
+use Rattle.clip_term.specs.ClipTerm.{term_of, clips}
+use Rattle.clip_term.specs.Terms.{asked_picture, term_pictures}
+use Rattle.clip_reference.proofs.SizeLemmas.{ops_in}
+use Rattle.clip_reference.proofs.reference.+reference_frame.Given as goal
+
+abbrev pub decreases-reference_frame : goal.decreases-reference_frame
+decreases-reference_frame l = ops_in l.term.now
+
+abbrev pub invariant-loop-origin : goal.invariant-loop-origin
+invariant-loop-origin l =
+    l.frames.items ≡ map (asked_picture (term_pictures l.book (clips (map term_of (out-Term l.term).inputs.items)))) (take l.origin-index l.origin-items)

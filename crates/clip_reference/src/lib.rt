@@ -1,0 +1,19 @@
+//! The reference frame of a clip's term, by plain recursion, for tests to compare with.
+//!
+//! `reference_frame` gives the frame that the definitions of `clip_term` have for a term and a frame number, from a
+//! `Book` of the sources' frames. Each sample is made alone, so it is slow. The one error is `AllocError`.
+#![tactic(auto)]
+
+mod asked;
+mod book;
+mod join;
+mod make;
+mod place;
+mod reference;
+mod soft;
+mod space;
+#[cfg(test)]
+mod tests;
+
+pub use book::Book;
+pub use reference::reference_frame;
