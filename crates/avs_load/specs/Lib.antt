@@ -1,0 +1,4 @@
+pub mod TokensOf
+pub mod Load
+pub mod Loads
+pub mod Laws

@@ -1,0 +1,15 @@
+// Why a text has no tree.
+use avs_lex::LexKind;
+
+/// Why a text has no tree. Lines are counted from 1.
+#[derive(Clone, Copy, Debug, PartialEq, Eq)]
+pub enum LoadFault {
+    /// The first fault of the text, which has no tokens.
+    Lex { kind: LexKind, line: u32 },
+    /// The grammar does not allow a token on this line.
+    Syntax { line: u32 },
+    /// A token on this line opens more levels than the limit.
+    NestLimit { line: u32 },
+    /// Out of memory.
+    Memory,
+}
