@@ -1,0 +1,5 @@
+mod BindingLemmas
+mod NumberLemmas
+mod CharacterLemmas
+mod PositionLemmas
+mod KindLemmas

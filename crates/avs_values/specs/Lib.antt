@@ -1,0 +1,9 @@
+pub mod Values
+pub mod Binding
+pub mod Views
+pub mod Outcome
+pub mod Operators
+pub mod Numbers
+pub mod Texts
+pub mod Functions
+pub mod Laws

@@ -1,0 +1,30 @@
+-- What an operator or a function gives: a value, or why there is none.
+use Rattle.std.specs.Prelude.{◌≡◌, ◌^◌, ℕ, ℤ, pos, negsuc, nat_lt, nat_le, length, Bool, Result, Ok, Err, if◌then◌else◌}
+use Rattle.avs_values.specs.Values.{Text}
+use Rattle.avs_values.specs.declared.fault.ValueFault.{ValueFault}
+use Rattle.avs_values.specs.declared.fault.ValueFault.TheVariants as f
+use Rattle.avs_values.specs.declared.value.Value.{Value}
+use Rattle.avs_values.specs.declared.value.Value.TheVariants as v
+
+abbrev pub Outcome : Type 0
+Outcome = Result Value ValueFault
+
+-- from -2^31 to 2^31 - 1
+abbrev pub is_32_bits : ℤ → Bool
+is_32_bits (pos n) = nat_lt n (2 ^ 31)
+is_32_bits (negsuc n) = nat_lt n (2 ^ 31)
+
+abbrev pub number : ℤ → Outcome
+number n = if is_32_bits n then Ok (v.Int n) else Err f.Overflow
+
+-- how many bytes a text has at most
+abbrev pub text_limit : ℕ
+text_limit = 1048576
+
+abbrev pub text : Text → Outcome
+text t = if nat_le (length t) text_limit then Ok (v.Text t) else Err f.TextLimit
+
+-- The call gives this outcome, or is out of memory.
+abbrev pub Gives : Outcome → Outcome → Type 0
+Gives outcome (Err f.Memory) = Unit {0}
+Gives outcome result = outcome ≡ result

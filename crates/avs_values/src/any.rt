@@ -1,0 +1,78 @@
+// The functions on any value.
+ghost use Rattle.std.specs.Prelude.{◌≡◌};
+ghost use Rattle.avs_values.specs.Functions as s;
+ghost use Rattle.avs_values.specs.Outcome.{Gives};
+
+use crate::{Kind, Value, ValueFault};
+use fv_io::Text;
+use std::alloc::Global;
+
+pub fn select(alloc: Global, values: &[Value], rest: &[Value]) -> Result<Value, ValueFault>
+    ensures { Gives (s.select values.now rest.now) result }
+{
+    let [Value::Int(i), first] = values else {
+        return Err(ValueFault::TypeFault);
+    };
+    if *i < 0 {
+        return Err(ValueFault::BadRange);
+    }
+    let i = i.unsigned_abs() as usize;
+    if i == 0 {
+        return Ok(first.try_clone(alloc)?);
+    }
+    match rest.get(i - 1) {
+        Some(value) => Ok(value.try_clone(alloc)?),
+        None => Err(ValueFault::BadRange),
+    }
+}
+
+pub fn defined(values: &[Value]) -> Result<Value, ValueFault>
+    ensures { result ≡ s.defined values.now }
+{
+    let [value] = values else {
+        return Err(ValueFault::TypeFault);
+    };
+    Ok(Value::Bool(!value.is_undefined()))
+}
+
+pub fn default(alloc: Global, values: &[Value]) -> Result<Value, ValueFault>
+    ensures { Gives (s.default values.now) result }
+{
+    let [first, second] = values else {
+        return Err(ValueFault::TypeFault);
+    };
+    let chosen = if first.is_undefined() { second } else { first };
+    Ok(chosen.try_clone(alloc)?)
+}
+
+fn failed(alloc: Global, message: &Value) -> Result<Value, ValueFault>
+    ensures { Gives (s.failed message.now) result }
+{
+    let message = match message {
+        Value::Undefined => "Assert",
+        Value::Text(text) => text.as_str(),
+        _ => return Err(ValueFault::TypeFault),
+    };
+    Err(ValueFault::AssertFailed(Text::from_str(alloc, message)?))
+}
+
+pub fn assertion(alloc: Global, values: &[Value]) -> Result<Value, ValueFault>
+    ensures { Gives (s.assertion values.now) result }
+{
+    let [Value::Bool(holds), message] = values else {
+        return Err(ValueFault::TypeFault);
+    };
+    if *holds {
+        return Ok(Value::Undefined);
+    }
+    failed(alloc, message)
+}
+
+pub fn is_of_kind(kind: Kind, values: &[Value]) -> Result<Value, ValueFault>
+    ensures { result ≡ s.is_of_kind kind values.now }
+{
+    let [value] = values else {
+        return Err(ValueFault::TypeFault);
+    };
+    Ok(Value::Bool(value.has_kind(kind)))
+}
