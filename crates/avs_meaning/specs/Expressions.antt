@@ -1,0 +1,132 @@
+-- What an expression does: its value, and how the state changes (AviSynth+ wiki, 'Grammar' and 'Script functions').
+use Rattle.std.specs.Prelude.{ℕ, nat_eq, List, [], ◌∷◌, ◌++◌, codes, Option, Some, None, Result, Ok, Err, if◌then◌else◌}
+use Rattle.avs_tree.specs.Tree.{Expr, int, bool, str, name, call, method_calls, minus, not_, chain, compare, conditional, group, Args, no_args, arg, MethodCalls, no_method_calls, method, method_call, Steps, no_steps, step, Block}
+use Rattle.avs_values.specs.Binding.{Bound}
+use Rattle.avs_values.specs.Functions.{plain}
+use Rattle.avs_values.specs.Values.{Text}
+use Rattle.avs_values.specs.declared.binding.Given.{Given}
+use Rattle.avs_values.specs.declared.operators.UnaryOp.TheVariants as u
+use Rattle.avs_values.specs.declared.value.Value.{Value}
+use Rattle.avs_values.specs.declared.value.Value.TheVariants as v
+use Rattle.avs_meaning.specs.Calls.{Callee, user, builtin, callee, takes, Fit, fit_or_last, unnamed, last_name, parameters}
+use Rattle.avs_meaning.specs.ClipFunctions.{clip_value}
+use Rattle.avs_meaning.specs.Filters.{info_of, filtered}
+use Rattle.avs_meaning.specs.Operators.{placed, truth, prefixed, compared, joined}
+use Rattle.avs_meaning.specs.Outside.{Outside}
+use Rattle.avs_meaning.specs.State.{Env, Defined, Run, and_then, ◌>>=◌, ◌>>◌, pure, fails, lifted, lookup, variable}
+use Rattle.avs_meaning.specs.Texts.{load_short}
+use Rattle.avs_meaning.specs.declared.builtin.Builtin.TheVariants as b
+use Rattle.avs_meaning.specs.declared.builtin.ClipFn.{ClipFn}
+use Rattle.avs_meaning.specs.declared.fault.FileKind.{FileKind}
+use Rattle.avs_meaning.specs.declared.fault.ScriptKind.TheVariants as k
+
+abbrev pub eval_name : Text
+eval_name = codes "Eval"
+
+-- in the text of this name
+module _ (here : Text) where
+  abbrev pub script_by : Result Text FileKind → ℕ → Run Text
+  script_by (Ok text) line = pure text
+  script_by (Err kind) line = fails (k.File kind) here line
+
+  abbrev pub told : ClipFn → List Value → ℕ → Run Value
+  told function (v.Clip i ∷ []) line =
+      info_of here i line >>= (λ info. lifted (placed here line (clip_value function info)))
+  told function _ line = fails k.NoMatch here line
+
+  abbrev pub known : Option Callee → ℕ → Run Callee
+  known (Some c) line = pure c
+  known None line = fails k.UnknownName here line
+
+  -- The name of a function is looked up before its arguments are evaluated.
+  abbrev pub called : Text → ℕ → Run Callee
+  called x line = λ s. known (callee x s.functions) line s
+
+-- how many calls may still nest, and what executes the statements of a text one call deeper
+module _ (outside : Outside) (depth : ℕ) (deeper : Text → Block → Run Value) where
+  abbrev pub may_nest : Text → ℕ → Run (Unit {0})
+  may_nest here line = if nat_eq depth 0 then fails k.CallDepth here line else pure tt
+
+  -- ---- calls
+
+  abbrev pub execute : Text → Text → Text → ℕ → Run Value
+  execute from text here line = load_short outside from text here line >>= (λ loaded. deeper from loaded.tree.statements)
+
+  abbrev pub eval : Text → List Value → ℕ → Run Value
+  eval here (v.Text text ∷ []) line = may_nest here line >> execute eval_name text here line
+  eval here _ line = fails k.NoMatch here line
+
+  abbrev pub import_ : Text → List Value → ℕ → Run Value
+  import_ here (v.Text file ∷ []) line =
+      may_nest here line >> script_by here (outside.scripts file) line >>= (λ text. execute file text here line)
+  import_ here _ line = fails k.NoMatch here line
+
+  -- A user function has an environment of its own, with its parameters alone.
+  abbrev pub inside : Defined → Env → Run Value
+  inside d env = λ s.
+      and_then (deeper d.text d.function.body (record s { env = env })) (λ x after. Ok (x, record after { env = s.env }))
+
+  -- a call whose arguments are bound by the signature of this number
+  abbrev pub applied : Callee → ℕ → Bound → Text → ℕ → Run Value
+  applied (user d) n given here line = may_nest here line >> inside d (parameters d.function.params given.values [])
+  applied (builtin b.Eval) n given here line = eval here given.values line
+  applied (builtin b.Import) n given here line = import_ here given.values line
+  applied (builtin (b.Plain function)) n given here line = lifted (placed here line (plain function given))
+  applied (builtin (b.Clip function)) n given here line = told here function given.values line
+  applied (builtin (b.Filter filter)) n given here line = filtered here outside filter n given line
+
+  abbrev pub apply_by : Fit → Callee → Text → ℕ → Run Value
+  apply_by (Some found) c here line = applied c found.0 found.1 here line
+  apply_by None c here line = fails k.NoMatch here line
+
+  -- a call with these arguments, tried again with `last` first where it is set
+  abbrev pub apply : Callee → List Given → Option Value → Text → ℕ → Run Value
+  apply c args last here line = apply_by (fit_or_last (takes c) args last) c here line
+
+  -- ---- expressions
+
+  module _ (here : Text) where
+    abbrev pub apply_last : Callee → List Given → ℕ → Run Value
+    apply_last c args line = λ s. apply c args (lookup last_name s.env) here line s
+
+    -- a variable, or else a call without arguments
+    abbrev pub named : Option Value → Text → ℕ → Run Value
+    named (Some x) word line = pure x
+    named None word line = called here word line >>= (λ c. apply_last c [] line)
+
+    abbrev mutual
+      pub value_of : Expr → Run Value
+      value_of (int n) = pure (v.Int n)
+      value_of (bool holds) = pure (v.Bool holds)
+      value_of (str x) = pure (v.Text x)
+      value_of (name word line) = λ s. named (variable word s) word line s
+      value_of (call word args line) =
+          called here word line >>= (λ c. givens_of args [] >>= (λ given. apply_last c given line))
+      value_of (method_calls e calls) = value_of e >>= calls_from calls
+      value_of (minus e line) = value_of e >>= prefixed here u.Negative line
+      value_of (not_ e line) = value_of e >>= prefixed here u.Not line
+      value_of (chain e rest) = value_of e >>= steps_from rest
+      value_of (compare op l r line) = value_of l >>= (λ x. value_of r >>= compared here op line x)
+      value_of (conditional c l r line) =
+          value_of c >>= (λ x. lifted (truth here line x) >>= (λ holds. if holds then value_of l else value_of r))
+      value_of (group e) = value_of e
+
+      -- arguments, after those before
+      pub givens_of : Args → List Given → Run (List Given)
+      givens_of no_args before = pure before
+      givens_of (arg word e rest) before =
+          value_of e >>= (λ x. givens_of rest (before ++ record { name = word; value = x } ∷ []))
+
+      -- method calls, each with the value before it as its first argument
+      pub calls_from : MethodCalls → Value → Run Value
+      calls_from no_method_calls x = pure x
+      calls_from (method word line rest) x =
+          called here word line >>= (λ c. apply c (unnamed x ∷ []) None here line) >>= calls_from rest
+      calls_from (method_call word args line rest) x =
+          called here word line >>= (λ c. givens_of args (unnamed x ∷ []) >>= (λ given. apply c given None here line))
+          >>= calls_from rest
+
+      -- the operators of a chain, from the left
+      pub steps_from : Steps → Value → Run Value
+      steps_from no_steps x = pure x
+      steps_from (step op e line rest) x = joined here op line (value_of e) x >>= steps_from rest

@@ -1,0 +1,37 @@
+-- Why a script has no clip.
+use Rattle.std.specs.Prelude.{◌≡◌, ℕ}
+use Rattle.avs_values.specs.Values.{Text}
+use Rattle.avs_values.specs.declared.fault.ValueFault.{ValueFault}
+use Rattle.avs_values.specs.declared.fault.ValueFault.TheVariants as v
+use Rattle.avs_meaning.specs.declared.fault.InputFault.{InputFault}
+use Rattle.avs_meaning.specs.declared.fault.ScriptKind.{ScriptKind}
+use Rattle.avs_meaning.specs.declared.fault.ScriptKind.TheVariants as k
+use Rattle.avs_meaning.specs.declared.stop.Stop.{Stop}
+use Rattle.avs_meaning.specs.declared.stop.Stop.TheVariants as s
+
+pub data Fault : Type 0 where
+  -- a fault at a line of the text of this name
+  script : ScriptKind → Text → ℕ → Fault
+  -- The grammar refuses the text of this name, or it nests too deep. No more is said of it.
+  refused : Text → Fault
+  -- the file of this name is no clip
+  input : Text → InputFault → Fault
+
+-- No definition gives Memory.
+abbrev pub kind_of : ValueFault → ScriptKind
+kind_of v.TypeFault = k.TypeFault
+kind_of v.Overflow = k.Overflow
+kind_of v.DivZero = k.DivZero
+kind_of v.BadText = k.BadText
+kind_of v.BadRange = k.BadRange
+kind_of v.TextLimit = k.TextLimit
+kind_of (v.AssertFailed message) = k.AssertFailed message
+kind_of v.Memory = k.TextLimit
+
+-- what a stop shows: this fault, or that memory ran out
+abbrev pub Shows : Fault → Stop → Type 0
+Shows fault (s.Fault kind name line) = fault ≡ script kind name line
+Shows fault (s.Refused name nests line) = fault ≡ refused name
+Shows fault (s.Input name why) = fault ≡ input name why
+Shows fault s.Read = ⊥
+Shows fault s.Memory = Unit {0}

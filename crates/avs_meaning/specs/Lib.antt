@@ -1,0 +1,16 @@
+pub mod Table
+pub mod Views
+pub mod Faults
+pub mod State
+pub mod Outside
+pub mod Calls
+pub mod ClipFunctions
+pub mod Filters
+pub mod Operators
+pub mod Unbuilt
+pub mod Texts
+pub mod Expressions
+pub mod Loops
+pub mod Statements
+pub mod Meaning
+pub mod Laws

@@ -1,0 +1,66 @@
+-- What a script means: a clip, or why there is none.
+use Rattle.std.specs.Prelude.{ℕ, zero, suc, List, [], Result, Ok, Err}
+use Rattle.avs_tree.specs.Tree.{Block}
+use Rattle.avs_values.specs.Values.{Text}
+use Rattle.avs_values.specs.declared.value.Value.{Value}
+use Rattle.avs_values.specs.declared.value.Value.TheVariants as v
+use Rattle.clip_graph.specs.Plan.{Application}
+use Rattle.avs_meaning.specs.Faults.{Fault, script}
+use Rattle.avs_meaning.specs.Outside.{Outside}
+use Rattle.avs_meaning.specs.State.{State, Outcome, Run, ◌>>=◌, fails, pure}
+use Rattle.avs_meaning.specs.Statements.{body_of}
+use Rattle.avs_meaning.specs.Texts.{load}
+use Rattle.avs_meaning.specs.declared.fault.FileKind.{FileKind}
+use Rattle.avs_meaning.specs.declared.fault.ScriptKind.TheVariants as k
+
+-- one call deeper, where n calls may nest
+unfoldable pub below : Outside → ℕ → Text → Block → Run Value
+below outside zero here body = fails k.CallDepth here 0
+below outside (suc n) here body = body_of outside n (below outside n) here body v.Undefined
+
+-- the statements of a text or a function, where n calls may nest
+abbrev pub run : Outside → ℕ → Text → Block → Run Value
+run outside n here body = body_of outside n (below outside n) here body v.Undefined
+
+abbrev pub call_limit : ℕ
+call_limit = 64
+
+abbrev pub step_limit : ℕ
+step_limit = 1000000
+
+abbrev pub start : State
+start = record { env = []; globals = []; functions = []; plan = []; opened = []; units = step_limit }
+
+abbrev pub clip_or_not : Text → ℕ → Value → Run ℕ
+clip_or_not here line (v.Clip i) = pure i
+clip_or_not here line _ = fails k.NotClip here line
+
+-- the statements of a whole script, whose value is a clip
+unfoldable pub to_clip : Outside → Text → Block → ℕ → Run ℕ
+to_clip outside here body line = run outside call_limit here body >>= clip_or_not here line
+
+-- a text as the script of this name: the place of its clip
+abbrev pub executed : Outside → Text → Text → Run ℕ
+executed outside here text =
+    load outside here text >>= (λ loaded. to_clip outside here loaded.tree.statements loaded.last_line)
+
+pub data Meaning : Type 0 where
+  -- the clip at a place of a plan
+  clip : List Application → ℕ → Meaning
+  wrong : Fault → Meaning
+
+abbrev pub meaning_by : Outcome ℕ → Meaning
+meaning_by (Ok ended) = clip ended.1.plan ended.0
+meaning_by (Err fault) = wrong fault
+
+-- a text as the script of this name
+abbrev pub text_meaning : Outside → Text → Text → Meaning
+text_meaning outside here text = meaning_by (executed outside here text start)
+
+abbrev pub script_meaning : Result Text FileKind → Outside → Text → Meaning
+script_meaning (Ok text) outside here = text_meaning outside here text
+script_meaning (Err kind) outside here = wrong (script (k.File kind) here 0)
+
+-- the script of this name
+abbrev pub meaning : Outside → Text → Meaning
+meaning outside name = script_meaning (outside.scripts name) outside name

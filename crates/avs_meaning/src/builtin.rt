@@ -1,0 +1,68 @@
+// The functions of the language that are built, by name.
+ghost use Rattle.std.specs.Prelude.{◌≡◌};
+ghost use Rattle.avs_meaning.specs.Table.{clip_fn_name, name_of};
+
+use avs_values::PlainFn;
+use clip_term::Filter;
+
+/// A function that tells what is known of a clip.
+#[derive(Clone, Copy, Debug, PartialEq, Eq)]
+pub enum ClipFn {
+    Width,
+    Height,
+    FrameCount,
+    FrameRateNumerator,
+    FrameRateDenominator,
+    IsY8,
+    IsYV12,
+    IsYV16,
+    IsYV24,
+    IsYV411,
+    PixelType,
+}
+
+impl ClipFn {
+    /// How the function is called in scripts, where case doesn't count.
+    pub fn name(self) -> &'static str
+        ensures { result.now ≡ clip_fn_name self }
+    {
+        match self {
+            ClipFn::Width => "Width",
+            ClipFn::Height => "Height",
+            ClipFn::FrameCount => "FrameCount",
+            ClipFn::FrameRateNumerator => "FrameRateNumerator",
+            ClipFn::FrameRateDenominator => "FrameRateDenominator",
+            ClipFn::IsY8 => "IsY8",
+            ClipFn::IsYV12 => "IsYV12",
+            ClipFn::IsYV16 => "IsYV16",
+            ClipFn::IsYV24 => "IsYV24",
+            ClipFn::IsYV411 => "IsYV411",
+            ClipFn::PixelType => "PixelType",
+        }
+    }
+}
+
+/// A built-in function.
+#[derive(Clone, Copy, Debug, PartialEq, Eq)]
+pub enum Builtin {
+    Plain(PlainFn),
+    Clip(ClipFn),
+    Eval,
+    Import,
+    Filter(Filter),
+}
+
+impl Builtin {
+    /// How the function is called in scripts, where case doesn't count.
+    pub fn name(self) -> &'static str
+        ensures { result.now ≡ name_of self }
+    {
+        match self {
+            Builtin::Plain(function) => function.name(),
+            Builtin::Clip(function) => function.name(),
+            Builtin::Eval => "Eval",
+            Builtin::Import => "Import",
+            Builtin::Filter(filter) => filter.name(),
+        }
+    }
+}

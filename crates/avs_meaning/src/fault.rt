@@ -1,0 +1,72 @@
+// Faults of scripts and of their inputs.
+use avs_lex::LexKind;
+use clip_term::FilterFault;
+use fv_io::Text;
+use y4m_stream::Y4mFault;
+
+/// Why a script can't be read from its file. The first of these that holds counts, in the order of the variants.
+#[derive(Clone, Copy, Debug, PartialEq, Eq)]
+pub enum FileKind {
+    /// There is no file of this name.
+    NotThere,
+    /// The file has more than 1,048,576 bytes.
+    ScriptTooLong,
+    /// The file is no UTF-8.
+    NotUtf8,
+}
+
+/// Why a file is no clip.
+#[derive(Clone, Copy, Debug, PartialEq, Eq)]
+pub enum InputFault {
+    /// There is no file of this name.
+    NotThere,
+    /// Its bytes are no YUV4MPEG2 stream.
+    Y4m(Y4mFault),
+}
+
+/// What is wrong at a line of a script.
+#[derive(Drop, Debug)]
+pub enum ScriptKind {
+    /// The text has no tokens.
+    Lex(LexKind),
+    /// A filter refuses its clips or its arguments.
+    Filter(FilterFault),
+    /// A script can't be read from its file.
+    File(FileKind),
+    /// A value is of another kind than the operator or the statement takes.
+    TypeFault,
+    /// A number is outside 32 bits.
+    Overflow,
+    /// A division by 0, or its remainder.
+    DivZero,
+    /// A text is not what the function reads.
+    BadText,
+    /// A number is outside its range.
+    BadRange,
+    /// A text has more than 1,048,576 bytes.
+    TextLimit,
+    /// The message of an `Assert` whose condition is false.
+    AssertFailed(Text),
+    /// The tokens are no script.
+    Syntax,
+    /// More than 32 parentheses, braces, unary operators and branches are open at once.
+    NestLimit,
+    /// A name that is no variable and no function.
+    UnknownName,
+    /// The arguments fit no signature of the function.
+    NoMatch,
+    /// The value of the script is no clip.
+    NotClip,
+    /// A function has the name of an earlier one.
+    DuplicateFunction,
+    /// More than 1,000,000 statements and turns of loops.
+    StepLimit,
+    /// More than 64 calls are nested.
+    CallDepth,
+    /// More than 4,096 filters.
+    NodeLimit,
+    /// More than 512 filters stand one on another.
+    DepthLimit,
+    /// A filter or a function that isn't built yet.
+    Unbuilt,
+}

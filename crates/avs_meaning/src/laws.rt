@@ -1,0 +1,20 @@
+// Laws of the definitions, each the contract of a function with an empty body.
+ghost use Rattle.avs_meaning.specs.Laws.{ClipsAreStreams, FiltersAreKnown, NamesDiffer};
+
+/// What a file of a world is as a clip is what its bytes are as a stream.
+#[tactic(auto, using(crate::proofs::StreamLemmas::clips_are_streams))]
+pub fn clips_are_streams()
+    ensures { ClipsAreStreams }
+{}
+
+/// No two built-in functions have the same name in any case.
+#[tactic(auto, using(crate::proofs::TableLemmas::names_differ))]
+pub fn names_differ()
+    ensures { NamesDiffer }
+{}
+
+/// Each filter is built, or its name is among those that aren't.
+#[tactic(auto, using(crate::proofs::FilterLemmas::filters_are_known))]
+pub fn filters_are_known()
+    ensures { FiltersAreKnown }
+{}

@@ -1,0 +1,26 @@
+//! What a script in the language of AviSynth+ means, as definitions, and the types that they share with an evaluator.
+//!
+//! `specs/Meaning.antt` gives each script its clip, or the first fault. It goes over the tree of the script
+//! (`specs/Expressions.antt`, `specs/Statements.antt`) with a state (`specs/State.antt`). What the outside tells, texts as
+//! trees among it, is a parameter (`specs/Outside.antt`). `Table` has the built-in functions of `specs/Table.antt`.
+#![tactic(auto)]
+
+mod builtin;
+mod fault;
+pub mod laws;
+mod state;
+mod stop;
+mod table;
+mod takes;
+mod unbuilt;
+
+pub use builtin::{Builtin, ClipFn};
+pub use fault::{FileKind, InputFault, ScriptKind};
+pub use state::{SourceClip, Variable};
+pub use stop::Stop;
+pub use table::{Row, Table};
+pub use takes::signatures;
+pub use unbuilt::is_unbuilt;
+
+#[cfg(test)]
+mod tests;
