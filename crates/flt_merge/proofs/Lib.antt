@@ -1,0 +1,5 @@
+pub mod WholePlaneLemmas
+pub mod RowLemmas
+pub mod StackLemmas
+pub mod JoinLemmas
+pub mod CallerLemmas

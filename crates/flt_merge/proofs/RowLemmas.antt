@@ -1,0 +1,80 @@
+-- Rows that are put are those that are listed.
+use Rattle.std.proofs.Common.{◌≡◌, ℕ, ◌<◌, ◌≤◌, List, length, get_or, refl, sym, ◌∙◌, ap, arith, Bool, true, false, if◌then◌else◌, ◌==◌, ◌/◌}
+use Rattle.std.specs.Simd.Lanes.{zip2}
+use Rattle.std.proofs.lemmas.List.{ext_get_or}
+use Rattle.std.proofs.lemmas.Simd.{length-zip2, get_or-zip2}
+use Rattle.fv_plane.specs.declared.format.PixelType.{PixelType}
+use Rattle.fv_plane.specs.declared.format.PixelType.TheVariants.{Y8, YV12, YV16, YV24, YV411}
+use Rattle.fv_plane.specs.declared.format.Shape.{Shape}
+use Rattle.fv_plane.specs.Format.{HasSamePlane, planes, sub_w, sub_h, plane_width, plane_height}
+use Rattle.fv_plane.specs.Picture.{Picture, IsPicture, row_of}
+use Rattle.fv_plane.specs.Look.{look_in}
+use Rattle.fv_plane.proofs.FillLemmas.{Lists, row_listed}
+use Rattle.fv_plane.proofs.CallerLemmas.{length-row}
+use Rattle.flt_merge.specs.Rows.{one_of_two, rows_of_two, look_of_two, one_of_three, rows_of_luma, look_of_luma, mean, rows_of_means, look_of_means}
+use Rattle.flt_merge.proofs.WholePlaneLemmas.{row_seen}
+
+-- PLANES
+
+pub some_planes : (kind : PixelType) → 0 < planes kind
+some_planes Y8 = omega arith
+some_planes YV12 = omega arith
+some_planes YV16 = omega arith
+some_planes YV24 = omega arith
+some_planes YV411 = omega arith
+
+-- a picture of the same shape has the same planes
+pub same_plane : (a b : Shape) (p : ℕ) → b ≡ a → HasSamePlane a p b p
+same_plane a b p same = rw same (record { width = refl; height = refl; largest = refl; bytes = refl })
+
+-- what is true of two pictures is true of the one that is chosen
+pub chosen : (P : Picture → Type 0) (first : Bool) (a b : Picture) → P a → P b → P (if first then a else b)
+chosen P true a b x y = x
+chosen P false a b x y = y
+
+pub two_listed : (luma chroma : Picture) → IsPicture luma → IsPicture chroma → chroma.shape ≡ luma.shape → Lists (rows_of_two luma chroma) luma.shape (look_of_two luma chroma)
+two_listed luma chroma a b same p z there inside =
+    let is = chosen (λ one. IsPicture one) (p == 0) luma chroma a b in
+    let shape : (one_of_two luma chroma p).shape ≡ luma.shape = chosen (λ one. one.shape ≡ luma.shape) (p == 0) luma chroma refl same in
+    row_seen (one_of_two luma chroma p) p (look_of_two luma chroma) p (plane_width luma.shape p) z is (rw shape there) (rw shape inside) (ap (λ (s : Shape). plane_width s p) shape) (λ x. refl)
+
+three_sizes : (size : Picture → ℕ) (first second : Bool) (y u v : Picture) (luma chroma : ℕ) → luma ≡ size y → chroma ≡ size u → chroma ≡ size v
+    → (if first then luma else chroma) ≡ size (if first then y else if second then u else v)
+three_sizes size true second y u v luma chroma a b d = a
+three_sizes size false true y u v luma chroma a b d = b
+three_sizes size false false y u v luma chroma a b d = d
+
+-- each plane has the size of the luma that it is
+pub three_same : (shape : Shape) (y u v : Picture) → HasSamePlane shape 0 y.shape 0 → HasSamePlane shape 1 u.shape 0 → HasSamePlane shape 2 v.shape 0 → (p : ℕ)
+    → HasSamePlane shape p (one_of_three y u v p).shape 0
+three_same shape y u v a b d p = record {
+  width = three_sizes (λ one. one.shape.width) (p == 0) (p == 1) y u v shape.width (shape.width / sub_w shape.kind) a.width b.width d.width;
+  height = three_sizes (λ one. one.shape.height) (p == 0) (p == 1) y u v shape.height (shape.height / sub_h shape.kind) a.height b.height d.height;
+  largest = refl;
+  bytes = refl;
+}
+
+three_pictures : (y u v : Picture) → IsPicture y → IsPicture u → IsPicture v → (p : ℕ) → IsPicture (one_of_three y u v p)
+three_pictures y u v a b d p = chosen (λ one. IsPicture one) (p == 0) y (if p == 1 then u else v) a (chosen (λ one. IsPicture one) (p == 1) u v b d)
+
+pub three_listed : (shape : Shape) (y u v : Picture) → IsPicture y → IsPicture u → IsPicture v → HasSamePlane shape 0 y.shape 0 → HasSamePlane shape 1 u.shape 0 → HasSamePlane shape 2 v.shape 0
+    → Lists (rows_of_luma y u v) shape (look_of_luma y u v)
+three_listed shape y u v is_y is_u is_v a b d p z there inside =
+    let same = three_same shape y u v a b d p in
+    row_seen (one_of_three y u v p) 0 (look_of_luma y u v) p (plane_width shape p) z (three_pictures y u v is_y is_u is_v p) (some_planes (one_of_three y u v p).shape.kind)
+    (let high = same.height in omega arith) (sym same.width) (λ x. refl)
+
+-- MEANS
+
+-- rows of equal length, sample by sample
+pub means_are : (a b out : List ℕ) → length a ≡ length out → length b ≡ length out → ((k : ℕ) → k < length out → get_or out k 0 ≡ mean (get_or a k 0) (get_or b k 0)) → out ≡ zip2 mean a b
+means_are a b out long_a long_b each =
+    ext_get_or 0 out (zip2 mean a b) (sym (length-zip2 mean a b (long_a ∙ sym long_b) ∙ long_a)) (λ i h. each i h ∙ sym (get_or-zip2 mean a b i 0 0 0 (omega arith) (omega arith)))
+
+pub means_listed : (a b : Picture) → IsPicture a → IsPicture b → b.shape ≡ a.shape → Lists (rows_of_means a b) a.shape (look_of_means a b)
+means_listed a b is_a is_b same p z there inside =
+    let long_a = length-row a p z is_a there inside in
+    let long_b : length (row_of b.planes p z) ≡ plane_width a.shape p = length-row b p z is_b (rw same there) (rw same inside) ∙ ap (λ (s : Shape). plane_width s p) same in
+    row_listed (rows_of_means a b p z) (look_of_means a b) p (plane_width a.shape p) z
+    (length-zip2 mean (row_of a.planes p z) (row_of b.planes p z) (long_a ∙ sym long_b) ∙ long_a)
+    (λ x within. get_or-zip2 mean (row_of a.planes p z) (row_of b.planes p z) x 0 0 0 (omega arith) (omega arith))

@@ -1,0 +1,30 @@
+use Rattle.std.proofs.Common.{rules, ◌≡◌, ◌∙◌, sym}
+use Rattle.std.specs.Simd.Lanes.{zip2}
+use Rattle.fv_plane.specs.Bytes.{bytes_of_row, row_of_bytes}
+use Rattle.fv_plane.proofs.FillLemmas.{filled_put, filled_plane, filled_done}
+use Rattle.flt_merge.specs.Rows.{mean, rows_of_means, look_of_means}
+use Rattle.flt_merge.proofs.RowLemmas.{means_listed}
+use Rattle.flt_merge.proofs.merge.merge.Goals as goal
+
+pub loop-y-preserved : goal.loop-y-preserved
+unfolding bytes_of_row row_of_bytes
+loop-y-preserved c =
+    let a = c.args.a.now in
+    let b = c.args.b.now in
+    let rows : rows_of_means a b c.loop-plane.plane c.loop-y.y ≡ zip2 mean c.row.result.now c.row-in-loop-y.result.now = rw (c.row.ensures.row, c.row-in-loop-y.ensures.row) in
+    record {
+      long = c.average.auto.out ∙ c.loop-y.invariant.long;
+      filled = filled_put (rows_of_means a b) c.shape-shape.result c.loop-y.made c.put_row.new.self c.loop-plane.plane c.loop-y.y c.average.new.out c.loop-y.invariant.filled
+          c.put_row.ensures.sizes c.put_row.ensures.shape c.put_row.ensures.rows (c.average.ensures ∙ sym rows) (search rules) (search rules);
+    }
+
+pub loop-plane-preserved : goal.loop-plane-preserved
+loop-plane-preserved c =
+    filled_plane (rows_of_means c.args.a.now c.args.b.now) c.shape-shape.result c.loop-y.made c.loop-plane.plane c.loop-y.y (search rules) c.loop-y.invariant.filled
+
+pub returns : goal.returns
+returns c =
+    let a = c.args.a.now in
+    let b = c.args.b.now in
+    rw (← filled_done (rows_of_means a b) a.shape c.loop-plane.made (look_of_means a b) c.loop-plane.plane 0 (search rules) (search rules) (search rules)
+    (means_listed a b c.shape-shape.ensures.sizes c.shape.ensures.sizes c.requires)) c.finish.ensures
