@@ -1,7 +1,16 @@
--- The rows that each maker puts, by plane and place.
-use Rattle.std.specs.Prelude.{ℕ, ◌-◌, List}
+-- The rows that makers put.
+use Rattle.std.specs.Prelude.{ℕ, ◌-◌, List, ◌++◌, length, replicate, take, drop}
 use Rattle.fv_plane.specs.Format.{plane_height}
 use Rattle.fv_plane.specs.Picture.{Picture, row_of}
 
+-- by plane and place
 abbrev pub rows_upside_down : Picture → ℕ → ℕ → List ℕ
 rows_upside_down input p z = row_of input.planes p (plane_height input.shape p - 1 - z)
+
+-- a row of this width that is another row between samples of one value
+abbrev pub padded : ℕ → ℕ → List ℕ → ℕ → List ℕ
+padded before value row width = replicate before value ++ (row ++ replicate (width - before - length row) value)
+
+-- a row whose first and last samples are of one value
+abbrev pub covered : ℕ → ℕ → ℕ → List ℕ → List ℕ
+covered left right value row = padded left value (take (length row - right - left) (drop left row)) (length row)

@@ -4,10 +4,18 @@
 //! (`clip_term/specs/Space.antt`). The one error is `AllocError`.
 #![tactic(auto)]
 
+mod adjust;
+mod borders;
 mod flip;
+mod kernels;
+mod rows;
+mod turn;
 
+pub use adjust::{greyscale, invert, limiter, swap_uv};
+pub use borders::{add_borders, letter_box};
 pub use clip_check::check_space;
-pub use flip::flip_vertical;
+pub use flip::{flip_horizontal, flip_vertical, turn_180};
+pub use turn::{turn_left, turn_right};
 
 #[cfg(test)]
 mod tests;

@@ -1,0 +1,35 @@
+-- Planes that a filter keeps.
+use Rattle.std.proofs.Common.{◌≡◌, ℕ, Bool, true, false, refl}
+use Rattle.std.specs.Prelude.{◌==◌, if◌then◌else◌, not}
+use Rattle.fv_plane.specs.declared.format.Shape.{Shape}
+use Rattle.fv_plane.specs.Look.{Look}
+use Rattle.clip_term.specs.declared.op.SpaceOp.{SpaceOp}
+use Rattle.clip_term.specs.declared.op.SpaceOp.TheVariants as op
+use Rattle.clip_term.specs.Space.{space_at, space_shape, is_among}
+use Rattle.flt_space.specs.Kept.{keeps_plane}
+
+pub first_of : {A : Type 0} (test : Bool) (a b : A) → test ≡ true → (if test then a else b) ≡ a
+first_of true a b e = refl
+first_of false a b e = cc
+
+pub second_of : {A : Type 0} (test : Bool) (a b : A) → test ≡ false → (if test then a else b) ≡ b
+second_of true a b e = cc
+second_of false a b e = refl
+
+pub negated : (test other : Bool) → not test ≡ not other → test ≡ other
+negated true true e = refl
+negated false false e = refl
+negated true false e = cc
+negated false true e = cc
+
+-- the size stays
+pub kept_shape : (filter : SpaceOp) (shape : Shape) (p : ℕ) → keeps_plane filter p ≡ true → space_shape filter shape ≡ shape
+kept_shape op.Greyscale shape p e = refl
+kept_shape (op.Invert channels) shape p e = refl
+kept_shape _ shape p e = cc
+
+-- and so do the samples
+pub kept_samples : (filter : SpaceOp) (shape : Shape) (p : ℕ) → keeps_plane filter p ≡ true → (from : Look) (x y : ℕ) → space_at filter shape from p x y ≡ from p x y
+kept_samples op.Greyscale shape p e from x y = first_of (p == 0) (from p x y) _ e
+kept_samples (op.Invert channels) shape p e from x y = second_of (is_among channels p) _ (from p x y) (negated (is_among channels p) false e)
+kept_samples _ shape p e from x y = cc

@@ -1,0 +1,17 @@
+use Rattle.std.proofs.Common.{rules, ◌≡◌, ◌∙◌, sym, length, true, refl}
+use Rattle.fv_plane.specs.Bytes.{bytes_of_row}
+use Rattle.fv_plane.specs.Look.{look_in}
+use Rattle.fv_plane.proofs.FillLemmas.{row_listed}
+use Rattle.clip_term.specs.declared.op.SpaceOp.TheVariants as op
+use Rattle.clip_term.specs.Space.{space_at, is_among}
+use Rattle.flt_space.proofs.KeptLemmas.{first_of, negated}
+use Rattle.flt_space.proofs.adjust.InvertRowsRowFilter.fill_row.Goals as goal
+
+pub returns : goal.returns
+unfolding bytes_of_row
+returns c =
+    let channels = c.args.self.now.channels in
+    let input = c.args.input.now in
+    let named : is_among channels c.args.plane ≡ true = negated (is_among channels c.args.plane) true c.requires.changed in
+    row_listed c.invert_row.new.out (space_at (op.Invert channels) input.shape (look_in input)) c.args.plane (length c.args.out.now) c.args.y (search rules)
+    (λ x within. c.invert_row.ensures x (search rules) ∙ rw (c.row.ensures.row, named) refl)

@@ -1,0 +1,57 @@
+use Rattle.std.proofs.Common.{rules, ◌≡◌, ◌<◌, ◌∙◌, true, length, refl, ap, arith}
+use Rattle.fv_plane.specs.declared.format.Shape.{Shape}
+use Rattle.fv_plane.specs.Bytes.{row_of_bytes}
+use Rattle.fv_plane.specs.Format.{planes, plane_width, plane_height}
+use Rattle.fv_plane.specs.Look.{look_in}
+use Rattle.fv_plane.specs.Picture.{Picture}
+use Rattle.fv_plane.proofs.FillLemmas.{filled_put, filled_plane, filled_done}
+use Rattle.clip_term.specs.Space.{space_at}
+use Rattle.flt_space.specs.Kept.{keeps_plane}
+use Rattle.flt_space.proofs.WholePlaneLemmas.{rows_listed, filled_whole, row_shown}
+use Rattle.flt_space.proofs.KeptLemmas.{kept_shape, kept_samples}
+use Rattle.flt_space.proofs.rows.make_by_rows.Goals as goal
+
+pub put_plane-requires-clause-same : goal.put_plane-requires-clause-same
+put_plane-requires-clause-same g c =
+    let keeps : keeps_plane (g.F.RowFilter.op c.args.filter.now) c.loop-plane.plane ≡ true = search rules in
+    let same : c.loop-plane.made.shape ≡ c.args.input.now.shape = c.loop-plane.invariant.same ∙ c.requires.shape ∙ kept_shape (g.F.RowFilter.op c.args.filter.now) c.args.input.now.shape c.loop-plane.plane keeps in
+    rw same (record { width = refl; height = refl; largest = refl; bytes = refl })
+
+pub loop-plane-preserved-then-keeps_plane : goal.loop-plane-preserved-then-keeps_plane
+loop-plane-preserved-then-keeps_plane g c =
+    let filter = g.F.RowFilter.op c.args.filter.now in
+    let input = c.args.input.now in
+    let keeps : keeps_plane filter c.loop-plane.plane ≡ true = search rules in
+    let same : c.args.shape ≡ input.shape = c.requires.shape ∙ kept_shape filter input.shape c.loop-plane.plane keeps in
+    let there : c.loop-plane.plane < planes c.args.shape.kind = search rules in
+    let at = space_at filter input.shape (look_in input) in
+    filled_whole (rows_listed c.args.shape at) c.args.shape c.loop-plane.made c.put_plane.new.self c.loop-plane.plane _ c.loop-plane.invariant
+    c.in_ok-put_plane.ensures.sizes c.in_ok-put_plane.ensures.shape c.in_ok-put_plane.ensures.put there
+    (λ z inside. row_shown input c.shape.ensures.sizes at c.loop-plane.plane c.loop-plane.plane (plane_width c.args.shape c.loop-plane.plane) z
+    (omega (arith, there, ap (λ (s : Shape). planes s.kind) same)) (omega (arith, inside, ap (λ (s : Shape). plane_height s c.loop-plane.plane) same))
+    (ap (λ (s : Shape). plane_width s c.loop-plane.plane) same) (λ x. kept_samples filter input.shape c.loop-plane.plane keeps (look_in input) x z))
+
+pub fill_row-requires-clause-plane : goal.fill_row-requires-clause-plane
+fill_row-requires-clause-plane g c =
+    let there : c.loop-plane.plane < planes c.args.shape.kind = search rules in
+    rw (← c.requires.shape) there
+
+pub loop-y-preserved : goal.loop-y-preserved
+unfolding row_of_bytes
+loop-y-preserved g c =
+    let at = space_at (g.F.RowFilter.op c.args.filter.now) c.args.input.now.shape (look_in c.args.input.now) in
+    let row : c.fill_row.new.out ≡ rows_listed c.args.shape at c.loop-plane.plane c.loop-y.y = rw (← c.loop-y.invariant.0) c.fill_row.ensures in (
+      search rules,
+      filled_put (rows_listed c.args.shape at) c.args.shape c.loop-y.made c.put_row.new.self c.loop-plane.plane c.loop-y.y c.fill_row.new.out c.loop-y.invariant.1
+          c.put_row.ensures.sizes c.put_row.ensures.shape c.put_row.ensures.rows row (search rules) (search rules),
+    )
+
+pub loop-plane-preserved : goal.loop-plane-preserved
+loop-plane-preserved g c =
+    filled_plane (rows_listed c.args.shape (space_at (g.F.RowFilter.op c.args.filter.now) c.args.input.now.shape (look_in c.args.input.now))) c.args.shape c.loop-y.made c.loop-plane.plane c.loop-y.y
+    (search rules) c.loop-y.invariant.1
+
+pub returns : goal.returns
+returns g c =
+    let at = space_at (g.F.RowFilter.op c.args.filter.now) c.args.input.now.shape (look_in c.args.input.now) in
+    rw (← c.requires.shape, ← filled_done (rows_listed c.args.shape at) c.args.shape c.loop-plane.made at c.loop-plane.plane 0 (search rules) (search rules) (search rules) (λ p z there inside. refl)) c.finish.ensures

@@ -1,0 +1,56 @@
+// What is done to the samples of a row. Plain loops over slices, which the compiler turns into vector instructions.
+ghost use Rattle.std.specs.Prelude.{◌≡◌, ◌-◌, ◌+◌, ◌≤◌, EachIndex, length, slice_index};
+ghost use Rattle.clip_term.specs.Space.{limited};
+ghost use Rattle.flt_space.specs.Rows.{padded, covered};
+
+/// The complement of each sample.
+pub fn invert_row(row: &[u8], out: &mut [u8])
+    requires { length row.now ≡ length out.old }
+    ensures { EachIndex out.new (λ x. slice_index out.new x ≡ 255 - slice_index row.now x) }
+{
+    for x in 0..out.len() {
+        out[x] = 255 - row[x];
+    }
+}
+
+/// Each sample, brought into bounds.
+pub fn limit_row(row: &[u8], low: u8, high: u8, out: &mut [u8])
+    requires { length row.now ≡ length out.old }
+    ensures { EachIndex out.new (λ x. slice_index out.new x ≡ limited low high (slice_index row.now x)) }
+{
+    for x in 0..out.len() {
+        out[x] = row[x].max(low).min(high);
+    }
+}
+
+/// The samples from right to left.
+pub fn reverse_row(row: &[u8], out: &mut [u8])
+    requires { length row.now ≡ length out.old }
+    ensures { EachIndex out.new (λ x. slice_index out.new x ≡ slice_index row.now (length row.now - 1 - x)) }
+{
+    let width = out.len();
+    for x in 0..width {
+        out[x] = row[width - 1 - x];
+    }
+}
+
+/// The row after `before` samples of one value, and samples of that value after it.
+pub fn pad_row(row: &[u8], before: usize, value: u8, out: &mut [u8])
+    requires { before + length row.now ≤ length out.old }
+    ensures { out.new ≡ padded before value row.now (length out.old) }
+{
+    let (start, rest) = out.split_at_mut(before);
+    let (middle, end) = rest.split_at_mut(row.len());
+    start.fill(value);
+    middle.copy_from_slice(row);
+    end.fill(value);
+}
+
+/// The row with its edges covered by one value.
+pub fn cover_row(row: &[u8], left: usize, right: usize, value: u8, out: &mut [u8])
+    requires inside { left + right ≤ length row.now }
+    requires same { length out.old ≡ length row.now }
+    ensures { out.new ≡ covered left right value row.now }
+{
+    pad_row(&row[left..row.len() - right], left, value, out);
+}

@@ -1,0 +1,59 @@
+// Filters that make each row of a picture by itself.
+ghost use Rattle.std.specs.Prelude.{◌≡◌, ◌<◌, IfOk, None, false, length};
+ghost use Rattle.fv_plane.specs.Format.{IsLegal, planes, plane_width, plane_height};
+ghost use Rattle.fv_plane.specs.Look.{look_in, row_from};
+ghost use Rattle.fv_plane.specs.Refusals.{first_fault};
+ghost use Rattle.clip_term.specs.declared.op.SpaceOp.{SpaceOp};
+ghost use Rattle.clip_term.specs.Space.{space_at, space_shape, space_picture, space_refusals};
+ghost use Rattle.flt_space.specs.Kept.{keeps_plane};
+
+use fv_plane::{Frame, FrameBuilder, Shape};
+use std::alloc::{AllocError, Global};
+
+/// A filter that makes a row from the rows of the input.
+pub trait RowFilter {
+    /// The filter with its arguments.
+    ghost op: { Self → SpaceOp };
+
+    /// Whether a plane of the result is that plane of the input.
+    fn keeps_plane(&self, plane: u32) -> bool
+        ensures { result ≡ keeps_plane (op self.now) plane };
+
+    /// Writes a row of a plane that isn't kept.
+    fn fill_row(&self, input: &Frame, plane: u32, y: u32, out: &mut [u8])
+        requires accepted { first_fault (space_refusals (op self.now) input.now.shape) ≡ None }
+        requires changed { keeps_plane (op self.now) plane ≡ false }
+        requires plane { plane < planes (space_shape (op self.now) input.now.shape).kind }
+        requires inside { y < plane_height (space_shape (op self.now) input.now.shape) plane }
+        requires whole { length out.old ≡ plane_width (space_shape (op self.now) input.now.shape) plane }
+        ensures { out.new ≡ row_from (space_at (op self.now) input.now.shape (look_in input.now)) plane (length out.old) y };
+}
+
+/// The picture of this shape that a filter makes.
+pub fn make_by_rows<F: RowFilter>(
+    alloc: Global,
+    filter: &F,
+    input: &Frame,
+    shape: Shape,
+) -> Result<Frame, AllocError>
+    requires accepted { first_fault (space_refusals (F.op filter.now) input.now.shape) ≡ None }
+    requires shape { shape ≡ space_shape (F.op filter.now) input.now.shape }
+    requires legal { IsLegal shape }
+    ensures { IfOk result (λ made. made ≡ space_picture (F.op filter.now) input.now) }
+{
+    let _ = input.shape();
+    let mut made = FrameBuilder::new(alloc, shape)?;
+    for plane in 0..shape.kind.planes() {
+        if filter.keeps_plane(plane) {
+            made.put_plane(plane, input, plane)?;
+            continue;
+        }
+        let mut buffer = vec![in alloc; 0u8; shape.row_bytes(plane) as usize]?;
+        let row = buffer.as_mut_slice();
+        for y in 0..shape.plane_height(plane) {
+            filter.fill_row(input, plane, y, row);
+            made.put_row(plane, y, row);
+        }
+    }
+    made.finish()
+}
