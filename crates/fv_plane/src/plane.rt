@@ -2,7 +2,7 @@
 ghost use Rattle.std.specs.Prelude.{◌≡◌, ◌<◌, ◌≤◌, ◌*◌, ◌+◌, ◌-◌, IfOk};
 ghost use Rattle.std.specs.Prelude.{[], length, slice_index_or, take, drop};
 ghost use Rattle.std.specs.Arc.{arc_value};
-ghost use Rattle.fv_plane.specs.Rows.{flat_rows, rows_of};
+ghost use Rattle.fv_plane.specs.Rows.{flat_rows, rows_of, rows_part, width_of};
 
 use std::alloc::AllocError;
 use std::marker::Model;
@@ -110,6 +110,30 @@ impl Plane {
             stride: self.stride,
             width: self.width,
             height: self.height,
+        })
+    }
+
+    /// The part of `width` bytes of `height` rows, from byte `x` of row `y` on, over the same bytes.
+    pub fn window(
+        &self,
+        x: usize,
+        y: usize,
+        width: usize,
+        height: usize,
+    ) -> Result<Plane, AllocError>
+        requires some { 0 < height }
+        requires across { x + width ≤ width_of self.now }
+        requires down { y + height ≤ length self.now }
+        ensures { IfOk result (λ plane. plane ≡ rows_part self.now x y width height) }
+    {
+        // The part lies inside the bytes, whose number fits, so its offset fits too.
+        let _ = self.bytes.len();
+        Ok(Plane {
+            bytes: Arc::try_clone(&self.bytes)?,
+            offset: self.offset + y * self.stride + x,
+            stride: self.stride,
+            width,
+            height,
         })
     }
 
