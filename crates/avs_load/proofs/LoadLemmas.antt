@@ -12,7 +12,8 @@ use Rattle.avs_parse.specs.ParsingScript.{script}
 use Rattle.avs_parse.proofs.CallerLemmas.{one_tree}
 use Rattle.avs_parse.proofs.ParseLemmas.{has_tree, no_tree}
 use Rattle.avs_load.specs.TokensOf.{Reading, tokens_of}
-use Rattle.avs_load.specs.Load.{Loaded, NoTree, lexical, refused, last_line, tree_by, script_by, script_of}
+use Rattle.avs_tree.specs.Loaded.{Loaded, NoTree, lexical, refused}
+use Rattle.avs_load.specs.Load.{last_line, tree_by, script_by, script_of}
 use Rattle.avs_load.specs.Laws.{HasScript, HasNoScript, ScriptIsFound, FirstFaultIsTold, RefusalIsTold}
 use Rattle.avs_load.proofs.TokenLemmas.{Has, reading_has, tokens_are, fault_is}
 

@@ -5,10 +5,11 @@ use Rattle.avs_lex.specs.declared.token.Token.{Token}
 use Rattle.avs_lex.specs.Characters.{Text}
 use Rattle.avs_lex.specs.Tokens.{Tokens, LexFault}
 use Rattle.avs_tree.specs.Lexeme.{lexemes}
+use Rattle.avs_tree.specs.Loaded.{Loaded, lexical, refused}
 use Rattle.avs_tree.specs.Tree.{Script}
 use Rattle.avs_tree.specs.Script.{HasTree}
 use Rattle.avs_load.specs.TokensOf.{tokens_of}
-use Rattle.avs_load.specs.Load.{Loaded, lexical, refused, last_line, script_of}
+use Rattle.avs_load.specs.Load.{last_line, script_of}
 
 -- ---- tokens
 

@@ -1,24 +1,14 @@
 -- The tree of a text as a function of it.
 use Rattle.std.specs.Prelude.{ℕ, ◌-◌, List, length, slice_get, Option, Some, None, Result, Ok, Err}
-use Rattle.avs_lex.specs.declared.fault.LexKind.{LexKind}
 use Rattle.avs_lex.specs.declared.token.Token.{Token}
 use Rattle.avs_lex.specs.Characters.{Text}
 use Rattle.avs_tree.specs.Lexeme.{lexemes}
+use Rattle.avs_tree.specs.Loaded.{Loaded, NoTree, lexical, refused}
 use Rattle.avs_tree.specs.Tree.{Script}
 use Rattle.avs_tree.specs.Script.{nesting_limit}
 use Rattle.avs_parse.specs.Parsing.{Outcome}
 use Rattle.avs_parse.specs.ParsingScript.{script}
 use Rattle.avs_load.specs.TokensOf.{Reading, tokens_of}
-
--- a tree, and the line of the end of its script
-pub record Loaded : Type 0 where
-  pub tree : Script
-  pub last_line : ℕ
-
--- Why a text has no tree. Where the grammar refuses it, no place is said.
-pub data NoTree : Type 0 where
-  lexical : LexKind → ℕ → NoTree
-  refused : NoTree
 
 abbrev pub line_of : Option Token → ℕ
 line_of None = 0

@@ -5,7 +5,8 @@ use Rattle.avs_tree.specs.declared.tree.Operator.{Operator}
 use Rattle.avs_values.specs.Values.{Text}
 use Rattle.clip_graph.specs.Plan.{application_at}
 use Rattle.avs_meaning.specs.Meaning.{Meaning, clip, wrong, text_meaning}
-use Rattle.avs_meaning.specs.Outside.{Outside, Loaded, NoTree}
+use Rattle.avs_tree.specs.Loaded.{Loaded, NoTree}
+use Rattle.avs_meaning.specs.Outside.{Outside}
 use Rattle.avs_meaning.specs.declared.fault.FileKind.TheVariants as f
 use Rattle.avs_meaning.specs.declared.fault.InputFault.TheVariants as i
 

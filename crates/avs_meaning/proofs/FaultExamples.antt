@@ -10,7 +10,7 @@ use Rattle.fv_plane.specs.Rate.{gcd}
 use Rattle.avs_meaning.specs.Faults.{script, input}
 use Rattle.avs_meaning.specs.Faults as fault
 use Rattle.avs_meaning.specs.Meaning.{wrong, to_clip, below, meaning, text_meaning}
-use Rattle.avs_meaning.specs.Outside.{refused}
+use Rattle.avs_tree.specs.Loaded.{refused}
 use Rattle.avs_meaning.specs.Table.{builtins, builtin_of}
 use Rattle.avs_meaning.specs.Unbuilt.{is_unbuilt}
 use Rattle.avs_meaning.specs.declared.fault.FileKind.TheVariants as file

@@ -1,6 +1,7 @@
 pub mod Table
 pub mod Views
 pub mod Faults
+pub mod FaultNames
 pub mod State
 pub mod Outside
 pub mod Calls

@@ -6,6 +6,7 @@ use Rattle.avs_values.specs.declared.value.Value.{Value}
 use Rattle.avs_values.specs.declared.value.Value.TheVariants as v
 use Rattle.clip_graph.specs.Plan.{Application}
 use Rattle.avs_meaning.specs.Faults.{Fault, script}
+use Rattle.avs_meaning.specs.Filters.{info_of}
 use Rattle.avs_meaning.specs.Outside.{Outside}
 use Rattle.avs_meaning.specs.State.{State, Outcome, Run, ◌>>=◌, fails, pure}
 use Rattle.avs_meaning.specs.Statements.{body_of}
@@ -31,8 +32,9 @@ step_limit = 1000000
 abbrev pub start : State
 start = record { env = []; globals = []; functions = []; plan = []; opened = []; units = step_limit }
 
+-- the place of a clip, which must be there
 abbrev pub clip_or_not : Text → ℕ → Value → Run ℕ
-clip_or_not here line (v.Clip i) = pure i
+clip_or_not here line (v.Clip i) = info_of here i line >>= (λ info. pure i)
 clip_or_not here line _ = fails k.NotClip here line
 
 -- the statements of a whole script, whose value is a clip

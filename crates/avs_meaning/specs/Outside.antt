@@ -8,24 +8,13 @@ use Rattle.fv_plane.specs.declared.format.Info.{Info}
 use Rattle.y4m_stream.specs.Stream.{is_newline, head_fault, head_info, fault_after, size_of, body}
 use Rattle.y4m_stream.specs.declared.fault.Y4mFault.{Y4mFault}
 use Rattle.y4m_stream.specs.declared.fault.Y4mFault.TheVariants.{NoFrames}
-use Rattle.avs_lex.specs.declared.fault.LexKind.{LexKind}
-use Rattle.avs_tree.specs.Tree.{Script}
+use Rattle.avs_tree.specs.Loaded.{Loaded, NoTree}
 use Rattle.avs_values.specs.Outcome.{text_limit}
 use Rattle.avs_values.specs.Values.{Text}
 use Rattle.avs_meaning.specs.declared.fault.FileKind.{FileKind}
 use Rattle.avs_meaning.specs.declared.fault.FileKind.TheVariants as f
 use Rattle.avs_meaning.specs.declared.fault.InputFault.{InputFault}
 use Rattle.avs_meaning.specs.declared.fault.InputFault.TheVariants as i
-
--- a tree, and the line of the end of its script
-pub record Loaded : Type 0 where
-  pub tree : Script
-  pub last_line : ℕ
-
--- Why a text has no tree. Where the grammar refuses it, no place is said.
-pub data NoTree : Type 0 where
-  lexical : LexKind → ℕ → NoTree
-  refused : NoTree
 
 pub record Outside : Type 0 where
   pub trees : Text → Result Loaded NoTree

@@ -79,7 +79,8 @@ lookup name (x ∷ env) = if same name x.name then Some x.value else lookup name
 -- a variable is replaced in its place, and a new one is put at the end
 abbrev pub with : Text → Value → Env → Env
 with name value [] = record { name = name; value = value } ∷ []
-with name value (x ∷ env) = if same name x.name then record x { value = value } ∷ env else x ∷ with name value env
+with name value (x ∷ env) =
+    if same name x.name then record { name = name; value = value } ∷ env else x ∷ with name value env
 
 abbrev pub or_else : Option Value → Option Value → Option Value
 or_else (Some x) other = Some x

@@ -1,10 +1,11 @@
 -- A text that is to be executed: its tree, and what is done before its first statement.
 use Rattle.std.specs.Prelude.{ℕ, nat_le, length, Option, Some, None, Result, Ok, Err, if◌then◌else◌}
+use Rattle.avs_tree.specs.Loaded.{Loaded, NoTree, lexical, refused}
 use Rattle.avs_values.specs.Outcome.{text_limit}
 use Rattle.avs_values.specs.Values.{Text}
 use Rattle.avs_meaning.specs.Faults.{Fault, script}
 use Rattle.avs_meaning.specs.Faults as fault
-use Rattle.avs_meaning.specs.Outside.{Outside, Loaded, NoTree, lexical, refused}
+use Rattle.avs_meaning.specs.Outside.{Outside}
 use Rattle.avs_meaning.specs.State.{Run, ◌>>◌, pure, fails, define_all}
 use Rattle.avs_meaning.specs.Unbuilt.{first_unbuilt}
 use Rattle.avs_meaning.specs.declared.fault.ScriptKind.TheVariants as k

@@ -15,6 +15,22 @@ pub enum FileKind {
     NotUtf8,
 }
 
+impl FileKind {
+    ghost use Rattle.std.specs.Prelude.{◌≡◌};
+    ghost use Rattle.avs_meaning.specs.FaultNames.{file_kind_name};
+
+    /// The name of the fault as it is printed.
+    pub fn name(self) -> &'static str
+        ensures { result.now ≡ file_kind_name self }
+    {
+        match self {
+            FileKind::NotThere => "NotThere",
+            FileKind::ScriptTooLong => "ScriptTooLong",
+            FileKind::NotUtf8 => "NotUtf8",
+        }
+    }
+}
+
 /// Why a file is no clip.
 #[derive(Clone, Copy, Debug, PartialEq, Eq)]
 pub enum InputFault {
@@ -69,4 +85,38 @@ pub enum ScriptKind {
     DepthLimit,
     /// A filter or a function that isn't built yet.
     Unbuilt,
+}
+
+impl ScriptKind {
+    ghost use Rattle.std.specs.Prelude.{◌≡◌};
+    ghost use Rattle.avs_meaning.specs.FaultNames.{kind_name};
+
+    /// The name of the fault as it is printed, without the text of an `AssertFailed`.
+    pub fn name(&self) -> &'static str
+        ensures { result.now ≡ kind_name self.now }
+    {
+        match self {
+            ScriptKind::Lex(kind) => kind.name(),
+            ScriptKind::Filter(fault) => fault.name(),
+            ScriptKind::File(kind) => kind.name(),
+            ScriptKind::AssertFailed(_) => "AssertFailed",
+            ScriptKind::TypeFault => "TypeFault",
+            ScriptKind::Overflow => "Overflow",
+            ScriptKind::DivZero => "DivZero",
+            ScriptKind::BadText => "BadText",
+            ScriptKind::BadRange => "BadRange",
+            ScriptKind::TextLimit => "TextLimit",
+            ScriptKind::Syntax => "Syntax",
+            ScriptKind::NestLimit => "NestLimit",
+            ScriptKind::UnknownName => "UnknownName",
+            ScriptKind::NoMatch => "NoMatch",
+            ScriptKind::NotClip => "NotClip",
+            ScriptKind::DuplicateFunction => "DuplicateFunction",
+            ScriptKind::StepLimit => "StepLimit",
+            ScriptKind::CallDepth => "CallDepth",
+            ScriptKind::NodeLimit => "NodeLimit",
+            ScriptKind::DepthLimit => "DepthLimit",
+            ScriptKind::Unbuilt => "Unbuilt",
+        }
+    }
 }

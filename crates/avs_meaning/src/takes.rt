@@ -7,32 +7,7 @@ ghost use Rattle.avs_meaning.specs.Table as d;
 use crate::Builtin;
 use avs_values::{Kind, Param, Signature, signature};
 use clip_term::Filter;
-use fv_io::Text;
 use std::alloc::{AllocError, Global};
-
-fn required(alloc: Global, kind: Kind) -> Result<Param, AllocError>
-    ensures { IfOk result (λ made. made ≡ v.required kind) }
-{
-    let name = Text::from_str(alloc, "")?;
-    let optional = false;
-    Ok(Param {
-        name,
-        kind,
-        optional,
-    })
-}
-
-fn optional(alloc: Global, kind: Kind, name: &str) -> Result<Param, AllocError>
-    ensures { IfOk result (λ made. made ≡ v.optional kind name.now) }
-{
-    let name = Text::from_str(alloc, name)?;
-    let optional = true;
-    Ok(Param {
-        name,
-        kind,
-        optional,
-    })
-}
 
 // A signature without a rest.
 fn only(params: Vec<Param>) -> Signature
@@ -49,7 +24,7 @@ fn one(alloc: Global, kind: Kind) -> Result<Signature, AllocError>
     ensures { IfOk result (λ made. signature_view made ≡ d.one kind) }
 {
     let mut params = Vec::new(alloc);
-    params.push(required(alloc, kind)?)?;
+    params.push(Param::required(alloc, kind)?)?;
     Ok(only(params))
 }
 
@@ -58,8 +33,8 @@ fn clips(alloc: Global) -> Result<Signature, AllocError>
     ensures { IfOk result (λ made. signature_view made ≡ d.clips) }
 {
     let mut params = Vec::new(alloc);
-    params.push(required(alloc, Kind::Clip)?)?;
-    params.push(required(alloc, Kind::Clip)?)?;
+    params.push(Param::required(alloc, Kind::Clip)?)?;
+    params.push(Param::required(alloc, Kind::Clip)?)?;
     Ok(Signature {
         params,
         rest: Some(Kind::Clip),
@@ -72,13 +47,13 @@ fn blank_options(alloc: Global) -> Result<Vec<Param>, AllocError>
     ensures { IfOk result (λ made. made.items ≡ d.blank_options) }
 {
     let mut params = Vec::new(alloc);
-    params.push(optional(alloc, Kind::Int, "length")?)?;
-    params.push(optional(alloc, Kind::Int, "width")?)?;
-    params.push(optional(alloc, Kind::Int, "height")?)?;
-    params.push(optional(alloc, Kind::Text, "pixel_type")?)?;
-    params.push(optional(alloc, Kind::Int, "fps")?)?;
-    params.push(optional(alloc, Kind::Int, "fps_denominator")?)?;
-    params.push(optional(alloc, Kind::Int, "color_yuv")?)?;
+    params.push(Param::optional(alloc, Kind::Int, "length")?)?;
+    params.push(Param::optional(alloc, Kind::Int, "width")?)?;
+    params.push(Param::optional(alloc, Kind::Int, "height")?)?;
+    params.push(Param::optional(alloc, Kind::Text, "pixel_type")?)?;
+    params.push(Param::optional(alloc, Kind::Int, "fps")?)?;
+    params.push(Param::optional(alloc, Kind::Int, "fps_denominator")?)?;
+    params.push(Param::optional(alloc, Kind::Int, "color_yuv")?)?;
     Ok(params)
 }
 
@@ -86,7 +61,7 @@ fn blank(alloc: Global) -> Result<Signature, AllocError>
     ensures { IfOk result (λ made. signature_view made ≡ d.blank) }
 {
     let mut params = blank_options(alloc)?;
-    params.push(optional(alloc, Kind::Clip, "clip")?)?;
+    params.push(Param::optional(alloc, Kind::Clip, "clip")?)?;
     Ok(only(params))
 }
 
@@ -94,7 +69,7 @@ fn blank_like(alloc: Global) -> Result<Signature, AllocError>
     ensures { IfOk result (λ made. signature_view made ≡ d.blank_like) }
 {
     let mut params = blank_options(alloc)?;
-    params.insert(0, required(alloc, Kind::Clip)?)?;
+    params.insert(0, Param::required(alloc, Kind::Clip)?)?;
     Ok(only(params))
 }
 
@@ -102,11 +77,11 @@ fn trim(alloc: Global) -> Result<Signature, AllocError>
     ensures { IfOk result (λ made. signature_view made ≡ d.trim) }
 {
     let mut params = Vec::new(alloc);
-    params.push(required(alloc, Kind::Clip)?)?;
-    params.push(required(alloc, Kind::Int)?)?;
-    params.push(optional(alloc, Kind::Int, "last")?)?;
-    params.push(optional(alloc, Kind::Int, "length")?)?;
-    params.push(optional(alloc, Kind::Int, "end")?)?;
+    params.push(Param::required(alloc, Kind::Clip)?)?;
+    params.push(Param::required(alloc, Kind::Int)?)?;
+    params.push(Param::optional(alloc, Kind::Int, "last")?)?;
+    params.push(Param::optional(alloc, Kind::Int, "length")?)?;
+    params.push(Param::optional(alloc, Kind::Int, "end")?)?;
     Ok(only(params))
 }
 

@@ -4,3 +4,4 @@ pub mod Tree
 pub mod View
 pub mod Grammar
 pub mod Script
+pub mod Loaded

@@ -4,32 +4,7 @@ ghost use Rattle.avs_values.specs.Functions as s;
 ghost use Rattle.avs_values.specs.Views.{signature_view};
 
 use crate::{Kind, Param, PlainFn, Signature};
-use fv_io::Text;
 use std::alloc::{AllocError, Global};
-
-fn required(alloc: Global, kind: Kind) -> Result<Param, AllocError>
-    ensures { IfOk result (λ made. made ≡ s.required kind) }
-{
-    let name = Text::from_str(alloc, "")?;
-    let optional = false;
-    Ok(Param {
-        name,
-        kind,
-        optional,
-    })
-}
-
-fn optional(alloc: Global, kind: Kind, name: &str) -> Result<Param, AllocError>
-    ensures { IfOk result (λ made. made ≡ s.optional kind name.now) }
-{
-    let name = Text::from_str(alloc, name)?;
-    let optional = true;
-    Ok(Param {
-        name,
-        kind,
-        optional,
-    })
-}
 
 // Required parameters of these kinds.
 fn all_required(alloc: Global, kinds: &[Kind]) -> Result<Vec<Param>, AllocError>
@@ -37,7 +12,7 @@ fn all_required(alloc: Global, kinds: &[Kind]) -> Result<Vec<Param>, AllocError>
 {
     let mut params = Vec::new(alloc);
     for kind in kinds {
-        params.push(required(alloc, *kind)?)?;
+        params.push(Param::required(alloc, *kind)?)?;
     }
     Ok(params)
 }
@@ -64,7 +39,7 @@ fn takes_optional(
     ensures { IfOk result (λ made. signature_view made ≡ s.takes_optional kinds.now kind name.now) }
 {
     let mut made = takes(alloc, kinds, None)?;
-    made.params.push(optional(alloc, kind, name)?)?;
+    made.params.push(Param::optional(alloc, kind, name)?)?;
     Ok(made)
 }
 

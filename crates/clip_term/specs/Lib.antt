@@ -8,3 +8,4 @@ pub mod Texts
 pub mod Filters
 pub mod ClipTerm
 pub mod Terms
+pub mod FaultNames

@@ -28,3 +28,28 @@ pub enum FilterFault {
     /// A side over 65,535, or a frame over 16,777,216 bytes.
     TooLarge,
 }
+
+impl FilterFault {
+    ghost use Rattle.std.specs.Prelude.{◌≡◌};
+    ghost use Rattle.clip_term.specs.FaultNames.{filter_fault_name};
+
+    /// The name of the refusal as it is printed.
+    pub fn name(self) -> &'static str
+        ensures { result.now ≡ filter_fault_name self }
+    {
+        match self {
+            FilterFault::BadRange => "BadRange",
+            FilterFault::BadText => "BadText",
+            FilterFault::EmptyClip => "EmptyClip",
+            FilterFault::FormatDiffers => "FormatDiffers",
+            FilterFault::SizeDiffers => "SizeDiffers",
+            FilterFault::LengthLimit => "LengthLimit",
+            FilterFault::RateLimit => "RateLimit",
+            FilterFault::NotWholeChroma => "NotWholeChroma",
+            FilterFault::OutOfPicture => "OutOfPicture",
+            FilterFault::TurnFormat => "TurnFormat",
+            FilterFault::NeedsChroma => "NeedsChroma",
+            FilterFault::TooLarge => "TooLarge",
+        }
+    }
+}

@@ -47,7 +47,7 @@ pub enum Filter {
 }
 
 impl Filter {
-    ghost use Rattle.std.specs.Prelude.{◌≡◌};
+    ghost use Rattle.std.specs.Prelude.{◌≡◌, ◌≤◌, IfSome};
     ghost use Rattle.clip_term.specs.Filters.{name_of, declared_mode};
 
     /// The name in scripts, as it is written in reports.
@@ -104,7 +104,8 @@ impl Filter {
     /// The mode that the filter declares, if it does: 1, 2 or 3, for MT_NICE_FILTER, MT_MULTI_INSTANCE and
     /// MT_SERIALIZED.
     pub fn declared(self) -> Option<u8>
-        ensures { result ≡ declared_mode self }
+        ensures mode { result ≡ declared_mode self }
+        ensures range { IfSome result (λ mode. (1 ≤ mode) × (mode ≤ 3)) }
     {
         match self {
             Filter::Y4MSource => Some(3),
