@@ -4,10 +4,10 @@
 //! `Book` of the sources' frames. Each sample is made alone, so it is slow. The one error is `AllocError`.
 #![tactic(auto)]
 
-mod asked;
+pub mod asked;
 mod book;
 mod join;
-mod make;
+pub mod make;
 mod place;
 mod reference;
 mod soft;

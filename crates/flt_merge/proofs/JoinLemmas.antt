@@ -1,16 +1,13 @@
 -- What the makers rest on, from pictures that can be joined.
-use Rattle.std.proofs.Common.{◌≡◌, ℕ, zero, suc, ◌+◌, ◌*◌, ◌/◌, ◌<◌, ◌≤◌, List, [], ◌∷◌, length, get_or, map, refl, sym, ◌∙◌, ap, arith, Bool, true, false, if◌then◌else◌, ◌==◌, not, ◌||◌, All, Option, None, Ok, is_none, IsTrue, nat_le}
+use Rattle.std.proofs.Common.{◌≡◌, ℕ, zero, suc, ◌*◌, ◌/◌, List, [], ◌∷◌, length, get_or, refl, sym, ◌∙◌, ap, arith, Bool, true, false, if◌then◌else◌, ◌==◌, not, All, None, Ok, is_none}
 use Rattle.std.specs.Option.{unwrap_or}
 use Rattle.std.specs.List.{list_all}
-use Rattle.std.proofs.lemmas.List.{length-map}
-use Rattle.std.proofs.Math.ListN.{get_or-map}
-use Rattle.std.proofs.lemmas.Bool.Decides.{nat_tests}
 use Rattle.fv_plane.specs.declared.format.Info.{Info}
 use Rattle.fv_plane.specs.declared.format.PixelType.{PixelType}
 use Rattle.fv_plane.specs.declared.format.PixelType.TheVariants.{Y8, YV12, YV16, YV24, YV411}
 use Rattle.fv_plane.specs.declared.format.Shape.{Shape}
-use Rattle.fv_plane.specs.Format.{HasSamePlane, planes, sub_w, sub_h, plane_width, plane_height}
-use Rattle.fv_plane.specs.Picture.{Picture, IsPicture}
+use Rattle.fv_plane.specs.Format.{HasSamePlane, sub_w, sub_h}
+use Rattle.fv_plane.specs.Picture.{Picture}
 use Rattle.fv_plane.specs.Look.{Look, look_in, look_at, picture_from}
 use Rattle.fv_plane.specs.Refusals.{Refusals, first_fault}
 use Rattle.fv_plane.proofs.LookLemmas.{picture_same}
@@ -18,12 +15,11 @@ use Rattle.clip_term.specs.declared.fault.FilterFault.{FilterFault}
 use Rattle.clip_term.specs.declared.op.JoinOp.{JoinOp}
 use Rattle.clip_term.specs.declared.op.JoinOp.TheVariants as op
 use Rattle.clip_term.specs.Refusals.{info_at, no_info, unless, same_format, same_size}
-use Rattle.clip_term.specs.Join.{has_sizes, kind_of, join_refusals, join_shape, join_at}
-use Rattle.clip_term.specs.Terms.{no_picture}
+use Rattle.clip_term.specs.Join.{has_sizes, kind_of, join_refusals, join_at}
 use Rattle.clip_term.proofs.PassedLemmas.{Passed, passed, agreed, or_false, both, not_false, same_number, same_kind_is, all_at}
 use Rattle.clip_term.proofs.JoinLocal.{found, some_kind}
 use Rattle.flt_merge.specs.Joined.{infos_in, shape_joined, join_picture, CanJoin}
-use Rattle.flt_merge.specs.Rows.{look_of_two, look_of_luma, look_of_means, HaveWidth, HaveHeight}
+use Rattle.flt_merge.specs.Rows.{look_of_two, look_of_luma, HaveWidth, HaveHeight}
 
 -- INPUTS
 

@@ -1,4 +1,3 @@
-pub mod WholePlaneLemmas
 pub mod RowLemmas
 pub mod StackLemmas
 pub mod JoinLemmas

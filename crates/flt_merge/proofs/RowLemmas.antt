@@ -1,18 +1,17 @@
 -- Rows that are put are those that are listed.
-use Rattle.std.proofs.Common.{◌≡◌, ℕ, ◌<◌, ◌≤◌, List, length, get_or, refl, sym, ◌∙◌, ap, arith, Bool, true, false, if◌then◌else◌, ◌==◌, ◌/◌}
+use Rattle.std.proofs.Common.{◌≡◌, ℕ, ◌<◌, List, length, get_or, refl, sym, ◌∙◌, ap, arith, Bool, true, false, if◌then◌else◌, ◌==◌, ◌/◌}
 use Rattle.std.specs.Simd.Lanes.{zip2}
 use Rattle.std.proofs.lemmas.List.{ext_get_or}
 use Rattle.std.proofs.lemmas.Simd.{length-zip2, get_or-zip2}
 use Rattle.fv_plane.specs.declared.format.PixelType.{PixelType}
 use Rattle.fv_plane.specs.declared.format.PixelType.TheVariants.{Y8, YV12, YV16, YV24, YV411}
 use Rattle.fv_plane.specs.declared.format.Shape.{Shape}
-use Rattle.fv_plane.specs.Format.{HasSamePlane, planes, sub_w, sub_h, plane_width, plane_height}
+use Rattle.fv_plane.specs.Format.{HasSamePlane, planes, sub_w, sub_h, plane_width}
 use Rattle.fv_plane.specs.Picture.{Picture, IsPicture, row_of}
-use Rattle.fv_plane.specs.Look.{look_in}
 use Rattle.fv_plane.proofs.FillLemmas.{Lists, row_listed}
 use Rattle.fv_plane.proofs.CallerLemmas.{length-row}
 use Rattle.flt_merge.specs.Rows.{one_of_two, rows_of_two, look_of_two, one_of_three, rows_of_luma, look_of_luma, mean, rows_of_means, look_of_means}
-use Rattle.flt_merge.proofs.WholePlaneLemmas.{row_seen}
+use Rattle.fv_plane.proofs.WholePlaneLemmas.{row_seen}
 
 -- PLANES
 

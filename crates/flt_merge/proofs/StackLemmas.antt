@@ -1,5 +1,5 @@
 -- Pictures one after the other: the sizes of their planes together, and the samples in them.
-use Rattle.std.proofs.Common.{◌≡◌, ℕ, zero, suc, ◌+◌, ◌-◌, ◌*◌, ◌/◌, ◌%◌, ◌<◌, ◌≤◌, List, [], ◌∷◌, ◌++◌, length, get_or, take, map, refl, sym, ◌∙◌, ap, arith, inl, inr, Bool, true, false, if◌then◌else◌, ◌==◌, nat_lt, sum_by, All, flat_map, add-mul, mul-div_cancel, subst, append-nil, drop, get_or-take, get_or-drop, length-take-le, length-drop}
+use Rattle.std.proofs.Common.{◌≡◌, ℕ, suc, ◌+◌, ◌-◌, ◌*◌, ◌/◌, ◌%◌, ◌<◌, ◌≤◌, List, [], ◌∷◌, ◌++◌, length, get_or, take, map, refl, sym, ◌∙◌, ap, arith, inl, inr, Bool, true, false, if◌then◌else◌, ◌==◌, nat_lt, sum_by, All, flat_map, add-mul, mul-div_cancel, subst, append-nil, drop, get_or-take, get_or-drop, length-take-le, length-drop}
 use borrow.Rule.Slice.PartMut.{put_mid}
 use Rattle.std.proofs.lemmas.List.{get_or_append_left, get_or-append_right, length-append, take_more, get_or_read_under}
 use Rattle.std.proofs.lemmas.List.Concat.{length-flat_map, get_or-flat_map, flat_map-append}

@@ -1,5 +1,5 @@
 -- What a filter makes of a picture of each clip.
-use Rattle.std.specs.Prelude.{◌≡◌, ℕ, List, map, length, IsTrue, None}
+use Rattle.std.specs.Prelude.{◌≡◌, List, map, length, IsTrue, None}
 use Rattle.fv_plane.specs.declared.format.Info.{Info}
 use Rattle.fv_plane.specs.declared.format.Shape.{Shape}
 use Rattle.fv_plane.specs.Format.{IsLegal}

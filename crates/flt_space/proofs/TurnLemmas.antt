@@ -1,11 +1,10 @@
 -- Planes turned on their side.
-use Rattle.std.proofs.Common.{◌≡◌, ℕ, Bool, None, refl}
+use Rattle.std.proofs.Common.{◌≡◌, ℕ, None, refl}
 use Rattle.fv_plane.specs.declared.format.PixelType.{PixelType}
 use Rattle.fv_plane.specs.declared.format.PixelType.TheVariants.{Y8, YV12, YV16, YV24, YV411}
 use Rattle.fv_plane.specs.Format.{plane_width, plane_height}
 use Rattle.fv_plane.specs.Refusals.{first_fault}
 use Rattle.clip_term.specs.declared.op.SpaceOp.TheVariants.{TurnLeft}
-use Rattle.clip_term.specs.Refusals.{sized}
 use Rattle.clip_term.specs.Space.{space_refusals}
 
 -- the planes of a picture that may be turned have the same sides, exchanged

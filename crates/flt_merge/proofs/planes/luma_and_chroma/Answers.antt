@@ -2,7 +2,7 @@ use Rattle.std.proofs.Common.{rules, ap}
 use Rattle.fv_plane.specs.Picture.{Picture, row_of}
 use Rattle.fv_plane.proofs.FillLemmas.{filled_done}
 use Rattle.flt_merge.specs.Rows.{rows_of_two, look_of_two}
-use Rattle.flt_merge.proofs.WholePlaneLemmas.{filled_whole}
+use Rattle.fv_plane.proofs.WholePlaneLemmas.{filled_whole}
 use Rattle.flt_merge.proofs.RowLemmas.{two_listed}
 use Rattle.flt_merge.proofs.planes.luma_and_chroma.Goals as goal
 

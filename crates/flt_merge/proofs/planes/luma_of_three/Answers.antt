@@ -1,10 +1,8 @@
-use Rattle.std.proofs.Common.{rules, ap, subst, sym}
-use Rattle.fv_plane.specs.declared.format.Shape.{Shape}
-use Rattle.fv_plane.specs.Format.{HasSamePlane}
+use Rattle.std.proofs.Common.{rules, ap}
 use Rattle.fv_plane.specs.Picture.{Picture, row_of}
 use Rattle.fv_plane.proofs.FillLemmas.{filled_done}
 use Rattle.flt_merge.specs.Rows.{rows_of_luma, look_of_luma}
-use Rattle.flt_merge.proofs.WholePlaneLemmas.{filled_whole}
+use Rattle.fv_plane.proofs.WholePlaneLemmas.{filled_whole}
 use Rattle.flt_merge.proofs.RowLemmas.{three_same, three_listed}
 use Rattle.flt_merge.proofs.planes.luma_of_three.Goals as goal
 

@@ -1,4 +1,4 @@
-use Rattle.std.proofs.Common.{rules, arith, ◌≡◌, ◌≤◌, ◌∙◌, ◌++◌, ◌+◌, ◌-◌, sym, ap, take, length, length-append}
+use Rattle.std.proofs.Common.{arith, ◌≡◌, ◌≤◌, ◌∙◌, ◌++◌, ◌+◌, ◌-◌, ap, take, length, length-append}
 use Rattle.std.proofs.lemmas.Slice.{take-put_mid}
 use Rattle.fv_plane.specs.Picture.{row_of}
 use Rattle.fv_plane.specs.Bytes.{bytes_of_row}

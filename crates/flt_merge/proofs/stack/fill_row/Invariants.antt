@@ -1,4 +1,4 @@
-use Rattle.std.proofs.Common.{◌≡◌, ◌≤◌, length, take}
+use Rattle.std.proofs.Common.{◌≡◌, length, take}
 use Rattle.flt_merge.specs.Rows.{rows_beside}
 use Rattle.flt_merge.proofs.stack.fill_row.Given as goal
 

@@ -1,14 +1,13 @@
-use Rattle.std.proofs.Common.{rules, arith, ◌≡◌, ◌∙◌, sym, ap, length, map}
+use Rattle.std.proofs.Common.{rules, arith, ◌∙◌, map}
 use Rattle.fv_plane.specs.declared.format.Shape.{Shape}
-use Rattle.fv_plane.specs.Format.{planes, plane_width, plane_height}
 use Rattle.fv_plane.specs.Bytes.{row_of_bytes}
 use Rattle.fv_plane.specs.Look.{look_in}
 use Rattle.fv_plane.proofs.FillLemmas.{filled_put, filled_plane, filled_done}
 use Rattle.clip_term.specs.declared.op.JoinOp.TheVariants.{StackHorizontal}
 use Rattle.clip_term.specs.Join.{join_at}
-use Rattle.flt_merge.specs.Joined.{infos_in, shape_joined}
+use Rattle.flt_merge.specs.Joined.{infos_in}
 use Rattle.flt_merge.specs.Rows.{rows_beside}
-use Rattle.flt_merge.proofs.StackLemmas.{Beside, beside_by, row_of_all, beside_listed}
+use Rattle.flt_merge.proofs.StackLemmas.{beside_by, row_of_all, beside_listed}
 use Rattle.flt_merge.proofs.stack.stack_horizontal.Goals as goal
 
 pub fill_row-requires-clause-whole : goal.fill_row-requires-clause-whole

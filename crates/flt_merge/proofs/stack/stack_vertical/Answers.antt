@@ -1,8 +1,8 @@
-use Rattle.std.proofs.Common.{rules, arith, ◌≡◌, ◌+◌, ◌<◌, ◌≤◌, ◌∙◌, List, ℕ, [], sym, ap, length, map, get_or, take, refl, subst}
+use Rattle.std.proofs.Common.{arith, ◌≡◌, ◌+◌, ◌<◌, ◌≤◌, ◌∙◌, List, ℕ, [], sym, ap, length, map, get_or, take, refl, subst}
 use Rattle.std.proofs.lemmas.List.{take_all, get_or_read_under}
 use Rattle.fv_plane.specs.declared.format.Shape.{Shape}
 use Rattle.fv_plane.specs.Format.{planes, plane_width, plane_height}
-use Rattle.fv_plane.specs.Picture.{Picture, IsPicture}
+use Rattle.fv_plane.specs.Picture.{Picture}
 use Rattle.fv_plane.specs.Bytes.{rows_of_bytes}
 use Rattle.fv_plane.specs.Look.{look_in}
 use Rattle.fv_plane.proofs.FillLemmas.{Filled, filled_plane, filled_done}
@@ -11,7 +11,7 @@ use Rattle.clip_term.specs.declared.op.JoinOp.TheVariants.{StackVertical}
 use Rattle.clip_term.specs.Join.{join_at}
 use Rattle.flt_merge.specs.Joined.{infos_in, shape_joined}
 use Rattle.flt_merge.specs.Rows.{plane_of_all, rows_beneath}
-use Rattle.flt_merge.proofs.WholePlaneLemmas.{filled_rows, row_bytes_are}
+use Rattle.fv_plane.proofs.WholePlaneLemmas.{filled_rows, row_bytes_are}
 use Rattle.flt_merge.proofs.StackLemmas.{beneath_by, all_rows, beneath_listed, next_is, next_planes, next_width, next_ends, next_after, next_wanted}
 use Rattle.flt_merge.proofs.stack.stack_vertical.Goals as goal
 

@@ -1,4 +1,4 @@
-use Rattle.std.proofs.Common.{rules, arith}
+use Rattle.std.proofs.Common.{arith}
 use Rattle.fv_plane.specs.Picture.{Picture}
 use Rattle.flt_merge.proofs.StackLemmas.{total_more, sizes_more}
 use Rattle.flt_merge.proofs.stack.width_of_all.Goals as goal

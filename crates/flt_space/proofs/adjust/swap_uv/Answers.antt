@@ -1,11 +1,10 @@
-use Rattle.std.proofs.Common.{rules, ◌≡◌, ◌<◌, ◌∙◌, refl, sym, ap, arith}
-use Rattle.fv_plane.specs.declared.format.Shape.{Shape}
-use Rattle.fv_plane.specs.Format.{planes, plane_width, plane_height, HasSamePlane}
+use Rattle.std.proofs.Common.{rules, ◌<◌, refl, sym, arith}
+use Rattle.fv_plane.specs.Format.{planes, plane_width, HasSamePlane}
 use Rattle.fv_plane.specs.Look.{look_in}
 use Rattle.fv_plane.proofs.FillLemmas.{filled_start, filled_done}
 use Rattle.clip_term.specs.declared.op.SpaceOp.TheVariants.{SwapUV}
 use Rattle.clip_term.specs.Space.{space_at, swapped}
-use Rattle.flt_space.proofs.WholePlaneLemmas.{rows_listed, filled_whole, row_shown}
+use Rattle.fv_plane.proofs.WholePlaneLemmas.{rows_listed, filled_whole, row_seen}
 use Rattle.flt_space.proofs.SwapLemmas.{swapped_there, swapped_same}
 use Rattle.flt_space.proofs.adjust.swap_uv.Goals as goal
 
@@ -30,9 +29,9 @@ loop-plane-preserved c =
     let same : HasSamePlane input.shape p input.shape (swapped p) = swapped_same input.shape p there in
     let at = space_at SwapUV input.shape (look_in input) in
     filled_whole (rows_listed input.shape at) input.shape c.loop-plane.made c.put_plane.new.self p _ c.loop-plane.invariant
-    c.in_ok-put_plane.ensures.sizes c.in_ok-put_plane.ensures.shape c.in_ok-put_plane.ensures.put there
-    (λ z inside. rw c.swapped.ensures (row_shown input c.shape-shape.ensures.sizes at p (swapped p) (plane_width input.shape p) z
-    (swapped_there input.shape.kind p there) (omega (arith, inside, same.height)) same.width (λ x. refl)))
+    c.in_ok-put_plane.ensures.sizes c.in_ok-put_plane.ensures.shape c.in_ok-put_plane.ensures.put
+    (λ z inside. rw c.swapped.ensures (row_seen input (swapped p) at p (plane_width input.shape p) z c.shape-shape.ensures.sizes
+    (swapped_there input.shape.kind p there) (omega (arith, inside, same.height)) (sym same.width) (λ x. refl))) there
 
 pub returns : goal.returns
 returns c =

@@ -2,7 +2,7 @@ use Rattle.fv_plane.specs.Look.{look_in}
 use Rattle.fv_plane.proofs.FillLemmas.{Filled}
 use Rattle.clip_term.specs.declared.op.SpaceOp.TheVariants.{SwapUV}
 use Rattle.clip_term.specs.Space.{space_at}
-use Rattle.flt_space.proofs.WholePlaneLemmas.{rows_listed}
+use Rattle.fv_plane.proofs.WholePlaneLemmas.{rows_listed}
 use Rattle.flt_space.proofs.adjust.swap_uv.Given as goal
 
 abbrev pub invariant-loop-plane : goal.invariant-loop-plane

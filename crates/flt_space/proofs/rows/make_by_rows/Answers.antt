@@ -1,13 +1,12 @@
-use Rattle.std.proofs.Common.{rules, ◌≡◌, ◌<◌, ◌∙◌, true, length, refl, ap, arith}
+use Rattle.std.proofs.Common.{rules, ◌≡◌, ◌<◌, ◌∙◌, true, refl, ap, sym, arith}
 use Rattle.fv_plane.specs.declared.format.Shape.{Shape}
 use Rattle.fv_plane.specs.Bytes.{row_of_bytes}
 use Rattle.fv_plane.specs.Format.{planes, plane_width, plane_height}
 use Rattle.fv_plane.specs.Look.{look_in}
-use Rattle.fv_plane.specs.Picture.{Picture}
 use Rattle.fv_plane.proofs.FillLemmas.{filled_put, filled_plane, filled_done}
 use Rattle.clip_term.specs.Space.{space_at}
 use Rattle.flt_space.specs.Kept.{keeps_plane}
-use Rattle.flt_space.proofs.WholePlaneLemmas.{rows_listed, filled_whole, row_shown}
+use Rattle.fv_plane.proofs.WholePlaneLemmas.{rows_listed, filled_whole, row_seen}
 use Rattle.flt_space.proofs.KeptLemmas.{kept_shape, kept_samples}
 use Rattle.flt_space.proofs.rows.make_by_rows.Goals as goal
 
@@ -26,10 +25,10 @@ loop-plane-preserved-then-keeps_plane g c =
     let there : c.loop-plane.plane < planes c.args.shape.kind = search rules in
     let at = space_at filter input.shape (look_in input) in
     filled_whole (rows_listed c.args.shape at) c.args.shape c.loop-plane.made c.put_plane.new.self c.loop-plane.plane _ c.loop-plane.invariant
-    c.in_ok-put_plane.ensures.sizes c.in_ok-put_plane.ensures.shape c.in_ok-put_plane.ensures.put there
-    (λ z inside. row_shown input c.shape.ensures.sizes at c.loop-plane.plane c.loop-plane.plane (plane_width c.args.shape c.loop-plane.plane) z
+    c.in_ok-put_plane.ensures.sizes c.in_ok-put_plane.ensures.shape c.in_ok-put_plane.ensures.put
+    (λ z inside. row_seen input c.loop-plane.plane at c.loop-plane.plane (plane_width c.args.shape c.loop-plane.plane) z c.shape.ensures.sizes
     (omega (arith, there, ap (λ (s : Shape). planes s.kind) same)) (omega (arith, inside, ap (λ (s : Shape). plane_height s c.loop-plane.plane) same))
-    (ap (λ (s : Shape). plane_width s c.loop-plane.plane) same) (λ x. kept_samples filter input.shape c.loop-plane.plane keeps (look_in input) x z))
+    (sym (ap (λ (s : Shape). plane_width s c.loop-plane.plane) same)) (λ x. sym (kept_samples filter input.shape c.loop-plane.plane keeps (look_in input) x z))) there
 
 pub fill_row-requires-clause-plane : goal.fill_row-requires-clause-plane
 fill_row-requires-clause-plane g c =

@@ -1,9 +1,9 @@
 use Rattle.std.proofs.Common.{◌≡◌, length}
 use Rattle.fv_plane.specs.Format.{plane_width}
-use Rattle.fv_plane.specs.Look.{look_in, row_from}
+use Rattle.fv_plane.specs.Look.{look_in}
 use Rattle.fv_plane.proofs.FillLemmas.{Filled}
 use Rattle.clip_term.specs.Space.{space_at}
-use Rattle.flt_space.proofs.WholePlaneLemmas.{rows_listed}
+use Rattle.fv_plane.proofs.WholePlaneLemmas.{rows_listed}
 use Rattle.flt_space.proofs.rows.make_by_rows.Given as goal
 
 abbrev pub invariant-loop-y : goal.invariant-loop-y

@@ -1,10 +1,10 @@
-use Rattle.std.proofs.Common.{rules, ◌≡◌, ◌∙◌, sym, length, true, refl}
+use Rattle.std.proofs.Common.{rules, ◌≡◌, ◌∙◌, length, true, refl}
 use Rattle.fv_plane.specs.Bytes.{bytes_of_row}
 use Rattle.fv_plane.specs.Look.{look_in}
 use Rattle.fv_plane.proofs.FillLemmas.{row_listed}
 use Rattle.clip_term.specs.declared.op.SpaceOp.TheVariants as op
 use Rattle.clip_term.specs.Space.{space_at, is_among}
-use Rattle.flt_space.proofs.KeptLemmas.{first_of, negated}
+use Rattle.flt_space.proofs.KeptLemmas.{negated}
 use Rattle.flt_space.proofs.adjust.InvertRowsRowFilter.fill_row.Goals as goal
 
 pub returns : goal.returns

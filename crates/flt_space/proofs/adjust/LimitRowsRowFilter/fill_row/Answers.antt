@@ -6,7 +6,7 @@ use Rattle.fv_plane.specs.Look.{look_in}
 use Rattle.fv_plane.proofs.FillLemmas.{row_listed}
 use Rattle.clip_term.specs.Refusals.{nat_of}
 use Rattle.clip_term.specs.declared.op.SpaceOp.TheVariants.{Limiter}
-use Rattle.clip_term.specs.Space.{space_at, limited}
+use Rattle.clip_term.specs.Space.{space_at}
 use Rattle.flt_space.proofs.KeptLemmas.{first_of, second_of}
 use Rattle.flt_space.proofs.adjust.LimitRowsRowFilter.fill_row.Goals as goal
 

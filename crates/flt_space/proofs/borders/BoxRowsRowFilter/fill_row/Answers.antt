@@ -1,4 +1,4 @@
-use Rattle.std.proofs.Common.{rules, ◌≡◌, ◌+◌, ◌-◌, ◌∙◌, ◌≤◌, true, false, sym, ap, length, replicate, arith}
+use Rattle.std.proofs.Common.{rules, ◌≡◌, ◌-◌, ◌∙◌, true, false, sym, length, replicate, arith}
 use Rattle.std.proofs.lemmas.List.{get_or-replicate}
 use Rattle.fv_plane.specs.Bytes.{bytes_of_row}
 use Rattle.fv_plane.specs.Format.{plane_width, plane_height}

@@ -1,5 +1,5 @@
-use Rattle.std.proofs.Common.{rules, ◌≡◌, ◌∙◌, length, ap, refl, arith}
-use Rattle.fv_plane.specs.Format.{plane_width, plane_height}
+use Rattle.std.proofs.Common.{rules, ◌≡◌, ◌∙◌, length, refl, arith}
+use Rattle.fv_plane.specs.Format.{plane_width}
 use Rattle.fv_plane.specs.Look.{look_in}
 use Rattle.fv_plane.proofs.FillLemmas.{row_listed}
 use Rattle.clip_term.specs.declared.op.SpaceOp.TheVariants.{TurnLeft}

@@ -1,5 +1,4 @@
-use Rattle.std.proofs.Common.{rules, ◌≡◌, ◌∙◌, length, ap, arith}
-use Rattle.fv_plane.specs.Format.{plane_width, plane_height}
+use Rattle.std.proofs.Common.{rules, ◌∙◌, length, arith}
 use Rattle.fv_plane.specs.Look.{look_in}
 use Rattle.fv_plane.proofs.FillLemmas.{row_listed}
 use Rattle.clip_term.specs.declared.op.SpaceOp.TheVariants.{TurnRight}
