@@ -1,0 +1,4 @@
+mod ItemLemmas
+mod ParameterLemmas
+mod PlaceLemmas
+mod TrimLemmas

@@ -1,0 +1,343 @@
+// `BlankClip`: its arguments, their refusals, and the clip that they make.
+ghost use Rattle.std.specs.Prelude.{◌≡◌};
+ghost use Rattle.fv_plane.specs.Refusals.{first_fault};
+ghost use Rattle.fv_plane.specs.Info.{IsPar};
+ghost use Rattle.clip_term.specs.Blank as b;
+ghost use Rattle.clip_term.specs.Refusals.{part_of, no_colour};
+ghost use Rattle.clip_term.specs.Texts.{format_named};
+ghost use Rattle.avs_meaning.specs.Filters as f;
+ghost use Rattle.avs_state.specs.Answers.{Gives};
+ghost use Rattle.avs_state.specs.States.{state_of};
+ghost use Rattle.avs_calls.specs.Views.{args_view, text_given};
+
+use avs_meaning::{ScriptKind, Stop};
+use avs_state::{Machine, fault_at};
+use avs_values::Value;
+use clip_term::{Filter, FilterFault, Op};
+use fv_io::Text;
+use fv_plane::{Colour, Field, Info, Par, PixelType, Shape, Tag};
+use std::alloc::Global;
+
+const DEFAULT_COLOUR: i32 = 0x10_80_80;
+
+/// The arguments of `BlankClip` beside its clip. `None` is one that isn't given.
+#[derive(Clone, Copy)]
+pub(crate) struct BlankArgs<'a> {
+    length: Option<i32>,
+    width: Option<i32>,
+    height: Option<i32>,
+    pixel_type: Option<&'a str>,
+    fps: Option<i32>,
+    fps_denominator: Option<i32>,
+    color_yuv: Option<i32>,
+}
+
+fn number_of(value: &Value) -> Option<i32>
+    ensures { result ≡ f.number_of value.now }
+{
+    match value {
+        Value::Int(n) => Some(*n),
+        _ => None,
+    }
+}
+
+fn text_of(value: &Value) -> Option<&str>
+    ensures { text_given result ≡ f.text_of value.now }
+{
+    match value {
+        Value::Text(text) => Some(text.as_str()),
+        _ => None,
+    }
+}
+
+impl<'a> BlankArgs<'a> {
+    /// The arguments that these values are, in the order of the signature.
+    fn of(
+        frames: &Value,
+        width: &Value,
+        height: &Value,
+        kind: &'a Value,
+        num: &Value,
+        den: &Value,
+        colour: &Value,
+    ) -> BlankArgs<'a>
+        ensures { args_view result
+            ≡ f.blank_args frames.now width.now height.now kind.now num.now den.now colour.now }
+    {
+        BlankArgs {
+            length: number_of(frames),
+            width: number_of(width),
+            height: number_of(height),
+            pixel_type: text_of(kind),
+            fps: number_of(num),
+            fps_denominator: number_of(den),
+            color_yuv: number_of(colour),
+        }
+    }
+}
+
+// The format of a name, where case doesn't count.
+fn format_named(text: &str) -> Option<PixelType>
+    ensures { result ≡ format_named text.now }
+{
+    if text.eq_ignore_ascii_case("Y8") {
+        return Some(PixelType::Y8);
+    }
+    if text.eq_ignore_ascii_case("YV12") {
+        return Some(PixelType::YV12);
+    }
+    if text.eq_ignore_ascii_case("YV16") {
+        return Some(PixelType::YV16);
+    }
+    if text.eq_ignore_ascii_case("YV24") {
+        return Some(PixelType::YV24);
+    }
+    if text.eq_ignore_ascii_case("YV411") {
+        return Some(PixelType::YV411);
+    }
+    None
+}
+
+// Whether a number is given and negative.
+fn is_negative(value: Option<i32>) -> bool
+    ensures { result ≡ b.given_below value 0 }
+{
+    match value {
+        Some(n) => n < 0,
+        None => false,
+    }
+}
+
+// Whether a number is given and below 1.
+fn is_below_one(value: Option<i32>) -> bool
+    ensures { result ≡ b.given_below value 1 }
+{
+    match value {
+        Some(n) => n < 1,
+        None => false,
+    }
+}
+
+fn is_bad_format(name: Option<&str>) -> bool
+    ensures { result ≡ b.bad_format (text_given name.entry) }
+{
+    match name {
+        Some(text) => format_named(text).is_none(),
+        None => false,
+    }
+}
+
+fn colour_given(args: &BlankArgs<'_>) -> i32
+    ensures { result ≡ b.colour_given (args_view args.now) }
+{
+    args.color_yuv.unwrap_or(DEFAULT_COLOUR)
+}
+
+fn has_no_colour(colour: i32) -> bool
+    ensures { result ≡ no_colour colour }
+{
+    colour < 0 || colour > 0xFF_FF_FF
+}
+
+// The first refusal of the arguments, in their order.
+fn refusal(base: &Info, args: &BlankArgs<'_>) -> Option<FilterFault>
+    ensures { result ≡ first_fault (b.blank_refusals base.now (args_view args.now)) }
+{
+    if is_negative(args.length) || is_below_one(args.width) || is_below_one(args.height) {
+        return Some(FilterFault::BadRange);
+    }
+    if is_bad_format(args.pixel_type) {
+        return Some(FilterFault::BadText);
+    }
+    let wrong_rate = is_below_one(args.fps) || is_below_one(args.fps_denominator);
+    if wrong_rate || has_no_colour(colour_given(args)) {
+        return Some(FilterFault::BadRange);
+    }
+    None
+}
+
+fn format_or(kind: PixelType, name: Option<&str>) -> PixelType
+    ensures { result ≡ b.format_or kind (text_given name.entry) }
+{
+    match name {
+        Some(text) => format_named(text).unwrap_or(kind),
+        None => kind,
+    }
+}
+
+fn number_or(default: u32, value: Option<i32>) -> u32
+    ensures { result ≡ b.nat_or default value }
+{
+    match value {
+        Some(n) => n.unsigned_abs(),
+        None => default,
+    }
+}
+
+// The info that the arguments ask for. What isn't given is that of the base.
+fn blank_info(base: &Info, args: &BlankArgs<'_>) -> Info
+    ensures { result ≡ b.blank_info base.now (args_view args.now) }
+{
+    let den = if args.fps.is_some() { 1 } else { base.den };
+    Info {
+        shape: Shape {
+            kind: format_or(base.shape.kind, args.pixel_type),
+            width: number_or(base.shape.width, args.width),
+            height: number_or(base.shape.height, args.height),
+        },
+        frames: number_or(base.frames, args.length),
+        num: number_or(base.num, args.fps),
+        den: number_or(den, args.fps_denominator),
+        ..*base
+    }
+}
+
+fn part_of(colour: u32, plane: u32) -> u8
+    ensures { result ≡ part_of colour plane }
+{
+    match plane {
+        0 => (colour / 65_536 % 256) as u8,
+        1 => (colour / 256 % 256) as u8,
+        _ => (colour % 256) as u8,
+    }
+}
+
+// The parts of a number 0xYYUUVV.
+fn colour_of(colour: i32) -> Colour
+    ensures { result ≡ b.colour_of colour }
+{
+    let colour = colour.unsigned_abs();
+    Colour {
+        y: part_of(colour, 0),
+        u: part_of(colour, 1),
+        v: part_of(colour, 2),
+    }
+}
+
+// The info of what isn't given where there is no clip.
+fn default_clip() -> Info
+    ensures { result ≡ b.default_clip }
+{
+    Info {
+        shape: Shape {
+            kind: PixelType::YV12,
+            width: 640,
+            height: 480,
+        },
+        frames: 240,
+        num: 24,
+        den: 1,
+        field: Field::Progressive,
+        par: Par { num: 0, den: 0 },
+        tag: Tag::Jpeg,
+    }
+}
+
+// A blank clip. What isn't given is that of the base.
+fn blank_like(
+    alloc: Global,
+    machine: &mut Machine,
+    base: &Info,
+    args: &BlankArgs<'_>,
+    here: &Text,
+    line: u32,
+) -> Result<Value, Stop>
+    requires par { IsPar base.now.par }
+    ensures gives { Gives (λ x. x) (f.blank_like here.now base.now (args_view args.now) line (state_of machine.old)) result
+        (state_of machine.new) }
+    ensures opened { (state_of machine.new).opened ≡ (state_of machine.old).opened }
+{
+    if let Some(fault) = refusal(base, args) {
+        return Err(fault_at(alloc, ScriptKind::Filter(fault), here, line));
+    }
+    let info = blank_info(base, args);
+    let colour = colour_of(colour_given(args));
+    machine.make(
+        alloc,
+        Filter::BlankClip,
+        Op::Blank { info, colour },
+        &[],
+        here,
+        line,
+    )
+}
+
+// A blank clip. What isn't given is that of the clip, if there is one.
+fn blank_of(
+    alloc: Global,
+    machine: &mut Machine,
+    clip: &Value,
+    args: &BlankArgs<'_>,
+    here: &Text,
+    line: u32,
+) -> Result<Value, Stop>
+    ensures gives { Gives (λ x. x) (f.blank_of here.now clip.now (args_view args.now) line (state_of machine.old)) result
+        (state_of machine.new) }
+    ensures opened { (state_of machine.new).opened ≡ (state_of machine.old).opened }
+{
+    match clip {
+        Value::Clip(i) => {
+            let info = machine.info_of(alloc, *i, here, line)?;
+            blank_like(alloc, machine, &info, args, here, line)
+        }
+        _ => blank_like(alloc, machine, &default_clip(), args, here, line),
+    }
+}
+
+// A blank clip, whose clip is given by its name.
+fn blank_named(
+    alloc: Global,
+    machine: &mut Machine,
+    values: &[Value],
+    here: &Text,
+    line: u32,
+) -> Result<Value, Stop>
+    ensures gives { Gives (λ x. x) (f.blank here.now 0 values.now line (state_of machine.old)) result
+        (state_of machine.new) }
+    ensures opened { (state_of machine.new).opened ≡ (state_of machine.old).opened }
+{
+    let [frames, width, height, kind, num, den, colour, clip] = values else {
+        return Err(fault_at(alloc, ScriptKind::NoMatch, here, line));
+    };
+    let args = BlankArgs::of(frames, width, height, kind, num, den, colour);
+    blank_of(alloc, machine, clip, &args, here, line)
+}
+
+// A blank clip, whose clip is given first.
+fn blank_first(
+    alloc: Global,
+    machine: &mut Machine,
+    values: &[Value],
+    here: &Text,
+    line: u32,
+) -> Result<Value, Stop>
+    ensures gives { Gives (λ x. x) (f.blank here.now 1 values.now line (state_of machine.old)) result
+        (state_of machine.new) }
+    ensures opened { (state_of machine.new).opened ≡ (state_of machine.old).opened }
+{
+    let [clip, frames, width, height, kind, num, den, colour] = values else {
+        return Err(fault_at(alloc, ScriptKind::NoMatch, here, line));
+    };
+    let args = BlankArgs::of(frames, width, height, kind, num, den, colour);
+    blank_of(alloc, machine, clip, &args, here, line)
+}
+
+/// A blank clip of arguments that are bound by the signature of this number.
+pub(crate) fn blank(
+    alloc: Global,
+    machine: &mut Machine,
+    signature: usize,
+    values: &[Value],
+    here: &Text,
+    line: u32,
+) -> Result<Value, Stop>
+    ensures gives { Gives (λ x. x) (f.blank here.now signature values.now line (state_of machine.old)) result
+        (state_of machine.new) }
+    ensures opened { (state_of machine.new).opened ≡ (state_of machine.old).opened }
+{
+    match signature {
+        0 => blank_named(alloc, machine, values, here, line),
+        1 => blank_first(alloc, machine, values, here, line),
+        _ => Err(fault_at(alloc, ScriptKind::NoMatch, here, line)),
+    }
+}

@@ -1,0 +1,104 @@
+// What a name calls, and what that takes.
+ghost use Rattle.std.specs.Prelude.{◌≡◌, [], map, IfOk, option_map};
+ghost use Rattle.avs_values.specs.Views.{signature_view};
+ghost use Rattle.avs_meaning.specs.Calls as m;
+ghost use Rattle.avs_state.specs.States.{state_of};
+ghost use Rattle.avs_calls.specs.Views.{callee_view};
+
+use avs_meaning::{Builtin, Table, Variable, signatures};
+use avs_state::{ByName, Definition, Machine, set_in};
+use avs_tree::{Parameter, TypeWord};
+use avs_values::{Kind, Param, Signature, Value};
+use fv_io::Text;
+use std::alloc::{AllocError, Global};
+use std::rc::Rc;
+
+/// What a name calls.
+#[derive(Drop)]
+pub enum Callee {
+    User(Rc<Definition>),
+    Builtin(Builtin),
+}
+
+/// What a name calls. A function of the script hides a built-in one. An `Err` is out of memory.
+pub fn callee_of(
+    alloc: Global,
+    table: &Table,
+    machine: &Machine,
+    name: &Text,
+) -> Result<Option<Callee>, AllocError>
+    ensures { IfOk result (λ found. option_map callee_view found ≡ m.callee name.now (state_of machine.now).functions) }
+{
+    if let Some(definition) = machine.find(alloc, name)? {
+        return Ok(Some(Callee::User(definition)));
+    }
+    match table.find(name.as_str()) {
+        Some(row) => Ok(Some(Callee::Builtin(row.builtin))),
+        None => Ok(None),
+    }
+}
+
+fn kind_of(word: TypeWord) -> Kind
+    ensures { result ≡ m.kind_of word }
+{
+    match word {
+        TypeWord::Clip => Kind::Clip,
+        TypeWord::Int => Kind::Int,
+        TypeWord::String => Kind::Text,
+        TypeWord::Bool => Kind::Bool,
+        TypeWord::Val => Kind::Val,
+    }
+}
+
+fn signature_of(alloc: Global, params: &[Parameter]) -> Result<Signature, AllocError>
+    ensures { IfOk result (λ made. signature_view made ≡ m.signature_of params.now) }
+{
+    let mut taken = Vec::new(alloc);
+    for param in params {
+        let name = Text::from_str(alloc, param.name.as_str())?;
+        taken.push(Param {
+            name,
+            kind: kind_of(param.word),
+            optional: param.optional,
+        })?;
+    }
+    Ok(Signature {
+        params: taken,
+        rest: None,
+        least: 0,
+    })
+}
+
+/// The signatures of what is called. An `Err` is out of memory.
+pub fn takes(alloc: Global, callee: &Callee) -> Result<Vec<Signature>, AllocError>
+    ensures { IfOk result (λ made. map signature_view made.items ≡ m.takes (callee_view callee.now)) }
+{
+    match callee {
+        Callee::User(definition) => {
+            let mut made = Vec::new(alloc);
+            made.push(signature_of(alloc, &definition.function.params)?)?;
+            Ok(made)
+        }
+        Callee::Builtin(builtin) => signatures(alloc, *builtin),
+    }
+}
+
+/// The parameters of a function as its variables. An `Err` is out of memory.
+#[tactic(auto, using(crate::proofs::ParameterLemmas::no_more))]
+pub fn parameters(
+    alloc: Global,
+    params: &[Parameter],
+    values: &[Value],
+) -> Result<ByName<Variable>, AllocError>
+    ensures { IfOk result (λ made. made ≡ m.parameters params.now values.now []) }
+{
+    let mut env = ByName::new(alloc);
+    for k in 0..params.len() {
+        let Some(value) = values.get(k) else {
+            return Ok(env);
+        };
+        let value = value.try_clone(alloc)?;
+        set_in(alloc, &mut env, &params[k].name, value)?;
+    }
+    Ok(env)
+}

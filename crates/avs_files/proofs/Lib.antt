@@ -1,0 +1,4 @@
+pub mod CallerLemmas
+mod FileLemmas
+mod OpenedLemmas
+mod WorldLemmas

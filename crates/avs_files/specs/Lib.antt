@@ -1,0 +1,4 @@
+pub mod Opened
+pub mod Answers
+pub mod Worlds
+pub mod Closed

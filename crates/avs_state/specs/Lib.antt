@@ -1,0 +1,4 @@
+pub mod Names
+pub mod States
+pub mod Answers
+pub mod Hosts

@@ -1,0 +1,327 @@
+// The state of a run.
+ghost use Rattle.std.specs.Prelude.{◌≡◌, ◌∷◌, ◌++◌, ◌<◌, [], length, map, IfOk, Ok, OnOk, option_map};
+ghost use Rattle.std.specs.List.{All};
+ghost use Rattle.fv_plane.specs.Info.{IsLawful};
+ghost use Rattle.avs_tree.specs.View.{function_view};
+ghost use Rattle.clip_term.specs.ClipTerm.{act_of};
+ghost use Rattle.clip_term.specs.Terms.{IsSound, check};
+ghost use Rattle.clip_graph.specs.Plan.{IsMode, IsCounted, infos_among, sources_in};
+ghost use Rattle.avs_meaning.specs.Filters as f;
+ghost use Rattle.avs_meaning.specs.Meaning as m;
+ghost use Rattle.avs_meaning.specs.State as d;
+ghost use Rattle.avs_state.specs.Answers.{Gives};
+ghost use Rattle.avs_state.specs.States.{state_of, defined_view};
+
+use crate::variables::{set_in, value_in};
+use crate::{ByName, Definition, fault_at};
+use avs_meaning::{ScriptKind, SourceClip, Stop, Variable};
+use avs_tree::Function;
+use avs_values::Value;
+use clip_check::check;
+use clip_graph::{Graph, GraphFault};
+use clip_term::{Filter, Op};
+use fv_io::Text;
+use fv_plane::Info;
+use std::alloc::{AllocError, Global};
+use std::rc::Rc;
+
+/// The state of a run: variables, functions, the graph of the clips, the sources that were opened, and the units that are
+/// left.
+#[derive(Drop)]
+pub struct Machine {
+    env: ByName<Variable>,
+    globals: ByName<Variable>,
+    functions: ByName<Rc<Definition>>,
+    plan: Graph,
+    opened: Vec<SourceClip>,
+    units: u32,
+}
+
+// Whether all these are places of the graph.
+fn are_places(plan: &Graph, inputs: &[u32]) -> bool
+    ensures { result ≡ f.are_places inputs.now plan.now }
+{
+    let count = plan.len();
+    inputs.iter().all(|i| *i < count)
+}
+
+// The infos of places.
+fn infos_among(alloc: Global, plan: &Graph, inputs: &[u32]) -> Result<Vec<Info>, AllocError>
+    requires { All (λ i. i < length plan.now) inputs.now }
+    ensures { IfOk result (λ infos. infos.items ≡ infos_among plan.now inputs.now) }
+{
+    let mut infos = Vec::new(alloc);
+    for i in inputs {
+        infos.push(plan.node(*i).info)?;
+    }
+    Ok(infos)
+}
+
+// The mode of a filter that no call has set.
+fn mode_of(filter: Filter) -> u8
+    ensures mode { result ≡ f.mode_of filter }
+    ensures is_mode { IsMode result }
+{
+    filter.declared().unwrap_or(2)
+}
+
+impl Machine {
+    /// The state at the start. It allocates nothing.
+    #[tactic(auto, unfolding(crate::specs::States::state_of))]
+    pub fn new(alloc: Global) -> Machine
+        ensures { state_of result ≡ m.start }
+    {
+        Machine {
+            env: ByName::new(alloc),
+            globals: ByName::new(alloc),
+            functions: ByName::new(alloc),
+            plan: Graph::new(alloc),
+            opened: Vec::new(alloc),
+            units: 1_000_000,
+        }
+    }
+
+    /// The graph of the clips.
+    #[tactic(auto, unfolding(crate::specs::States::state_of))]
+    pub fn into_graph(self) -> Graph
+        ensures plan { result ≡ (state_of self).plan }
+    {
+        self.plan
+    }
+
+    /// How many units are left.
+    #[tactic(auto, unfolding(crate::specs::States::state_of))]
+    pub fn units(&self) -> u32
+        ensures { result ≡ (state_of self.now).units }
+    {
+        self.units
+    }
+
+    /// Pays a unit for a statement or a turn at a line of the text of this name.
+    #[tactic(auto, unfolding(crate::specs::States::state_of))]
+    pub fn spend(&mut self, alloc: Global, here: &Text, line: u32) -> Result<(), Stop>
+        ensures gives { Gives (λ u. u) (d.spend here.now line (state_of self.old)) result (state_of self.new) }
+        ensures opened { (state_of self.new).opened ≡ (state_of self.old).opened }
+    {
+        if self.units == 0 {
+            return Err(fault_at(alloc, ScriptKind::StepLimit, here, line));
+        }
+        self.units -= 1;
+        Ok(())
+    }
+
+    /// The value of a variable of the function that runs.
+    #[tactic(auto, unfolding(crate::specs::States::state_of))]
+    pub fn local(&self, alloc: Global, name: &Text) -> Result<Option<Value>, AllocError>
+        ensures { IfOk result (λ value. value ≡ d.lookup name.now (state_of self.now).env) }
+    {
+        value_in(alloc, &self.env, name)
+    }
+
+    // The value of a global variable.
+    #[tactic(auto, unfolding(crate::specs::States::state_of))]
+    fn global(&self, alloc: Global, name: &Text) -> Result<Option<Value>, AllocError>
+        ensures { IfOk result (λ value. value ≡ d.lookup name.now (state_of self.now).globals) }
+    {
+        value_in(alloc, &self.globals, name)
+    }
+
+    /// The value of a variable: one of the function that runs, or else a global one.
+    pub fn variable(&self, alloc: Global, name: &Text) -> Result<Option<Value>, AllocError>
+        ensures { IfOk result (λ value. value ≡ d.variable name.now (state_of self.now)) }
+    {
+        match self.local(alloc, name)? {
+            Some(value) => Ok(Some(value)),
+            None => self.global(alloc, name),
+        }
+    }
+
+    /// Sets a variable of the function that runs.
+    #[tactic(auto, unfolding(crate::specs::States::state_of))]
+    pub fn set(&mut self, alloc: Global, name: &Text, value: Value) -> Result<(), Stop>
+        ensures gives { Gives (λ u. u) (d.set name.now value (state_of self.old)) result (state_of self.new) }
+        ensures opened { (state_of self.new).opened ≡ (state_of self.old).opened }
+    {
+        set_in(alloc, &mut self.env, name, value)?;
+        Ok(())
+    }
+
+    /// Sets a global variable.
+    #[tactic(auto, unfolding(crate::specs::States::state_of))]
+    pub fn set_global(&mut self, alloc: Global, name: &Text, value: Value) -> Result<(), Stop>
+        ensures gives { Gives (λ u. u) (d.set_global name.now value (state_of self.old)) result (state_of self.new) }
+        ensures opened { (state_of self.new).opened ≡ (state_of self.old).opened }
+    {
+        set_in(alloc, &mut self.globals, name, value)?;
+        Ok(())
+    }
+
+    /// Takes the variables of a function in the place of those that are there, which it answers.
+    #[tactic(auto, unfolding(crate::specs::States::state_of))]
+    pub fn enter(&mut self, env: ByName<Variable>) -> ByName<Variable>
+        ensures new { state_of self.new ≡ record (state_of self.old) { env = env } }
+        ensures before { result ≡ (state_of self.old).env }
+    {
+        std::mem::replace(&mut self.env, env)
+    }
+
+    /// The function of a name.
+    #[tactic(auto, unfolding(crate::specs::States::state_of), using(crate::proofs::StateLemmas::find_found, crate::proofs::StateLemmas::find_missed))]
+    pub fn find(&self, alloc: Global, name: &Text) -> Result<Option<Rc<Definition>>, AllocError>
+        ensures { IfOk result (λ found.
+            option_map (λ shared. defined_view shared.value) found ≡ d.find name.now (state_of self.now).functions) }
+    {
+        match self.functions.find(alloc, name.as_str())? {
+            Some(shared) => Ok(Some(shared.clone()?)),
+            None => Ok(None),
+        }
+    }
+
+    /// Adds a function of the text of this name.
+    #[tactic(auto, unfolding(crate::specs::States::state_of), using(crate::proofs::StateLemmas::put_new))]
+    pub fn define(&mut self, alloc: Global, function: Function, here: &Text) -> Result<(), Stop>
+        ensures gives { Gives (λ u. u) (d.define (function_view function) here.now (state_of self.old)) result
+            (state_of self.new) }
+        ensures opened { (state_of self.new).opened ≡ (state_of self.old).opened }
+    {
+        match self.find(alloc, &function.name)? {
+            Some(_) => {
+                let kind = ScriptKind::DuplicateFunction;
+                return Err(fault_at(alloc, kind, here, function.line));
+            }
+            None => {}
+        }
+        let text = Text::from_str(alloc, here.as_str())?;
+        let shared = Rc::new(alloc, Definition { function, text })?;
+        self.functions.put(alloc, shared)?;
+        Ok(())
+    }
+
+    /// Adds functions of the text of this name, in their order.
+    pub fn define_all(
+        &mut self,
+        alloc: Global,
+        functions: Vec<Function>,
+        here: &Text,
+    ) -> Result<(), Stop>
+        ensures gives { Gives (λ u. u) (d.define_all (map function_view functions.items) here.now (state_of self.old)) result
+            (state_of self.new) }
+        ensures opened { (state_of self.new).opened ≡ (state_of self.old).opened }
+    {
+        for function in functions {
+            self.define(alloc, function, here)?;
+        }
+        Ok(())
+    }
+
+    /// The info of a clip, by its place.
+    #[tactic(auto, unfolding(crate::specs::States::state_of), using(crate::proofs::StateLemmas::lawful_at))]
+    pub fn info_of(&self, alloc: Global, i: u32, here: &Text, line: u32) -> Result<Info, Stop>
+        ensures gives { Gives (λ info. info) (f.info_of here.now i line (state_of self.now)) result (state_of self.now) }
+        ensures lawful { IfOk result IsLawful }
+        ensures inside { OnOk result (i < length (state_of self.now).plan) }
+    {
+        if i >= self.plan.len() {
+            return Err(fault_at(alloc, ScriptKind::TypeFault, here, line));
+        }
+        Ok(self.plan.node(i).info)
+    }
+
+    // Adds what a filter does over clips, which has this info.
+    #[tactic(auto, unfolding(crate::specs::States::state_of))]
+    fn add(
+        &mut self,
+        alloc: Global,
+        op: Op,
+        inputs: &[u32],
+        info: Info,
+        mode: u8,
+        here: &Text,
+        line: u32,
+    ) -> Result<Value, Stop>
+        requires places { All (λ i. i < length (state_of self.old).plan) inputs.now }
+        requires sound { IsSound (act_of op) (length inputs.now) }
+        requires told { check (act_of op) (infos_among (state_of self.old).plan inputs.now) ≡ Ok info }
+        requires mode { IsMode mode }
+        requires counted { IsCounted (act_of op) (sources_in (state_of self.old).plan) mode }
+        ensures gives { Gives (λ v. v) (f.add here.now (act_of op) inputs.now info mode line (state_of self.old)) result
+            (state_of self.new) }
+        ensures opened { (state_of self.new).opened ≡ (state_of self.old).opened }
+    {
+        match self.plan.add(op, inputs, info, mode) {
+            Ok(place) => Ok(Value::Clip(place)),
+            Err(GraphFault::NodeLimit) => Err(fault_at(alloc, ScriptKind::NodeLimit, here, line)),
+            Err(GraphFault::DepthLimit) => Err(fault_at(alloc, ScriptKind::DepthLimit, here, line)),
+            Err(GraphFault::Memory) => Err(Stop::Memory),
+        }
+    }
+
+    /// Applies a filter to clips, at a line of the text of this name.
+    #[tactic(auto, unfolding(crate::specs::States::state_of))]
+    pub fn make(
+        &mut self,
+        alloc: Global,
+        filter: Filter,
+        op: Op,
+        inputs: &[u32],
+        here: &Text,
+        line: u32,
+    ) -> Result<Value, Stop>
+        requires sound { IsSound (act_of op) (length inputs.now) }
+        requires counted { IsCounted (act_of op) (sources_in (state_of self.old).plan) (f.mode_of filter) }
+        ensures gives { Gives (λ v. v) (f.made here.now filter (act_of op) inputs.now line (state_of self.old)) result
+            (state_of self.new) }
+        ensures opened { (state_of self.new).opened ≡ (state_of self.old).opened }
+    {
+        if !are_places(&self.plan, inputs) {
+            return Err(fault_at(alloc, ScriptKind::TypeFault, here, line));
+        }
+        let infos = infos_among(alloc, &self.plan, inputs)?;
+        match check(&op, &infos) {
+            Ok(info) => self.add(alloc, op, inputs, info, mode_of(filter), here, line),
+            Err(fault) => Err(fault_at(alloc, ScriptKind::Filter(fault), here, line)),
+        }
+    }
+
+    // Lists a clip that was opened.
+    #[tactic(auto, unfolding(crate::specs::States::state_of))]
+    fn list(&mut self, alloc: Global, name: &Text, info: Info) -> Result<(), AllocError>
+        ensures { OnOk result (state_of self.new ≡ record (state_of self.old) {
+          opened = (state_of self.old).opened ++ record { name = name.now; info = info } ∷ [];
+        }) }
+    {
+        let name = Text::from_str(alloc, name.as_str())?;
+        self.opened.push(SourceClip { name, info })?;
+        Ok(())
+    }
+
+    /// Adds the clip of a file, which was opened.
+    pub fn add_source(
+        &mut self,
+        alloc: Global,
+        name: &Text,
+        info: Info,
+        here: &Text,
+        line: u32,
+    ) -> Result<Value, Stop>
+        requires lawful { IsLawful info }
+        ensures gives { Gives (λ v. v) (f.open_by here.now (Ok info) name.now line (state_of self.old)) result
+            (state_of self.new) }
+        ensures opened { OnOk result ((state_of self.new).opened
+            ≡ (state_of self.old).opened ++ record { name = name.now; info = info } ∷ []) }
+    {
+        self.list(alloc, name, info)?;
+        let number = self.sources();
+        let name = Text::from_str(alloc, name.as_str())?;
+        let op = Op::Source { name, number, info };
+        self.make(alloc, Filter::Y4MSource, op, &[], here, line)
+    }
+
+    // How many sources the graph has.
+    #[tactic(auto, unfolding(crate::specs::States::state_of))]
+    fn sources(&self) -> u32
+        ensures { result ≡ sources_in (state_of self.now).plan }
+    {
+        self.plan.sources()
+    }
+}
