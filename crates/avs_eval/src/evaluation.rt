@@ -1,0 +1,125 @@
+// The evaluation of a script.
+ghost use Rattle.std.specs.Prelude.{◌≡◌, ◌≤◌, ◌<◌, [], length, IsTrue, IfOk, OnOk};
+ghost use Rattle.avs_tree.specs.View.{block_view};
+ghost use Rattle.avs_values.specs.Outcome.{text_limit};
+ghost use Rattle.avs_meaning.specs.Meaning.{clip_or_not, executed, text_meaning, to_clip};
+ghost use Rattle.avs_state.specs.Answers.{Gives};
+ghost use Rattle.avs_state.specs.Hosts.{outside_by, Told};
+ghost use Rattle.avs_state.specs.States.{state_of};
+ghost use Rattle.avs_expressions.specs.Walks.{Keeps};
+ghost use Rattle.avs_eval.specs.Evaluates.{Evaluates, Opens, FailedRead};
+
+use crate::error::EvalError;
+use avs_expressions::load_body;
+use avs_meaning::{ScriptKind, Stop, Table};
+use avs_state::{Host, Machine, fault_at};
+use avs_statements::run;
+use avs_tree::Statement;
+use avs_values::Value;
+use clip_graph::Graph;
+use fv_io::Text;
+use std::alloc::Global;
+
+/// How many calls may nest.
+const CALL_LIMIT: u32 = 64;
+
+/// The graph of a script's clips, and the node of its clip.
+#[derive(Drop)]
+pub struct Opened {
+    pub graph: Graph,
+    pub root: u32,
+}
+
+// The place of the clip that the value of a script is.
+fn clip_of(
+    alloc: Global,
+    machine: &Machine,
+    value: Value,
+    name: &Text,
+    line: u32,
+) -> Result<u32, Stop>
+    ensures gives { Gives (λ i. i) (clip_or_not name.now line value (state_of machine.now)) result
+        (state_of machine.now) }
+    ensures inside { IfOk result (λ i. i < length (state_of machine.now).plan) }
+{
+    let Value::Clip(i) = value else {
+        return Err(fault_at(alloc, ScriptKind::NotClip, name, line));
+    };
+    machine.info_of(alloc, i, name, line)?;
+    Ok(i)
+}
+
+// Executes the statements of a script, whose value is a clip.
+#[tactic(auto, using(crate::proofs::RunLemmas::run_fails, crate::proofs::RunLemmas::run_ends))]
+fn clip_of_run<H: Host>(
+    alloc: Global,
+    table: &Table,
+    machine: &mut Machine,
+    host: &mut H,
+    name: &Text,
+    statements: &[Statement],
+    last_line: u32,
+) -> Result<u32, Stop>
+    ensures told { Told H.told (λ i. i) (to_clip (outside_by H.clips H.scripts) name.now (block_view statements.now) last_line)
+        machine.old result machine.new }
+    ensures kept { Keeps H.opened H.faults machine.old host.old result machine.new host.new }
+    ensures inside { IfOk result (λ i. i < length (state_of machine.new).plan) }
+{
+    let value = run(alloc, table, machine, host, CALL_LIMIT, name, statements)?;
+    clip_of(alloc, machine, value, name, last_line)
+}
+
+// Executes a text as the script of this name.
+#[tactic(auto, using(crate::proofs::RunLemmas::loaded_runs, crate::proofs::RunLemmas::load_fails))]
+fn execute<H: Host>(
+    alloc: Global,
+    table: &Table,
+    machine: &mut Machine,
+    host: &mut H,
+    name: &Text,
+    text: &Text,
+) -> Result<u32, Stop>
+    requires { length text.now ≤ text_limit }
+    ensures told { Told H.told (λ i. i) (executed (outside_by H.clips H.scripts) name.now text.now)
+        machine.old result machine.new }
+    ensures kept { Keeps H.opened H.faults machine.old host.old result machine.new host.new }
+    ensures inside { IfOk result (λ i. i < length (state_of machine.new).plan) }
+{
+    let body = load_body(alloc, machine, name, text)?;
+    clip_of_run(
+        alloc,
+        table,
+        machine,
+        host,
+        name,
+        &body.statements,
+        body.last_line,
+    )
+}
+
+/// Evaluates a text as the script of this name, over a host that has opened nothing.
+///
+/// The host keeps the clips that it opened, whatever the answer is. A text has at most 1,048,576 bytes.
+pub fn eval<H: Host>(
+    alloc: Global,
+    host: &mut H,
+    name: &Text,
+    text: &Text,
+) -> Result<Opened, EvalError>
+    requires short { length text.now ≤ text_limit }
+    requires none { H.opened host.old ≡ [] }
+    // Where the host tells its files, the answer is the script's meaning there.
+    ensures told { IsTrue H.told → Evaluates (text_meaning (outside_by H.clips H.scripts) name.now text.now) result }
+    // The sources of the graph are the clips that the host gave, in their order.
+    ensures opened { IfOk result (λ opened. Opens opened (H.opened host.new)) }
+    ensures later { H.faults host.old ≤ H.faults host.new }
+    ensures read { FailedRead result (H.faults host.old) (H.faults host.new) }
+{
+    let table = Table::new(alloc)?;
+    let mut machine = Machine::new(alloc);
+    let root = execute(alloc, &table, &mut machine, host, name, text)?;
+    Ok(Opened {
+        graph: machine.into_graph(),
+        root,
+    })
+}

@@ -1,0 +1,4 @@
+pub mod Sources
+pub mod Walks
+pub mod Bodies
+pub mod At
