@@ -1,0 +1,4 @@
+pub mod SourceLemmas
+pub mod NodeLemmas
+pub mod MakeLemmas
+pub mod CallerLemmas

@@ -1,0 +1,4 @@
+pub mod Kinds
+pub mod Clips
+pub mod Rendered
+pub mod Render
