@@ -1,7 +1,7 @@
-mod CopyLemmas
 mod MeaningLemmas
+mod PickLemmas
+mod PlayLemmas
 mod RunLemmas
 mod SayLemmas
-mod ScriptLemmas
-mod StopLemmas
+mod TextLemmas
 mod WordLemmas

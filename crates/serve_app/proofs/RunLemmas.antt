@@ -8,20 +8,23 @@ use Rattle.fv_io.specs.World.{World, InWorld}
 use Rattle.fv_io.proofs.CallerLemmas.{gets_all}
 use Rattle.fv_plane.specs.Clip.{Clip}
 use Rattle.y4m_stream.specs.Stream.{stream}
-use Rattle.serve_app.specs.declared.fault.ScriptFault.{ScriptFault}
-use Rattle.serve_app.specs.declared.fault.ScriptFault.TheVariants as script_fault
+use Rattle.avs_meaning.specs.Faults.{Fault, input}
+use Rattle.avs_meaning.specs.declared.fault.InputFault.TheVariants as clip_fault
+use Rattle.avs_meaning.specs.declared.fault.ScriptKind.{ScriptKind}
+use Rattle.avs_eval.specs.Evaluates.{Names}
 use Rattle.serve_app.specs.declared.fault.InputFault.TheVariants.{NotThere, Y4m, Changed}
 use Rattle.serve_app.specs.declared.stop.Stop.{Stop}
 use Rattle.serve_app.specs.declared.stop.Stop.TheVariants.{Script, Input, Read, Write, Memory}
 use Rattle.serve_app.specs.StopKinds.{status_of_stop}
 use Rattle.serve_app.specs.Words.{IsRender}
-use Rattle.serve_app.specs.Meaning.{Meaning, a_clip, wrong_input, MeansClip, Means, meaning_of, status_of}
-use Rattle.serve_app.specs.Rendered.{PutsNothing, PutsWholeFrames}
+use Rattle.serve_app.specs.Meaning.{Meaning, a_clip, a_fault, MeansClip, Means, status_of, status_of_fault}
+use Rattle.clip_render.specs.Rendered.{PutsNothing}
+use Rattle.serve_app.specs.Rendered.{PutsWholeFrames}
 use Rattle.serve_app.specs.Stop.{IsOfScript, ScriptHasClip, RenderShows}
 use Rattle.serve_app.specs.Lines.{Says, stop_line, usage_line, read_line, write_line, memory_line}
 use Rattle.serve_app.specs.Headline.{AskForClip, IsAskedFor, HaveClip, AskForNone, EndsByScript, EndsByInput, Headline}
 use Rattle.serve_app.proofs.MeaningLemmas.{means_one_thing}
-use Rattle.serve_app.proofs.StopLemmas.{whole_frames_of, none_is_prefix, frames_are_prefix}
+use Rattle.serve_app.proofs.TextLemmas.{whole_frames_of, none_is_prefix, frames_are_prefix}
 
 -- the words ask for one script at most
 same_script : (words : List (List ℕ)) (script other : List ℕ) → IsRender words script → IsRender words other → script ≡ other
@@ -30,33 +33,28 @@ same_script words script other one two = let first = one.command in let second =
 clip_of : (one other : Clip) → a_clip one ≡ a_clip other → one ≡ other
 clip_of one other is = cc
 
-script_status : (fault : ScriptFault) → status_of (meaning_of fault) ≡ 2
-script_status script_fault.NotThere = refl
-script_status script_fault.ScriptTooLong = refl
-script_status script_fault.NotUtf8 = refl
-script_status (script_fault.Lex kind line) = refl
-script_status (script_fault.Syntax line) = refl
-script_status (script_fault.NestLimit line) = refl
-script_status script_fault.Unbuilt = refl
+script_status : (kind : ScriptKind) (name : List ℕ) (line : ℕ) (fault : Fault) → Names kind name line fault → status_of_fault fault ≡ 2
+script_status kind name line fault (inl is) = rw is refl
+script_status kind name line fault (inr is) = rw is.1 refl
 
 -- ---- statuses of stops
 
-never_zero : (stop : Stop (List ℕ)) → status_of_stop stop ≡ 0 → ⊥
-never_zero (Script fault) is = omega (arith, is)
+never_zero : (stop : Stop) → status_of_stop stop ≡ 0 → ⊥
+never_zero (Script kind name line) is = omega (arith, is)
 never_zero (Input name fault) is = omega (arith, is)
 never_zero Read is = omega (arith, is)
 never_zero Write is = omega (arith, is)
 never_zero Memory is = omega (arith, is)
 
-never_one : (stop : Stop (List ℕ)) → status_of_stop stop ≡ 1 → ⊥
-never_one (Script fault) is = omega (arith, is)
+never_one : (stop : Stop) → status_of_stop stop ≡ 1 → ⊥
+never_one (Script kind name line) is = omega (arith, is)
 never_one (Input name fault) is = omega (arith, is)
 never_one Read is = omega (arith, is)
 never_one Write is = omega (arith, is)
 never_one Memory is = omega (arith, is)
 
-most : (stop : Stop (List ℕ)) → status_of_stop stop ≤ 6
-most (Script fault) = omega arith
+most : (stop : Stop) → status_of_stop stop ≤ 6
+most (Script kind name line) = omega arith
 most (Input name fault) = omega arith
 most Read = omega arith
 most Write = omega arith
@@ -114,20 +112,20 @@ module _ {F S K E : Type 0} (files : of_files.Ghosts F S) (sink : Ghosts K) (lin
 
   -- ---- a render that stopped
 
-  module _ (stop : Stop (List ℕ)) where
+  module _ (stop : Stop) where
     abbrev Shown : Type 0
-    Shown = RenderShows files sink script f g out new stop
+    Shown = RenderShows (FilesFailed files f g) sink (files.world f) script out new stop
 
-  prefix_of : (stop : Stop (List ℕ)) → Shown stop → (clip : Clip) → IsAskedFor (files.world f) words clip → PutsPrefix sink out new (stream clip)
-  prefix_of (Script fault) shown clip is = none_is_prefix sink out new clip shown.1
+  prefix_of : (stop : Stop) → Shown stop → (clip : Clip) → IsAskedFor (files.world f) words clip → PutsPrefix sink out new (stream clip)
+  prefix_of (Script kind name line) shown clip is = none_is_prefix sink out new clip shown.1
   prefix_of (Input name NotThere) shown clip is = none_is_prefix sink out new clip shown.1
   prefix_of (Input name (Y4m fault)) shown clip is = none_is_prefix sink out new clip shown.1
-  prefix_of (Input name (Changed frame want got)) shown clip is = absurd (shown.0 is.world is.told_is).1
+  prefix_of (Input name (Changed frame want got)) shown clip is = absurd (shown.0 is.world is.told_is)
   prefix_of Read shown clip is = frames_are_prefix sink out new clip _ _ (of_asked clip is) shown.1
   prefix_of Write shown clip is = (let front = shown.1 in front.prefix clip (of_asked clip is))
   prefix_of Memory shown clip is = frames_are_prefix sink out new clip _ _ (of_asked clip is) shown
 
-  nothing_of : (stop : Stop (List ℕ)) → Shown stop → InWorld (files.world f) (λ world. ((clip : Clip) → AskForClip world words clip → ⊥) → PutsNothing sink out new)
+  nothing_of : (stop : Stop) → Shown stop → InWorld (files.world f) (λ world. ((clip : Clip) → AskForClip world words clip → ⊥) → PutsNothing sink out new)
   nothing_of stop shown world is none = by_stop stop shown
     where
       no_clip : ScriptHasClip (files.world f) script → ⊥
@@ -137,67 +135,70 @@ module _ {F S K E : Type 0} (files : of_files.Ghosts F S) (sink : Ghosts K) (lin
       no_frames (inl put) = put
       no_frames (inr some) = absurd (no_clip some.has_one)
 
-      by_stop : (stop : Stop (List ℕ)) → Shown stop → PutsNothing sink out new
-      by_stop (Script fault) shown = shown.1
+      by_stop : (stop : Stop) → Shown stop → PutsNothing sink out new
+      by_stop (Script kind name line) shown = shown.1
       by_stop (Input name NotThere) shown = shown.1
       by_stop (Input name (Y4m fault)) shown = shown.1
-      by_stop (Input name (Changed frame want got)) shown = absurd (shown.0 world is).1
+      by_stop (Input name (Changed frame want got)) shown = absurd (shown.0 world is)
       by_stop Read shown = no_frames shown.1
       by_stop Write shown = absurd (no_clip (let front = shown.1 in front.has_one))
       by_stop Memory shown = no_frames shown
 
-  frames_of : (stop : Stop (List ℕ)) → Shown stop → (status_of_stop stop ≡ 4) ⊎ (status_of_stop stop ≡ 6) → PutsWholeFrames sink out new (IsAskedFor (files.world f) words) (HaveClip (files.world f) words)
-  frames_of (Script fault) shown which = absurd (omega (arith, which))
+  frames_of : (stop : Stop) → Shown stop → (status_of_stop stop ≡ 4) ⊎ (status_of_stop stop ≡ 6) → PutsWholeFrames sink out new (IsAskedFor (files.world f) words) (HaveClip (files.world f) words)
+  frames_of (Script kind name line) shown which = absurd (omega (arith, which))
   frames_of (Input name fault) shown which = absurd (omega (arith, which))
   frames_of Read shown which = whole_frames_of sink out new _ _ _ _ of_asked ask_has shown.1
   frames_of Write shown which = absurd (omega (arith, which))
   frames_of Memory shown which = whole_frames_of sink out new _ _ _ _ of_asked ask_has shown
 
-  script_of : (stop : Stop (List ℕ)) → Shown stop → Says lines err said (stop_line script stop) → status_of_stop stop ≡ 2 → EndsByScript files sink lines words f g out new err said
-  script_of (Script fault) shown says is = record { script = script; asked = asked; fault = fault; is = shown.0; line = says; put = shown.1 }
+  script_of : (stop : Stop) → Shown stop → Says lines err said (stop_line stop) → status_of_stop stop ≡ 2 → EndsByScript files sink lines words f g out new err said
+  script_of (Script kind name line) shown says is = record { script = script; asked = asked; kind = kind; name = name; at = line; is = shown.0; line = says; put = shown.1 }
   script_of (Input name fault) shown says is = absurd (omega (arith, is))
   script_of Read shown says is = absurd (omega (arith, is))
   script_of Write shown says is = absurd (omega (arith, is))
   script_of Memory shown says is = absurd (omega (arith, is))
 
-  input_of : (stop : Stop (List ℕ)) → Shown stop → Says lines err said (stop_line script stop) → status_of_stop stop ≡ 3 → EndsByInput files sink lines words f g out new err said
-  input_of (Script fault) shown says is = absurd (omega (arith, is))
+  input_of : (stop : Stop) → Shown stop → Says lines err said (stop_line stop) → status_of_stop stop ≡ 3 → EndsByInput files sink lines words f g out new err said
+  input_of (Script kind name line) shown says is = absurd (omega (arith, is))
   input_of (Input name fault) shown says is = record { script = script; asked = asked; name = name; fault = fault; is = shown.0; line = says; put = shown.1 }
   input_of Read shown says is = absurd (omega (arith, is))
   input_of Write shown says is = absurd (omega (arith, is))
   input_of Memory shown says is = absurd (omega (arith, is))
 
-  read_of : (stop : Stop (List ℕ)) → Shown stop → Says lines err said (stop_line script stop) → status_of_stop stop ≡ 4 → FilesFailed files f g × Says lines err said read_line
-  read_of (Script fault) shown says is = absurd (omega (arith, is))
+  read_of : (stop : Stop) → Shown stop → Says lines err said (stop_line stop) → status_of_stop stop ≡ 4 → FilesFailed files f g × Says lines err said read_line
+  read_of (Script kind name line) shown says is = absurd (omega (arith, is))
   read_of (Input name fault) shown says is = absurd (omega (arith, is))
   read_of Read shown says is = (shown.0, says)
   read_of Write shown says is = absurd (omega (arith, is))
   read_of Memory shown says is = absurd (omega (arith, is))
 
-  write_of : (stop : Stop (List ℕ)) → Shown stop → Says lines err said (stop_line script stop) → status_of_stop stop ≡ 5 → SinkFailed sink out new × HaveClip (files.world f) words × Says lines err said write_line
-  write_of (Script fault) shown says is = absurd (omega (arith, is))
+  write_of : (stop : Stop) → Shown stop → Says lines err said (stop_line stop) → status_of_stop stop ≡ 5 → SinkFailed sink out new × HaveClip (files.world f) words × Says lines err said write_line
+  write_of (Script kind name line) shown says is = absurd (omega (arith, is))
   write_of (Input name fault) shown says is = absurd (omega (arith, is))
   write_of Read shown says is = absurd (omega (arith, is))
   write_of Write shown says is = (shown.0, ask_has (let front = shown.1 in front.has_one), says)
   write_of Memory shown says is = absurd (omega (arith, is))
 
-  memory_of : (stop : Stop (List ℕ)) → Says lines err said (stop_line script stop) → status_of_stop stop ≡ 6 → Says lines err said memory_line
-  memory_of (Script fault) says is = absurd (omega (arith, is))
+  memory_of : (stop : Stop) → Says lines err said (stop_line stop) → status_of_stop stop ≡ 6 → Says lines err said memory_line
+  memory_of (Script kind name line) says is = absurd (omega (arith, is))
   memory_of (Input name fault) says is = absurd (omega (arith, is))
   memory_of Read says is = absurd (omega (arith, is))
   memory_of Write says is = absurd (omega (arith, is))
   memory_of Memory says is = says
 
-  complete_of : (stop : Stop (List ℕ)) → Shown stop → (world : World) (other : List ℕ) (meaning : Meaning) → files.world f ≡ Some world → IsRender words other → Means world other meaning
+  complete_of : (stop : Stop) → Shown stop → (world : World) (other : List ℕ) (meaning : Meaning) → files.world f ≡ Some world → IsRender words other → Means world other meaning
       → (FilesFailed files f g → ⊥) → (SinkFailed sink out new → ⊥) → (status_of_stop stop ≡ status_of meaning) ⊎ (status_of_stop stop ≡ 6)
-  complete_of (Script fault) shown world other meaning is too means no_fault no_failure =
-      inl (sym (script_status fault) ∙ same_meaning world other (meaning_of fault) meaning too (shown.0 world is) means)
-  complete_of (Input name fault) shown world other meaning is too means no_fault no_failure = inl (same_meaning world other (wrong_input name fault) meaning too (shown.0 world is) means)
+  complete_of (Script kind name line) shown world other meaning is too means no_fault no_failure =
+      let wrong = shown.0 world is in
+      inl (sym (script_status kind name line wrong.0 wrong.1.0) ∙ same_meaning world other (a_fault wrong.0) meaning too wrong.1.1 means)
+  complete_of (Input name NotThere) shown world other meaning is too means no_fault no_failure = inl (same_meaning world other (a_fault (input name clip_fault.NotThere)) meaning too (shown.0 world is) means)
+  complete_of (Input name (Y4m fault)) shown world other meaning is too means no_fault no_failure = inl (same_meaning world other (a_fault (input name (clip_fault.Y4m fault))) meaning too (shown.0 world is) means)
+  complete_of (Input name (Changed frame want got)) shown world other meaning is too means no_fault no_failure = absurd (shown.0 world is)
   complete_of Read shown world other meaning is too means no_fault no_failure = absurd (no_fault shown.0)
   complete_of Write shown world other meaning is too means no_fault no_failure = absurd (no_failure shown.0)
   complete_of Memory shown world other meaning is too means no_fault no_failure = inr refl
 
-  pub headline_of_stop : (stop : Stop (List ℕ)) → Shown stop → Says lines err said (stop_line script stop) → KeepsFiles files f g → IsLater sink out new → Headline files sink lines words f g out new err said (status_of_stop stop)
+  pub headline_of_stop : (stop : Stop) → Shown stop → Says lines err said (stop_line stop) → KeepsFiles files f g → IsLater sink out new → Headline files sink lines words f g out new err said (status_of_stop stop)
   headline_of_stop stop shown says keeps later = record {
     whole = λ zero. absurd (never_zero stop zero);
     prefix = prefix_of stop shown;

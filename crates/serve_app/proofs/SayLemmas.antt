@@ -9,7 +9,10 @@ use Rattle.fv_io.specs.Sink.{Puts, PutsPrefix, SinkFailed, IsLater}
 use Rattle.y4m_stream.proofs.CallerLemmas.{put_cut, one_more}
 use Rattle.y4m_stream.specs.declared.fault.Y4mFault.{Y4mFault}
 use Rattle.y4m_stream.specs.declared.fault.Y4mFault.TheVariants as of_stream
-use Rattle.serve_app.specs.Lines.{Says, y4m_detail}
+use Rattle.avs_meaning.specs.FaultNames.{kind_name}
+use Rattle.avs_meaning.specs.declared.fault.ScriptKind.{ScriptKind}
+use Rattle.avs_meaning.specs.declared.fault.ScriptKind.TheVariants as k
+use Rattle.serve_app.specs.Lines.{Says, kind_text, y4m_detail}
 
 -- what holds of an answer that is an error
 pub of_err : {T E P : Type 0} (r : Result T E) → is_err r ≡ true → OnErr r P → P
@@ -39,6 +42,12 @@ pub detail_line : (name kind detail : List ℕ)
     → codes "input fault: " ++ (name ++ (codes ": " ++ (kind ++ (codes " " ++ (detail ++ codes "\n"))))) ≡ codes "input fault: " ++ (name ++ (codes ": " ++ ((kind ++ (codes " " ++ detail)) ++ codes "\n")))
 detail_line name kind detail = simp append_assoc
 
+-- the message of an assertion comes after its name
+pub assertion_line : (name line message : List ℕ)
+    → codes "script fault: " ++ (name ++ (codes " line " ++ (line ++ (codes ": AssertFailed: " ++ (message ++ codes "\n")))))
+    ≡ codes "script fault: " ++ (name ++ (codes " line " ++ (line ++ (codes ": " ++ ((codes "AssertFailed: " ++ message) ++ codes "\n")))))
+assertion_line name line message = simp append_assoc
+
 -- a fault of a stream that is about no letter and no frame
 pub no_detail : (fault : Y4mFault) → ((letter : ℕ) → fault ≡ of_stream.BadNumber letter → ⊥) → ((frame : ℕ) → fault ≡ of_stream.BadFrame frame → ⊥) → ((frame : ℕ) → fault ≡ of_stream.Truncated frame → ⊥) → y4m_detail fault ≡ []
 no_detail of_stream.NotY4m number frame cut = refl
@@ -57,3 +66,27 @@ no_detail (of_stream.Truncated k) number frame cut = absurd (cut k refl)
 pub of_frame : (fault : Y4mFault) (frame : ℕ) → (fault ≡ of_stream.BadFrame frame) ⊎ (fault ≡ of_stream.Truncated frame) → y4m_detail fault ≡ codes " " ++ decimal frame
 of_frame fault frame (inl is) = rw is refl
 of_frame fault frame (inr is) = rw is refl
+
+-- only an assertion has a message
+pub no_message : (kind : ScriptKind) → ((message : List ℕ) → kind ≡ k.AssertFailed message → ⊥) → kind_text kind ≡ kind_name kind
+no_message (k.AssertFailed message) other = absurd (other message refl)
+no_message (k.Lex kind) other = refl
+no_message (k.Filter fault) other = refl
+no_message (k.File kind) other = refl
+no_message k.TypeFault other = refl
+no_message k.Overflow other = refl
+no_message k.DivZero other = refl
+no_message k.BadText other = refl
+no_message k.BadRange other = refl
+no_message k.TextLimit other = refl
+no_message k.Syntax other = refl
+no_message k.NestLimit other = refl
+no_message k.UnknownName other = refl
+no_message k.NoMatch other = refl
+no_message k.NotClip other = refl
+no_message k.DuplicateFunction other = refl
+no_message k.StepLimit other = refl
+no_message k.CallDepth other = refl
+no_message k.NodeLimit other = refl
+no_message k.DepthLimit other = refl
+no_message k.Unbuilt other = refl

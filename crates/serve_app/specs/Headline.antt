@@ -9,11 +9,12 @@ use Rattle.fv_io.specs.Sink.{Puts, PutsPrefix, IsLater, SinkFailed}
 use Rattle.fv_io.specs.World.{World, InWorld}
 use Rattle.fv_plane.specs.Clip.{Clip}
 use Rattle.y4m_stream.specs.Stream.{stream}
-use Rattle.serve_app.specs.declared.fault.ScriptFault.{ScriptFault}
+use Rattle.avs_meaning.specs.declared.fault.ScriptKind.{ScriptKind}
 use Rattle.serve_app.specs.declared.fault.InputFault.{InputFault}
 use Rattle.serve_app.specs.Words.{IsRender}
 use Rattle.serve_app.specs.Meaning.{Meaning, MeansClip, Means, status_of}
-use Rattle.serve_app.specs.Rendered.{PutsNothing, PutsWholeFrames}
+use Rattle.clip_render.specs.Rendered.{PutsNothing}
+use Rattle.serve_app.specs.Rendered.{PutsWholeFrames}
 use Rattle.serve_app.specs.Stop.{PutsBefore, IsScriptFault, IsNamedFault}
 use Rattle.serve_app.specs.Lines.{Says, usage_line, read_line, write_line, memory_line, script_line, input_line}
 
@@ -38,13 +39,15 @@ AskForNone words = (script : List ℕ) → IsRender words script → ⊥
 
 module _ {F S K E : Type 0} (files : of_files.Ghosts F S) (sink : Ghosts K) (lines : Ghosts E)
     (words : List (List ℕ)) (f g : F) (out new : K) (err said : E) where
-  -- the script has a fault, its line is put, and nothing is on the output
+  -- the text of this name has a fault at a line, the line of the fault is put, and nothing is on the output
   pub record EndsByScript : Type 0 where
     pub script : List ℕ
     pub asked : IsRender words script
-    pub fault : ScriptFault
-    pub is : IsScriptFault (files.world f) script fault
-    pub line : Says lines err said (script_line script fault)
+    pub kind : ScriptKind
+    pub name : List ℕ
+    pub at : ℕ
+    pub is : IsScriptFault (files.world f) script kind name at
+    pub line : Says lines err said (script_line kind name at)
     pub put : PutsNothing sink out new
 
   -- an input has a fault, and its line is put. Nothing is on the output, or the frames before, where the input changed

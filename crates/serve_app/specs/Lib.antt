@@ -1,9 +1,8 @@
 pub mod Words
-pub mod Script
 pub mod Meaning
 pub mod Rendered
 pub mod StopKinds
 pub mod Stop
-pub mod Copying
+pub mod Playing
 pub mod Lines
 pub mod Headline

@@ -1,82 +1,61 @@
--- What a script means in a world of files: a clip, a fault of the script, or one of an input.
-use Rattle.std.specs.Prelude.{◌≡◌, ℕ, List, Some, None}
-use Rattle.std.specs.FinMap.{get}
+-- What a script means in a world of files: a clip, or its first fault.
+use Rattle.std.specs.Prelude.{◌≡◌, ℕ, List, length, slice_get, slice_index_or, [], Some}
 use Rattle.fv_io.specs.World.{World}
 use Rattle.fv_plane.specs.Clip.{Clip}
-use Rattle.y4m_stream.specs.declared.fault.Y4mFault.{Y4mFault}
-use Rattle.y4m_stream.specs.Stream.{Stream, HasFault}
-use Rattle.serve_app.specs.declared.fault.ScriptFault.{ScriptFault}
-use Rattle.serve_app.specs.declared.fault.ScriptFault.TheVariants as of_script
-use Rattle.serve_app.specs.declared.fault.InputFault.{InputFault}
-use Rattle.serve_app.specs.declared.fault.InputFault.TheVariants as of_input
-use Rattle.serve_app.specs.Script.{Calls, Wrong, too_long, not_utf8, lexical, unparsed, unbuilt, IsWrong}
+use Rattle.fv_plane.specs.Picture.{Picture}
+use Rattle.clip_graph.specs.Plan.{Application}
+use Rattle.clip_render.specs.Clips.{clip_at}
+use Rattle.avs_load.specs.Load.{script_of}
+use Rattle.avs_meaning.specs.Faults.{Fault, script, refused, input}
+use Rattle.avs_meaning.specs.Meaning as m
+use Rattle.avs_meaning.specs.Outside.{outside_of}
+use Rattle.avs_meaning.specs.declared.state.SourceClip.{SourceClip}
+use Rattle.avs_expressions.specs.Sources.{sources_of}
+use Rattle.avs_files.specs.Opened.{IsFileOf}
+
+-- the plan of a script and the place of its clip, or its first fault, by the files of a world
+abbrev pub meaning_in : World → List ℕ → m.Meaning
+meaning_in world name = m.meaning (outside_of script_of world) name
+
+-- the file of this name is a stream of these pictures
+pub record HasPictures (world : World) (name : List ℕ) (pictures : List Picture) : Type 0 where
+  pub clip : Clip
+  pub file : IsFileOf world name clip
+  pub pictures_are : pictures ≡ clip.pictures
+
+-- the book has the pictures of each source's file, and no more
+pub record IsBookOf (world : World) (sources : List SourceClip) (book : List (List Picture)) : Type 0 where
+  pub count : length book ≡ length sources
+  pub each : (k : ℕ) (one : SourceClip) → slice_get sources k ≡ Some one → HasPictures world one.name (slice_index_or book k [])
+
+-- the script means this clip: it has a plan, and the clip is that of the plan's root over the pictures of its sources
+pub record MeansClip (world : World) (name : List ℕ) (clip : Clip) : Type 0 where
+  pub plan : List Application
+  pub root : ℕ
+  pub means : meaning_in world name ≡ m.clip plan root
+  pub book : List (List Picture)
+  pub is_book : IsBookOf world (sources_of plan) book
+  pub clip_is : clip ≡ clip_at book plan root
 
 pub data Meaning : Type 0 where
   a_clip : Clip → Meaning
-  no_script : Meaning
-  wrong_script : Wrong → Meaning
-  wrong_input : (name : List ℕ) (fault : InputFault) → Meaning
-
--- the script is there, and calls for the file of this name
-pub record CallsFor (world : World) (script name : List ℕ) : Type 0 where
-  pub text : List ℕ
-  pub text_is : get world script ≡ Some text
-  pub calls : Calls text name
-
--- the file of this name is there, and its bytes are a stream of this clip
-pub record IsFileOf (world : World) (name : List ℕ) (clip : Clip) : Type 0 where
-  pub bytes : List ℕ
-  pub bytes_are : get world name ≡ Some bytes
-  pub stream : Stream bytes clip
-
--- the script calls for a file that is a stream of this clip
-pub record MeansClip (world : World) (script : List ℕ) (clip : Clip) : Type 0 where
-  pub name : List ℕ
-  pub called : CallsFor world script name
-  pub file : IsFileOf world name clip
-
--- the script is there, and this is wrong with it
-pub record IsScriptWrong (world : World) (script : List ℕ) (wrong : Wrong) : Type 0 where
-  pub text : List ℕ
-  pub text_is : get world script ≡ Some text
-  pub is : IsWrong text wrong
-
--- the file is there, and this is the first fault of its bytes
-pub record IsFaulty (world : World) (name : List ℕ) (fault : Y4mFault) : Type 0 where
-  pub bytes : List ℕ
-  pub bytes_are : get world name ≡ Some bytes
-  pub wrong : HasFault bytes fault
-
--- a file in a world doesn't change
-abbrev pub IsInputFault : World → List ℕ → InputFault → Type 0
-IsInputFault world name of_input.NotThere = get world name ≡ None
-IsInputFault world name (of_input.Y4m fault) = IsFaulty world name fault
-IsInputFault world name (of_input.Changed frame want got) = ⊥
+  a_fault : Fault → Meaning
 
 abbrev pub Means : World → List ℕ → Meaning → Type 0
-Means world script (a_clip clip) = MeansClip world script clip
-Means world script no_script = get world script ≡ None
-Means world script (wrong_script wrong) = IsScriptWrong world script wrong
-Means world script (wrong_input name fault) = CallsFor world script name × IsInputFault world name fault
+Means world name (a_clip clip) = MeansClip world name clip
+Means world name (a_fault fault) = meaning_in world name ≡ m.wrong fault
 
 -- a script means one thing at most
 abbrev pub MeansOneThing : Type 0
-MeansOneThing = (world : World) (script : List ℕ) (one other : Meaning)
-    → Means world script one → Means world script other → one ≡ other
+MeansOneThing = (world : World) (name : List ℕ) (one other : Meaning)
+    → Means world name one → Means world name other → one ≡ other
+
+abbrev pub status_of_fault : Fault → ℕ
+status_of_fault (script kind name line) = 2
+status_of_fault (refused name) = 2
+status_of_fault (input name fault) = 3
 
 -- the status of a render, where nothing fails
 abbrev pub status_of : Meaning → ℕ
 status_of (a_clip clip) = 0
-status_of no_script = 2
-status_of (wrong_script wrong) = 2
-status_of (wrong_input name fault) = 3
-
--- what a script means that has this fault
-abbrev pub meaning_of : ScriptFault → Meaning
-meaning_of of_script.NotThere = no_script
-meaning_of of_script.ScriptTooLong = wrong_script too_long
-meaning_of of_script.NotUtf8 = wrong_script not_utf8
-meaning_of (of_script.Lex kind line) = wrong_script (lexical kind line)
-meaning_of (of_script.Syntax line) = wrong_script unparsed
-meaning_of (of_script.NestLimit line) = wrong_script unparsed
-meaning_of of_script.Unbuilt = wrong_script unbuilt
+status_of (a_fault fault) = status_of_fault fault

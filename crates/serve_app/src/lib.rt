@@ -3,17 +3,16 @@
 //! Its contract, the headline, says what each status means: what was written, and why.
 #![tactic(auto)]
 
-mod copy;
 mod fault;
 pub mod laws;
+mod play;
 mod render;
 mod run;
 mod say;
-mod script;
 mod stop;
 #[cfg(test)]
 mod tests;
 mod words;
 
-pub use fault::{InputFault, ScriptFault};
+pub use fault::InputFault;
 pub use run::{Ending, run_plain};

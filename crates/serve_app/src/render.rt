@@ -1,77 +1,96 @@
-// The clip of a script, rendered.
-ghost use Rattle.std.specs.Prelude.{◌≡◌, OnOk, IfOk, IfErr};
-ghost use Rattle.fv_io.specs.Files.{KeepsFiles};
+// The clip of a script, rendered over files.
+ghost use Rattle.std.specs.Prelude.{◌≡◌, ◌≤◌, OnOk, IfErr};
+ghost use Rattle.fv_io.specs.Faults.{HasRisen};
+ghost use Rattle.fv_io.specs.Files.{KeepsFiles, FilesFailed};
 ghost use Rattle.fv_io.specs.Sink.{Puts, IsLater};
 ghost use Rattle.fv_io.specs.World.{InWorld};
 ghost use Rattle.fv_plane.specs.Clip.{Clip};
 ghost use Rattle.y4m_stream.specs.Stream.{stream};
-ghost use Rattle.serve_app.specs.Meaning.{CallsFor, IsFileOf, MeansClip};
-ghost use Rattle.serve_app.specs.Stop.{NameShows, FileShows, RenderShows};
+ghost use Rattle.avs_files.specs.Opened.{told_of};
+ghost use Rattle.serve_app.specs.Meaning.{MeansClip};
+ghost use Rattle.serve_app.specs.Stop.{RenderShows};
 
-use crate::copy::copy_stream;
-use crate::fault::{InputFault, ScriptFault};
-use crate::script::read_script;
+use crate::play::play;
 use crate::stop::Stop;
-use fv_io::{FetchFault, Files, Sink, Text};
+use avs_files::{FileHost, HeldFiles, Known, Lent, close_all};
+use fv_io::{Files, Sink, Text};
 use std::alloc::Global;
+use std::marker::{Brand, PhantomData};
 
-// The name of the file that a script calls for. It closes the script.
-fn called_name<F: Files>(alloc: Global, files: &mut F, script: &Text) -> Result<Text, Stop<Text>>
-    ensures called { IfOk result (λ name. InWorld (F.world files.old) (λ world. CallsFor world script.now name)) }
-    ensures stop { IfErr result (NameShows F.Files script.now files.old files.new) }
-    ensures keeps { KeepsFiles F.Files files.old files.new }
-{
-    let mut source = match files.fetch(script) {
-        Ok(source) => source,
-        Err(FetchFault::NotThere) => return Err(Stop::Script(ScriptFault::NotThere)),
-        Err(FetchFault::Failed) => return Err(Stop::Read),
-        Err(FetchFault::Memory) => return Err(Stop::Memory),
-    };
-    let name = read_script(alloc, &mut source);
-    files.close(source);
-    name
-}
-
-// Copies the file of this name, and closes it.
-fn copy_file<F: Files, K: Sink>(
+// Renders over files of which this is known, closes what was opened, and gives the files back.
+fn render_in<H: HeldFiles, W: Known, K: Sink>(
     alloc: Global,
-    files: &mut F,
+    answer: &mut Result<(), Stop>,
+    files: H,
+    of: PhantomData<W>,
     out: &mut K,
-    name: &Text,
-) -> Result<(), Stop<()>>
-    ensures whole { OnOk result (InWorld (F.world files.old) (λ world.
-        (clip : Clip) × IsFileOf world name.now clip × Puts K.Sink out.old out.new (stream clip))) }
-    ensures stop { IfErr result (FileShows F.Files K.Sink name.now files.old files.new out.old out.new) }
-    ensures keeps { KeepsFiles F.Files files.old files.new }
-    ensures later { IsLater K.Sink out.old out.new }
+    script: &Text,
+) -> H
+    requires world { H.world files ≡ told_of W.told W.world }
+    requires borrow { H.borrow files ≡ W.borrow }
+    requires given { H.given files ≡ W.given }
+    ensures whole { OnOk answer.new (InWorld (told_of W.told W.world) (λ world.
+        (clip : Clip) × MeansClip world script.now clip × Puts K.Sink out.old out.new (stream clip))) }
+    ensures stop { IfErr answer.new (RenderShows (HasRisen (H.faults files) (H.faults result)) K.Sink
+        (told_of W.told W.world) script.now out.old out.new) }
+    ensures world { H.world result ≡ told_of W.told W.world }
+    ensures borrow { H.borrow result ≡ W.borrow }
+    ensures given { H.given result ≡ W.given }
+    ensures later { H.faults files ≤ H.faults result }
+    ensures later_sink { IsLater K.Sink out.old out.new }
 {
-    let source = match files.fetch(name) {
-        Ok(source) => source,
-        Err(FetchFault::NotThere) => return Err(Stop::Input((), InputFault::NotThere)),
-        Err(FetchFault::Failed) => return Err(Stop::Read),
-        Err(FetchFault::Memory) => return Err(Stop::Memory),
-    };
-    let (source, copied) = copy_stream(alloc, source, out);
-    files.close(source);
-    copied
+    let mut host = FileHost::new(alloc, files, of);
+    *answer = play(alloc, &mut host, out, script);
+    let FileHost {
+        alloc: _,
+        mut files,
+        listed: _,
+        sources,
+        of: _,
+    } = host;
+    close_all(&mut files, sources);
+    files
 }
 
-/// Renders the clip of a script: it reads the script, and copies the file that the script calls for. It closes both.
+// Renders over files, and gives them back.
+#[tactic(auto, using(crate::proofs::PickLemmas::picked))]
+fn render_held<H: HeldFiles, K: Sink>(
+    alloc: Global,
+    answer: &mut Result<(), Stop>,
+    files: H,
+    out: &mut K,
+    script: &Text,
+) -> H
+    ensures whole { OnOk answer.new (InWorld (H.world files) (λ world.
+        (clip : Clip) × MeansClip world script.now clip × Puts K.Sink out.old out.new (stream clip))) }
+    ensures stop { IfErr answer.new (RenderShows (HasRisen (H.faults files) (H.faults result)) K.Sink
+        (H.world files) script.now out.old out.new) }
+    ensures world { H.world result ≡ H.world files }
+    ensures borrow { H.borrow result ≡ H.borrow files }
+    ensures given { H.given result ≡ H.given files }
+    ensures later { H.faults files ≤ H.faults result }
+    ensures later_sink { IsLater K.Sink out.old out.new }
+{
+    render_in::<H, Brand, K>(alloc, answer, files, PhantomData, out, script)
+}
+
+/// Renders the clip of a script: it evaluates the script, and puts the head and the frames of its clip. It closes every file
+/// that it opened.
 pub(crate) fn render<F: Files, K: Sink>(
     alloc: Global,
     files: &mut F,
     out: &mut K,
     script: &Text,
-) -> Result<(), Stop<Text>>
+) -> Result<(), Stop>
     ensures whole { OnOk result (InWorld (F.world files.old) (λ world.
         (clip : Clip) × MeansClip world script.now clip × Puts K.Sink out.old out.new (stream clip))) }
-    ensures stop { IfErr result (RenderShows F.Files K.Sink script.now files.old files.new out.old out.new) }
+    ensures stop { IfErr result (RenderShows (FilesFailed F.Files files.old files.new) K.Sink (F.world files.old)
+        script.now out.old out.new) }
     ensures keeps { KeepsFiles F.Files files.old files.new }
     ensures later { IsLater K.Sink out.old out.new }
 {
-    let name = called_name(alloc, files, script)?;
-    match copy_file(alloc, files, out, &name) {
-        Ok(()) => Ok(()),
-        Err(stop) => Err(stop.with_name(name)),
-    }
+    let mut answer = Err(Stop::Memory);
+    let lent = render_held(alloc, &mut answer, Lent { files }, out, script);
+    let Lent { files: _ } = lent;
+    answer
 }

@@ -36,7 +36,7 @@ pub fn run_plain<F: Files, K: Sink, E: Sink>(
     match render(alloc, files, out, script) {
         Ok(()) => Ending { status: 0 },
         Err(stop) => {
-            say_stop(err, script, &stop);
+            say_stop(err, &stop);
             Ending {
                 status: stop.status(),
             }

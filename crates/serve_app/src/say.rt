@@ -2,8 +2,9 @@
 ghost use Rattle.std.specs.Prelude.{◌≡◌, ◌++◌, flat_map, codes, decimal};
 ghost use Rattle.serve_app.specs.Lines.{Says, usage_line, script_line, input_line, stop_line};
 
-use crate::fault::{InputFault, ScriptFault};
+use crate::fault::InputFault;
 use crate::stop::Stop;
+use avs_meaning::ScriptKind;
 use fv_io::{Sink, Text};
 use itoa::Buffer;
 use y4m_stream::Y4mFault;
@@ -29,9 +30,9 @@ pub(crate) fn say_usage<E: Sink>(err: &mut E)
     say(err, &[USAGE]);
 }
 
-// Says that the script has a fault of this kind at this line.
-fn say_script_kind<E: Sink>(err: &mut E, script: &Text, line: u32, kind: &str)
-    ensures { Says E.Sink err.old err.new (codes "script fault: " ++ (script.now
+// Says that the text of this name has a fault of this kind at this line.
+fn say_script_kind<E: Sink>(err: &mut E, name: &Text, line: u32, kind: &str)
+    ensures { Says E.Sink err.old err.new (codes "script fault: " ++ (name.now
         ++ (codes " line " ++ (decimal line ++ (codes ": " ++ (kind.now ++ codes "\n")))))) }
 {
     let mut digits = Buffer::new();
@@ -40,7 +41,7 @@ fn say_script_kind<E: Sink>(err: &mut E, script: &Text, line: u32, kind: &str)
         err,
         &[
             "script fault: ",
-            script.as_str(),
+            name.as_str(),
             " line ",
             line,
             ": ",
@@ -50,18 +51,33 @@ fn say_script_kind<E: Sink>(err: &mut E, script: &Text, line: u32, kind: &str)
     );
 }
 
-// Says what is wrong with the script of this name.
-fn say_script<E: Sink>(err: &mut E, script: &Text, fault: ScriptFault)
-    ensures { Says E.Sink err.old err.new (script_line script.now fault) }
+// Says that an assertion failed, with its message.
+fn say_assertion<E: Sink>(err: &mut E, name: &Text, line: u32, message: &Text)
+    ensures { Says E.Sink err.old err.new (script_line (ScriptKind.AssertFailed message.now) name.now line) }
 {
-    match fault {
-        ScriptFault::NotThere => say_script_kind(err, script, 0, "NotThere"),
-        ScriptFault::ScriptTooLong => say_script_kind(err, script, 0, "ScriptTooLong"),
-        ScriptFault::NotUtf8 => say_script_kind(err, script, 0, "NotUtf8"),
-        ScriptFault::Lex { kind, line } => say_script_kind(err, script, line, kind.name()),
-        ScriptFault::Syntax { line } => say_script_kind(err, script, line, "Syntax"),
-        ScriptFault::NestLimit { line } => say_script_kind(err, script, line, "NestLimit"),
-        ScriptFault::Unbuilt => say_script_kind(err, script, 1, "Unbuilt"),
+    let mut digits = Buffer::new();
+    let line = digits.format(line);
+    say(
+        err,
+        &[
+            "script fault: ",
+            name.as_str(),
+            " line ",
+            line,
+            ": AssertFailed: ",
+            message.as_str(),
+            "\n",
+        ],
+    );
+}
+
+// Says what is wrong with the text of this name.
+fn say_script<E: Sink>(err: &mut E, kind: &ScriptKind, name: &Text, line: u32)
+    ensures { Says E.Sink err.old err.new (script_line kind.now name.now line) }
+{
+    match kind {
+        ScriptKind::AssertFailed(message) => say_assertion(err, name, line, message),
+        _ => say_script_kind(err, name, line, kind.name()),
     }
 }
 
@@ -147,13 +163,13 @@ fn say_input<E: Sink>(err: &mut E, name: &Text, fault: InputFault)
     }
 }
 
-/// Says why the render of this script stopped.
-pub(crate) fn say_stop<E: Sink>(err: &mut E, script: &Text, stop: &Stop<Text>)
-    ensures { Says E.Sink err.old err.new (stop_line script.now stop.now) }
+/// Says why a render stopped.
+pub(crate) fn say_stop<E: Sink>(err: &mut E, stop: &Stop)
+    ensures { Says E.Sink err.old err.new (stop_line stop.now) }
 {
     match stop {
-        Stop::Script(fault) => say_script(err, script, *fault),
-        Stop::Input(name, fault) => say_input(err, name, *fault),
+        Stop::Script { kind, name, line } => say_script(err, kind, name, *line),
+        Stop::Input { name, fault } => say_input(err, name, *fault),
         Stop::Read => say(err, &["read fault\n"]),
         Stop::Write => say(err, &["write fault\n"]),
         Stop::Memory => say(err, &["no memory\n"]),

@@ -1,22 +1,27 @@
 // Why a render ends early.
 ghost use Rattle.std.specs.Prelude.{◌≡◌};
-ghost use Rattle.serve_app.specs.StopKinds.{status_of_stop, stop_with};
+ghost use Rattle.serve_app.specs.StopKinds.{status_of_stop};
 
-use crate::fault::{InputFault, ScriptFault};
-use avs_lex::LexError;
-use avs_parse::ParseError;
+use crate::fault::InputFault;
+use avs_eval::EvalError;
+use avs_meaning::{InputFault as ClipFault, ScriptKind};
 use fv_io::Text;
-use seq_source::SeqFault;
-use y4m_stream::IndexFault;
+use std::alloc::AllocError;
 
-/// Why a render ends early. `N` is what is known of an input's name: nothing where its bytes are read, and its text
-/// where the script that calls for it is known.
+/// Why a render ends early.
 #[derive(Drop)]
-pub(crate) enum Stop<N> {
-    /// The script has this fault.
-    Script(ScriptFault),
-    /// The input has this fault.
-    Input(N, InputFault),
+pub(crate) enum Stop {
+    /// The text of this name has this fault, at this line.
+    Script {
+        kind: ScriptKind,
+        name: Text,
+        line: u32,
+    },
+    /// The file of this name has this fault.
+    Input {
+        name: Text,
+        fault: InputFault,
+    },
     /// A read failed.
     Read,
     /// A write failed.
@@ -25,14 +30,14 @@ pub(crate) enum Stop<N> {
     Memory,
 }
 
-impl<N> Stop<N> {
+impl Stop {
     /// The exit status that it ends with.
     pub(crate) fn status(&self) -> u8
         ensures { result ≡ status_of_stop self.now }
     {
         match self {
-            Stop::Script(_) => 2,
-            Stop::Input(_, _) => 3,
+            Stop::Script { .. } => 2,
+            Stop::Input { .. } => 3,
             Stop::Read => 4,
             Stop::Write => 5,
             Stop::Memory => 6,
@@ -40,78 +45,45 @@ impl<N> Stop<N> {
     }
 }
 
-impl Stop<()> {
-    /// The same stop, of an input of this name.
-    pub(crate) fn with_name(self, name: Text) -> Stop<Text>
-        ensures { result ≡ stop_with name self }
-    {
-        match self {
-            Stop::Script(fault) => Stop::Script(fault),
-            Stop::Input((), fault) => Stop::Input(name, fault),
-            Stop::Read => Stop::Read,
-            Stop::Write => Stop::Write,
-            Stop::Memory => Stop::Memory,
-        }
-    }
-}
-
-impl From<IndexFault> for Stop<()> {
+impl From<ClipFault> for InputFault {
     ghost use Rattle.std.specs.Prelude.{◌≡◌};
-    ghost use Rattle.serve_app.specs.Copying.{stop_of_index};
+    ghost use Rattle.serve_app.specs.StopKinds.{input_of};
 
-    ghost from_gives = { λ fault stop. stop ≡ stop_of_index fault };
+    ghost from_gives = { λ fault input. input ≡ input_of fault };
 
-    fn from(fault: IndexFault) -> Stop<()> {
+    fn from(fault: ClipFault) -> InputFault {
         match fault {
-            IndexFault::Y4m(fault) => Stop::Input((), InputFault::Y4m(fault)),
-            IndexFault::Read => Stop::Read,
-            IndexFault::Memory => Stop::Memory,
+            ClipFault::NotThere => InputFault::NotThere,
+            ClipFault::Y4m(fault) => InputFault::Y4m(fault),
         }
     }
 }
 
-impl From<SeqFault> for Stop<()> {
+impl From<EvalError> for Stop {
     ghost use Rattle.std.specs.Prelude.{◌≡◌};
-    ghost use Rattle.serve_app.specs.Copying.{stop_of_frame};
+    ghost use Rattle.serve_app.specs.StopKinds.{stop_of_error};
 
-    ghost from_gives = { λ fault stop. stop ≡ stop_of_frame fault };
+    ghost from_gives = { λ error stop. stop ≡ stop_of_error error };
 
-    fn from(fault: SeqFault) -> Stop<()> {
-        match fault {
-            SeqFault::Read => Stop::Read,
-            SeqFault::Changed { frame, want, got } => {
-                Stop::Input((), InputFault::Changed { frame, want, got })
-            }
-            SeqFault::Memory => Stop::Memory,
-        }
-    }
-}
-
-impl From<LexError> for Stop<Text> {
-    ghost use Rattle.std.specs.Prelude.{◌≡◌};
-    ghost use Rattle.serve_app.specs.Script.{stop_of_lex};
-
-    ghost from_gives = { λ error stop. stop ≡ stop_of_lex error };
-
-    fn from(error: LexError) -> Stop<Text> {
+    fn from(error: EvalError) -> Stop {
         match error {
-            LexError::Fault { kind, line } => Stop::Script(ScriptFault::Lex { kind, line }),
-            LexError::Memory => Stop::Memory,
+            EvalError::Fault { kind, name, line } => Stop::Script { kind, name, line },
+            EvalError::Input { name, fault } => Stop::Input {
+                name,
+                fault: InputFault::from(fault),
+            },
+            EvalError::Read => Stop::Read,
+            EvalError::Memory => Stop::Memory,
         }
     }
 }
 
-impl From<ParseError> for Stop<Text> {
-    ghost use Rattle.std.specs.Prelude.{◌≡◌};
-    ghost use Rattle.serve_app.specs.Script.{stop_of_parse};
+impl From<AllocError> for Stop {
+    ghost use Rattle.serve_app.specs.declared.stop.Stop.TheVariants.{Memory};
 
-    ghost from_gives = { λ error stop. stop ≡ stop_of_parse error };
+    ghost from_gives = { λ _ stop. stop ≡ Memory };
 
-    fn from(error: ParseError) -> Stop<Text> {
-        match error {
-            ParseError::Syntax { line, .. } => Stop::Script(ScriptFault::Syntax { line }),
-            ParseError::NestLimit { line, .. } => Stop::Script(ScriptFault::NestLimit { line }),
-            ParseError::Memory => Stop::Memory,
-        }
+    fn from(_: AllocError) -> Stop {
+        Stop::Memory
     }
 }

@@ -98,6 +98,28 @@ fn a_render_succeeds(rt: HostRuntime) -> Result<(), Fail> {
     Ok(())
 }
 
+// A function, `last`, an import and a text that is evaluated.
+#[test]
+fn scripts_are_executed(rt: HostRuntime) -> Result<(), Fail> {
+    let alloc = rt.alloc();
+    let script: &[u8] = b"function one(clip c, int n) { c.Trim(n, length=1) }\n\
+        Import(\"lib.avs\")\nEval(\"c = source()\")\nc.one(3) + one(c, 0).FlipVertical\nlast ++ last.Trim(0, 0)";
+    let mut files = script_and_clip(alloc, "s.avs", script, 64, &[])?;
+    files.add(
+        Text::from_str(alloc, "lib.avs")?,
+        b"function source() { return Y4MSource(\"m4.y4m\") }".to_vec(alloc)?,
+        5,
+        Vec::new(alloc),
+    )?;
+    let (status, out, err) = run(alloc, RENDER, &mut files, (99, 99))?;
+    assert_eq!(rt; (status, err.bytes().len()), (0, 0));
+    let mut text = start(CLIP, 36).to_vec(alloc)?;
+    text.extend_from_slice(b"FRAME\n\x03FRAME\n\x00FRAME\n\x03FRAME\n\x00")?;
+    assert_eq!(rt; out.bytes(), text.as_slice());
+    assert_eq!(rt; files.given(), 0);
+    Ok(())
+}
+
 // The output has a head of its own, and each fault of the input's bytes is named.
 #[test]
 fn inputs_are_streams(rt: HostRuntime) -> Result<(), Fail> {
@@ -207,16 +229,16 @@ fn scripts_have_faults(rt: HostRuntime) -> Result<(), Fail> {
             1,
             "NestLimit",
         ),
-        (b"", 1, "Unbuilt"),
-        (b"Y4MSource(\"m4.y4m\").Trim(0,0)", 1, "Unbuilt"),
-        (b"Y4MSource(\"m4.y4m\")\nlast", 1, "Unbuilt"),
-        (b"c = Y4MSource(\"m4.y4m\")", 1, "Unbuilt"),
-        (b"Y4MSource(name=\"m4.y4m\")", 1, "Unbuilt"),
+        (b"", 1, "NotClip"),
+        (b"BlankClip().Reverse", 1, "Unbuilt"),
+        (b"a = 1\nb", 2, "UnknownName"),
+        (b"Assert(false, \"no\")", 1, "AssertFailed: no"),
+        (b"BlankClip(width=1)", 1, "NotWholeChroma"),
     ];
     for (script, line, kind) in rows {
         is_wrong(&rt, alloc, script, line, kind)?;
     }
-    for (size, line, kind) in [(1_048_577, 0, "ScriptTooLong"), (1_048_576, 1, "Unbuilt")] {
+    for (size, line, kind) in [(1_048_577, 0, "ScriptTooLong"), (1_048_576, 1, "NotClip")] {
         let script = vec![in alloc; b' '; size]?;
         is_wrong(&rt, alloc, &script, line, kind)?;
     }

@@ -1,6 +1,9 @@
 -- The line is that of the stop.
 use Rattle.serve_app.proofs.say.say_stop.Goals as goal
 
+pub returns-in-Script : goal.returns-in-Script
+returns-in-Script g c = rw c.in-Script.is c.say_script.ensures
+
 pub returns-in-Input : goal.returns-in-Input
 returns-in-Input g c = rw c.in-Input.is c.say_input.ensures
 

@@ -1,0 +1,257 @@
+-- A clip that was put, and what a script means.
+use Rattle.std.proofs.Common.{◌≡◌, ◌∙◌, ◌⊎◌, ◌≤◌, ◌<◌, ℕ, zero, suc, arith, Bool, true, false, IsTrue, List, [], ◌∷◌, ◌++◌, length, take, map, get_or, slice_get, Option, Some, None, Err, All, refl, inl, inr, sym, ap, subst, drop}
+use Rattle.std.proofs.lemmas.List.{take_all, length-map}
+use Rattle.std.proofs.lemmas.List.FromFn.{length-range_with_len}
+use Rattle.std.specs.List.{range_with_len}
+use Rattle.fv_io.specs.Faults.{HasRisen}
+use Rattle.fv_io.specs.World.{World, InWorld}
+use Rattle.fv_io.specs.Told.{with_piece}
+use Rattle.fv_io.specs.declared.source.Source as of_source
+use Rattle.fv_io.specs.declared.sink.Sink.{Ghosts}
+use Rattle.fv_io.specs.Sink.{Puts}
+use Rattle.fv_plane.specs.declared.format.Info.{Info}
+use Rattle.fv_plane.specs.Bytes.{bytes_of}
+use Rattle.fv_plane.specs.Clip.{Clip}
+use Rattle.fv_plane.specs.Picture.{Picture}
+use Rattle.y4m_stream.specs.Head.{head}
+use Rattle.y4m_stream.specs.Stream.{frames_text, stream}
+use Rattle.seq_source.specs.FrameSource.{FrameSource}
+use Rattle.clip_term.specs.ClipTerm.{Act, source, plain, time, space, joined, soft}
+use Rattle.clip_graph.specs.Plan.{Application, application_at}
+use Rattle.clip_graph.specs.Unfolding.{key_picture}
+use Rattle.clip_frames.specs.Sources.{IsBook, HasPictures as HasFramesOf, KeepAll, AreSources, source_infos, source_info}
+use Rattle.clip_frames.specs.Faults.{HasFailed, HasChanged}
+use Rattle.clip_frames.proofs.CallerLemmas.{none_changed}
+use Rattle.clip_render.specs.Clips.{clip_at, IsClipOf}
+use Rattle.clip_render.specs.Render.{PutsFrames, PutsSome}
+use Rattle.avs_eval.specs.Evaluates.{Names}
+use Rattle.avs_eval.specs.declared.evaluation.Opened.{Opened}
+use Rattle.avs_meaning.specs.Faults.{Fault, input}
+use Rattle.avs_meaning.specs.declared.fault.InputFault.TheVariants as i
+use Rattle.avs_meaning.specs.Meaning as m
+use Rattle.avs_meaning.specs.declared.state.SourceClip.{SourceClip}
+use Rattle.avs_expressions.specs.Sources.{source_of, sources_of}
+use Rattle.avs_files.specs.Opened.{told_of, IsOpened, AreOpened}
+use Rattle.avs_files.proofs.CallerLemmas.{frames_of, has_clip, infos_listed}
+use Rattle.serve_app.specs.declared.fault.InputFault.TheVariants.{NotThere, Y4m, Changed}
+use Rattle.serve_app.specs.declared.stop.Stop.{Stop}
+use Rattle.serve_app.specs.declared.stop.Stop.TheVariants as of_stop
+use Rattle.serve_app.specs.Meaning.{meaning_in, HasPictures, IsBookOf, MeansClip}
+use Rattle.serve_app.specs.Playing.{Tells, EndsBefore, StreamShows, SomeFailed}
+use Rattle.serve_app.specs.Rendered.{PutsWholeFrames, PutsFront}
+use Rattle.serve_app.specs.Stop.{IsOfScript, ScriptHasClip, RenderShows}
+use Rattle.serve_app.proofs.MeaningLemmas.{item_at, same_plan, same_root}
+
+-- ---- worlds that are told
+
+told_same : (told : Bool) (world other : World) → told_of told world ≡ Some other → IsTrue told × (world ≡ other)
+told_same true world other is = (refl, cc)
+told_same false world other is = cc is
+
+pub in_told : (told : Bool) (world : World) (P : World → Type 0) → (IsTrue told → P world) → InWorld (told_of told world) P
+in_told told world P holds other is =
+    let same = told_same told world other is in
+    rw same.1 at (holds same.0)
+
+-- ---- the sources of a plan
+
+by_act : (act : Act) (inputs : List ℕ) (info : Info) (mode depth : ℕ) (rest : List Application) → map (λ (one : SourceClip). one.info) (sources_of rest) ≡ source_infos rest
+    → map (λ (one : SourceClip). one.info) (source_of act ++ sources_of rest) ≡ source_infos (record { act = act; inputs = inputs; info = info; mode = mode; depth = depth } ∷ rest)
+by_act (source name number info) inputs shown mode depth rest is = ap (λ l. info ∷ l) is
+by_act (plain info colour) inputs shown mode depth rest is = is
+by_act (time op) inputs shown mode depth rest is = is
+by_act (space op) inputs shown mode depth rest is = is
+by_act (joined op) inputs shown mode depth rest is = is
+by_act (soft op) inputs shown mode depth rest is = is
+
+pub infos_are : (plan : List Application) → map (λ (one : SourceClip). one.info) (sources_of plan) ≡ source_infos plan
+infos_are [] = refl
+infos_are (application ∷ rest) = by_act application.act application.inputs application.info application.mode application.depth rest (infos_are rest)
+
+module _ {S : Type 0} (of : of_source.Ghosts S) (told : Bool) (world : World) where
+  -- the opened sources are those of a plan that lists them
+  pub fit : (plan : List Application) (listed : List SourceClip) (sources : List (FrameSource S)) → sources_of plan ≡ listed → AreOpened of told world listed sources
+      → AreSources plan sources
+  fit plan listed sources same are =
+      infos_listed of told world listed sources are ∙ ap (map (λ (one : SourceClip). one.info)) (sym same) ∙ infos_are plan
+
+  within : {X : Type 0} (xs : List X) (k : ℕ) (x : X) → slice_get xs k ≡ Some x → k < length xs
+  within [] k x is = cc is
+  within (y ∷ xs) zero x is = omega arith
+  within (y ∷ xs) (suc k) x is = let less = within xs k x is in omega (arith, less)
+
+  -- the pictures of the files are those of the sources
+  pub to_book : (listed : List SourceClip) (sources : List (FrameSource S)) (book : List (List Picture)) → AreOpened of told world listed sources → IsTrue told
+      → IsBookOf world listed book → IsBook of sources book
+  to_book listed sources book are tells is = record {
+    each = λ k it here.
+        let item = item_at listed k (let less = within sources k it here in omega (arith, less, are.count)) in
+        let pictures = is.each k item.0 item.1 in
+        let opened = are.each k item.0 it item.1 here in
+        record { clip = pictures.clip; has = frames_of of told world item.0 it opened tells pictures.clip pictures.file; pictures_are = pictures.pictures_are };
+  }
+
+  more_books : (x : SourceClip) (xs : List SourceClip) (pictures : List Picture) (book : List (List Picture)) → HasPictures world x.name pictures
+      → ((k : ℕ) (one : SourceClip) → slice_get xs k ≡ Some one → HasPictures world one.name (get_or book k []))
+      → (k : ℕ) (one : SourceClip) → slice_get (x ∷ xs) k ≡ Some one → HasPictures world one.name (get_or (pictures ∷ book) k [])
+  more_books x xs pictures book first rest zero one is = let same : x ≡ one = cc in rw same at first
+  more_books x xs pictures book first rest (suc k) one is = rest k one is
+
+  book_by : (listed : List SourceClip) (sources : List (FrameSource S)) → length listed ≡ length sources → IsTrue told
+      → ((k : ℕ) (one : SourceClip) (it : FrameSource S) → slice_get listed k ≡ Some one → slice_get sources k ≡ Some it → IsOpened of told world one it)
+      → (book : List (List Picture)) × IsBookOf world listed book
+  book_by [] [] long tells each = ([], record { count = refl; each = λ k one is. cc is })
+  book_by [] (y ∷ ys) long tells each = absurd (omega (arith, long))
+  book_by (x ∷ xs) [] long tells each = absurd (omega (arith, long))
+  book_by (x ∷ xs) (y ∷ ys) long tells each =
+      let one = has_clip of told world x y (each zero x y refl refl) tells in
+      let rest = book_by xs ys (omega (arith, long)) tells (λ k a b here there. each (suc k) a b here there) in
+      let clip = one.0 in
+      let book = rest.1 in (
+        clip.pictures ∷ rest.0,
+        record {
+          count = omega (arith, book.count);
+          each = more_books x xs clip.pictures rest.0 (record { clip = clip; file = one.1; pictures_are = refl }) book.each;
+        },
+      )
+
+  -- the files have pictures
+  pub a_book : (listed : List SourceClip) (sources : List (FrameSource S)) → AreOpened of told world listed sources → IsTrue told
+      → (book : List (List Picture)) × IsBookOf world listed book
+  a_book listed sources are tells = book_by listed sources are.count tells are.each
+
+-- ---- the clip of a script
+
+module _ {S : Type 0} (of : of_source.Ghosts S) (told : Bool) (world : World) (script : List ℕ) (plan : List Application) (root : ℕ)
+    (listed : List SourceClip) (sources : List (FrameSource S)) (same : sources_of plan ≡ listed) (are : AreOpened of told world listed sources)
+    (means : IsTrue told → meaning_in world script ≡ m.clip plan root) where
+  a_clip_at : IsTrue told → (clip : Clip) × MeansClip world script clip
+  a_clip_at tells =
+      let book = a_book of told world listed sources are tells in
+      (clip_at book.0 plan root, record { plan = plan; root = root; means = means tells; book = book.0; is_book = subst (λ l. IsBookOf world l book.0) (sym same) book.1; clip_is = refl })
+
+  pub has_one : ScriptHasClip (told_of told world) script
+  has_one = in_told told world (λ w. (clip : Clip) × MeansClip w script clip) a_clip_at
+
+  of_means : IsTrue told → (clip : Clip) → MeansClip world script clip → IsClipOf of plan root sources clip
+  of_means tells clip is =
+      let both = sym is.means ∙ means tells in
+      let plans = same_plan is.plan plan is.root root both in
+      let roots = same_root is.plan plan is.root root both in
+      let book : IsBookOf world listed is.book = rw (ap sources_of plans ∙ same) at is.is_book in
+      record {
+        book = is.book;
+        is_book = to_book of told world listed sources is.book are tells book;
+        clip_is = is.clip_is ∙ ap (λ p. clip_at is.book p is.root) plans ∙ ap (λ i. clip_at is.book plan i) roots;
+      }
+
+  -- what a script means is the clip of its plan
+  pub of_script : (clip : Clip) → IsOfScript (told_of told world) script clip → IsClipOf of plan root sources clip
+  of_script clip is =
+      let both = told_same told world is.world is.told_is in
+      of_means both.0 clip (rw (sym both.1) at is.means)
+
+  module _ {K : Type 0} (sink : Ghosts K) (out put : K) where
+    whole_clip : PutsFrames of sink plan root sources out put (application_at plan root).info.frames → (clip : Clip) → IsClipOf of plan root sources clip → Puts sink out put (stream clip)
+    whole_clip frames clip is =
+        let part = frames.part in
+        let begins = frames.begins clip is in
+        let count : length clip.pictures ≡ (application_at plan root).info.frames
+        = ap (λ (c : Clip). length c.pictures) is.clip_is ∙ length-map (range_with_len 0 (application_at plan root).info.frames) (λ n. key_picture is.book plan (record { node = root; n = n }))
+        ∙ length-range_with_len 0 (application_at plan root).info.frames in
+        let all : part.pictures ≡ clip.pictures = begins.pictures ∙ take_all (length part.pictures) clip.pictures (omega (arith, frames.count, count)) in
+        frames.put ∙ ap (λ (i : Info). with_piece (sink.bytes out) (head i ++ frames_text (map bytes_of part.pictures))) begins.info
+        ∙ ap (λ (l : List Picture). with_piece (sink.bytes out) (head clip.info ++ frames_text (map bytes_of l))) all
+
+    -- all frames are the clip
+    pub all_frames : PutsFrames of sink plan root sources out put (application_at plan root).info.frames
+        → InWorld (told_of told world) (λ w. (clip : Clip) × MeansClip w script clip × Puts sink out put (stream clip))
+    all_frames frames = in_told told world (λ w. (clip : Clip) × MeansClip w script clip × Puts sink out put (stream clip)) (λ tells.
+        (let one = a_clip_at tells in (one.0, one.1, whole_clip frames one.0 (of_means tells one.0 one.1))))
+
+    some_frames : PutsSome of sink plan root sources out put → PutsWholeFrames sink out put (IsOfScript (told_of told world) script) (ScriptHasClip (told_of told world) script)
+    some_frames (inl none) = inl none
+    some_frames (inr (n, frames)) = inr (record { part = frames.part; put = frames.put; begins = λ clip is. frames.begins clip (of_script clip is); has_one = has_one })
+
+    none_of : (number frame want got : ℕ) → HasChanged of sources number frame want got → IsTrue told → ⊥
+    none_of number frame want got changed tells =
+        let book = a_book of told world listed sources are tells in
+        none_changed of sources book.0 number frame want got (to_book of told world listed sources book.0 are tells book.1) changed
+
+    -- what a stop of the stream shows
+    pub stream_stops : (failed : Type 0) (new : List (FrameSource S)) → ((number : ℕ) → HasFailed of sources new number → failed) → (stop : Stop)
+        → StreamShows of sink plan root sources new out put stop → RenderShows failed sink (told_of told world) script out put stop
+    stream_stops failed new fails (of_stop.Script kind name line) shown = absurd shown
+    stream_stops failed new fails (of_stop.Input name NotThere) shown = absurd shown
+    stream_stops failed new fails (of_stop.Input name (Y4m fault)) shown = absurd shown
+    stream_stops failed new fails (of_stop.Input name (Changed frame want got)) shown =
+        let changed = shown.0.1 in
+        let frames = shown.1.1 in
+        let early = changed.ended in
+        let item = item_at listed shown.0.0 (let less = within of told world sources shown.0.0 changed.it changed.there in omega (arith, less, are.count)) in
+        let opened = are.each shown.0.0 item.0 changed.it item.1 changed.there in (
+          in_told told world (λ w. ⊥) (λ tells. none_of shown.0.0 frame want got changed tells),
+          record {
+            index = (let it = changed.it in it.index);
+            is_index = opened.sound;
+            inside = changed.inside;
+            want_is = early.want_is;
+            early = early.early;
+            part = frames.part;
+            shapes = rw (sym frames.info_is) at frames.shapes;
+            put = frames.put;
+          },
+        )
+    stream_stops failed new fails of_stop.Read shown = (fails shown.0.0 shown.0.1, some_frames shown.1)
+    stream_stops failed new fails of_stop.Write shown = (shown.0, record { prefix = λ clip is. shown.1 clip (of_script clip is); has_one = has_one })
+    stream_stops failed new fails of_stop.Memory shown = some_frames shown
+
+-- ---- a script without a clip
+
+-- what a stop before anything is put shows
+pub before_stops : {K : Type 0} (told : Bool) (world : World) (script : List ℕ) (sink : Ghosts K) (out : K) (failed : Type 0) (before now : ℕ) (stop : Stop)
+    → (IsTrue told → Tells (meaning_in world script) (Err stop)) → EndsBefore {X = Opened} before now (Err stop) → (HasRisen before now → failed)
+    → RenderShows failed sink (told_of told world) script out out stop
+before_stops told world script sink out failed before now (of_stop.Script kind name line) tells ends fails =
+    (in_told told world (λ w. (fault : Fault) × (Names kind name line fault × (meaning_in w script ≡ m.wrong fault))) tells, refl)
+before_stops told world script sink out failed before now (of_stop.Input name NotThere) tells ends fails =
+    (in_told told world (λ w. meaning_in w script ≡ m.wrong (input name i.NotThere)) tells, refl)
+before_stops told world script sink out failed before now (of_stop.Input name (Y4m fault)) tells ends fails =
+    (in_told told world (λ w. meaning_in w script ≡ m.wrong (input name (i.Y4m fault))) tells, refl)
+before_stops told world script sink out failed before now (of_stop.Input name (Changed frame want got)) tells ends fails = absurd ends
+before_stops told world script sink out failed before now of_stop.Read tells ends fails = (fails ends, inl refl)
+before_stops told world script sink out failed before now of_stop.Write tells ends fails = absurd ends
+before_stops told world script sink out failed before now of_stop.Memory tells ends fails = inl refl
+
+-- ---- what the render leaves
+
+module _ {S : Type 0} (of : of_source.Ghosts S) (told : Bool) (world : World) where
+  -- sources that were read are still those that were opened
+  pub still_opened : (listed : List SourceClip) (old new : List (FrameSource S)) → KeepAll of old new → AreOpened of told world listed old → AreOpened of told world listed new
+  still_opened listed old new keeps are = record {
+    count = are.count ∙ sym keeps.count;
+    each = λ k one next here there.
+        let item = item_at old k (let less = within of told world new k next there in omega (arith, less, keeps.count)) in
+        let kept = keeps.each k item.0 next item.1 there in
+        let opened = are.each k one item.0 here item.1 in
+        record {
+          sound = rw kept.index opened.sound;
+          info = ap (λ i. i.info) kept.index ∙ opened.info;
+          clip = opened.clip;
+          bytes = λ tells. kept.told ∙ opened.bytes tells;
+          index = λ tells bytes clip file stream. rw kept.index (opened.index tells bytes clip file stream);
+        };
+  }
+
+-- a source that failed has failed
+pub some_failed : {S : Type 0} (of : of_source.Ghosts S) (old new : List (FrameSource S)) (number : ℕ) → HasFailed of old new number → SomeFailed of new
+some_failed of old new number is = record { number = number; it = is.after; there = is.at_after; failed = omega (arith, is.failed) }
+
+-- what is written back over as many items is what is there
+pub written : {X : Type 0} (xs old : List X) (n : ℕ) → length xs ≡ length old → length old ≡ n → take n (xs ++ drop (length xs) old) ≡ xs
+written [] [] zero same long = refl
+written [] [] (suc n) same long = refl
+written [] (y ∷ ys) n same long = absurd (omega (arith, same))
+written (x ∷ xs) [] n same long = absurd (omega (arith, same))
+written (x ∷ xs) (y ∷ ys) zero same long = absurd (omega (arith, long))
+written (x ∷ xs) (y ∷ ys) (suc n) same long = ap (λ l. x ∷ l) (written xs ys n (omega (arith, same)) (omega (arith, long)))
