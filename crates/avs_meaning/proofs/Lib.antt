@@ -1,6 +1,15 @@
 pub mod TableLemmas
 pub mod StreamLemmas
 pub mod FilterLemmas
+pub mod UnitLemmas
+pub mod ExecutionUnits
+pub mod LoopLemmas
+pub mod TextArguments
+pub mod RuleSteps
+pub mod RuleUniqueness
+pub mod RuleResults
+pub mod StatementResults
+pub mod RuleLemmas
 pub mod ExampleScripts
 pub mod FaultExamples
 pub mod ClipExamples

@@ -12,7 +12,8 @@ use Rattle.avs_values.specs.declared.value.Kind.{Kind}
 use Rattle.avs_values.specs.declared.value.Kind.TheVariants as k
 use Rattle.avs_values.specs.declared.value.Value.{Value}
 use Rattle.avs_meaning.specs.State.{Defined, Env, find, with}
-use Rattle.avs_meaning.specs.Table.{only, signatures, builtin_of}
+use Rattle.avs_meaning.specs.Signatures.{only}
+use Rattle.avs_meaning.specs.Table.{signatures, builtin_of}
 use Rattle.avs_meaning.specs.declared.builtin.Builtin.{Builtin}
 
 pub data Callee : Type 0 where

@@ -1,6 +1,6 @@
 -- Filters: their arguments become what they do, and the plan grows where a filter refuses nothing (AviSynth+ wiki,
 -- "Internal filters"). Values that no signature lets through are NoMatch.
-use Rattle.std.specs.Prelude.{ℕ, zero, suc, ◌+◌, nat_lt, nat_le, ℤ, List, [], ◌∷◌, ◌++◌, length, slice_get, Bool, Option, Some, None, option_map, Result, Ok, Err, if◌then◌else◌}
+use Rattle.std.specs.Prelude.{ℕ, zero, suc, ◌+◌, nat_lt, nat_le, List, [], ◌∷◌, ◌++◌, length, slice_get, Bool, Option, Some, None, Result, Ok, Err, if◌then◌else◌}
 use Rattle.std.specs.List.{list_all}
 use Rattle.std.specs.Option.{unwrap_or}
 use Rattle.fv_plane.specs.declared.format.Info.{Info}
@@ -10,18 +10,14 @@ use Rattle.avs_values.specs.Values.{Text}
 use Rattle.avs_values.specs.declared.value.Value.{Value}
 use Rattle.avs_values.specs.declared.value.Value.TheVariants as v
 use Rattle.clip_term.specs.Blank.{BlankArgs, default_clip, colour_given, blank_info, colour_of, blank_refusals}
-use Rattle.clip_term.specs.ClipTerm.{Act, source, plain, time, space}
+use Rattle.clip_term.specs.ClipTerm.{Act, source, plain}
 use Rattle.clip_term.specs.Filters.{declared_mode}
 use Rattle.clip_term.specs.Terms.{check}
 use Rattle.clip_term.specs.declared.fault.FilterFault.{FilterFault}
 use Rattle.clip_term.specs.declared.filter.Filter.{Filter}
 use Rattle.clip_term.specs.declared.filter.Filter.TheVariants as f
-use Rattle.clip_term.specs.declared.op.TimeOp.{TimeOp}
-use Rattle.clip_term.specs.declared.op.TimeOp.TheVariants as t
-use Rattle.clip_term.specs.declared.op.SpaceOp.TheVariants.{FlipVertical}
-use Rattle.clip_term.specs.declared.op.TrimBound.{TrimBound}
-use Rattle.clip_term.specs.declared.op.TrimBound.TheVariants as bound
 use Rattle.clip_graph.specs.Plan.{Application, deepest, infos_among, sources_in}
+use Rattle.avs_meaning.specs.Arguments.{Reading, read, takes, number_at, text_at, clips_among, numbers_among}
 use Rattle.avs_meaning.specs.Faults.{input}
 use Rattle.avs_meaning.specs.Outside.{Outside}
 use Rattle.avs_meaning.specs.State.{Run, ◌>>=◌, pure, fails}
@@ -38,40 +34,17 @@ depth_limit = 512
 abbrev pub mode_of : Filter → ℕ
 mode_of filter = unwrap_or (declared_mode filter) 2
 
--- ---- arguments
-
-abbrev pub number_of : Value → Option ℤ
-number_of (v.Int n) = Some n
-number_of _ = None
-
-abbrev pub text_of : Value → Option Text
-text_of (v.Text x) = Some x
-text_of _ = None
-
--- the seven arguments of BlankClip beside its clip
-abbrev pub blank_args : Value → Value → Value → Value → Value → Value → Value → BlankArgs
-blank_args frames width height kind num den colour = record {
-  length = number_of frames;
-  width = number_of width;
-  height = number_of height;
-  pixel_type = text_of kind;
-  fps = number_of num;
-  fps_denominator = number_of den;
-  color_yuv = number_of colour;
+-- the seven arguments of BlankClip beside its clip, from a place on
+abbrev pub blank_args : List Value → ℕ → BlankArgs
+blank_args values i = record {
+  length = number_at values i;
+  width = number_at values (i + 1);
+  height = number_at values (i + 2);
+  pixel_type = text_at values (i + 3);
+  fps = number_at values (i + 4);
+  fps_denominator = number_at values (i + 5);
+  color_yuv = number_at values (i + 6);
 }
-
--- exactly one of `last`, `length` and `end`
-abbrev pub trim_bound : Value → Value → Value → Option TrimBound
-trim_bound (v.Int n) v.Undefined v.Undefined = Some (bound.Last n)
-trim_bound v.Undefined (v.Int n) v.Undefined = Some (bound.Length n)
-trim_bound v.Undefined v.Undefined (v.Int n) = Some (bound.End n)
-trim_bound _ _ _ = None
-
--- the places of values that are all clips
-abbrev pub places_of : List Value → Option (List ℕ)
-places_of [] = Some []
-places_of (v.Clip i ∷ rest) = option_map (λ places. i ∷ places) (places_of rest)
-places_of _ = None
 
 -- ---- the plan
 
@@ -132,44 +105,29 @@ module _ (here : Text) where
   blank_like info args line = blank_by (first_fault (blank_refusals info args)) info args line
 
   -- what isn't given is that of the clip, if there is one
-  abbrev pub blank_of : Value → BlankArgs → ℕ → Run Value
-  blank_of (v.Clip i) args line = info_of i line >>= (λ info. blank_like info args line)
+  abbrev pub blank_of : Option Value → BlankArgs → ℕ → Run Value
+  blank_of (Some (v.Clip i)) args line = info_of i line >>= (λ info. blank_like info args line)
   blank_of _ args line = blank_like default_clip args line
 
-  -- by the number of the signature
+  -- The clip comes last in the signature of number 0, and first in the other one.
   abbrev pub blank : ℕ → List Value → ℕ → Run Value
-  blank zero (frames ∷ width ∷ height ∷ kind ∷ num ∷ den ∷ colour ∷ clip ∷ []) line =
-      blank_of clip (blank_args frames width height kind num den colour) line
-  blank (suc zero) (clip ∷ frames ∷ width ∷ height ∷ kind ∷ num ∷ den ∷ colour ∷ []) line =
-      blank_of clip (blank_args frames width height kind num den colour) line
-  blank _ _ line = fails k.NoMatch here line
+  blank zero values line = blank_of (slice_get values 7) (blank_args values 0) line
+  blank (suc n) values line = blank_of (slice_get values 0) (blank_args values 1) line
 
-  abbrev pub trim_by : Option TrimBound → ℕ → ℤ → ℕ → Run Value
-  trim_by (Some end) i first line = made f.Trim (time (t.Trim first end)) (i ∷ []) line
-  trim_by None i first line = fails k.NoMatch here line
+  -- what a filter does with its clips
+  abbrev pub applied_by : Reading → Filter → List ℕ → ℕ → Run Value
+  applied_by (Err kind) filter inputs line = fails kind here line
+  applied_by (Ok act) filter inputs line =
+      if takes act (length inputs) then made filter act inputs line else fails k.NoMatch here line
 
-  abbrev pub trim : List Value → ℕ → Run Value
-  trim (v.Clip i ∷ v.Int first ∷ last ∷ size ∷ end ∷ []) line = trim_by (trim_bound last size end) i first line
-  trim _ line = fails k.NoMatch here line
+  abbrev pub applied : Filter → Bound → List ℕ → ℕ → Run Value
+  applied filter given [] line = fails k.NoMatch here line
+  applied filter given (i ∷ rest) line =
+      info_of i line >>= (λ info.
+      applied_by (read given.values (numbers_among given.rest) info.frames filter) filter (i ∷ rest) line)
 
-  abbrev pub flip : List Value → ℕ → Run Value
-  flip (v.Clip i ∷ []) line = made f.FlipVertical (space FlipVertical) (i ∷ []) line
-  flip _ line = fails k.NoMatch here line
-
-  abbrev pub splice_by : Filter → TimeOp → ℕ → ℕ → Option (List ℕ) → ℕ → Run Value
-  splice_by filter op i j (Some rest) line = made filter (time op) (i ∷ j ∷ rest) line
-  splice_by filter op i j None line = fails k.NoMatch here line
-
-  abbrev pub splice : Filter → TimeOp → List Value → List Value → ℕ → Run Value
-  splice filter op (v.Clip i ∷ v.Clip j ∷ []) rest line = splice_by filter op i j (places_of rest) line
-  splice filter op _ rest line = fails k.NoMatch here line
-
+  -- a filter with its arguments, which are bound by the signature of this number
   abbrev pub filtered : Outside → Filter → ℕ → Bound → ℕ → Run Value
   filtered outside f.Y4MSource n given line = open_source outside given.values line
   filtered outside f.BlankClip n given line = blank n given.values line
-  filtered outside f.Trim n given line = trim given.values line
-  filtered outside f.FlipVertical n given line = flip given.values line
-  filtered outside f.UnalignedSplice n given line =
-      splice f.UnalignedSplice t.UnalignedSplice given.values given.rest line
-  filtered outside f.AlignedSplice n given line = splice f.AlignedSplice t.AlignedSplice given.values given.rest line
-  filtered outside _ n given line = fails k.NoMatch here line
+  filtered outside filter n given line = applied filter given (clips_among given.values ++ clips_among given.rest) line

@@ -1,11 +1,12 @@
+pub mod Signatures
 pub mod Table
-pub mod Views
 pub mod Faults
 pub mod FaultNames
 pub mod State
 pub mod Outside
 pub mod Calls
 pub mod ClipFunctions
+pub mod Arguments
 pub mod Filters
 pub mod Operators
 pub mod Unbuilt
@@ -14,4 +15,6 @@ pub mod Expressions
 pub mod Loops
 pub mod Statements
 pub mod Meaning
+pub mod Rules
 pub mod Laws
+pub mod RuleLaws

@@ -2,16 +2,14 @@
 use Rattle.std.specs.Prelude.{List, [], ◌∷◌, ◌++◌, map, codes, Option, Some, None, if◌then◌else◌}
 use Rattle.avs_values.specs.Binding.{Signature}
 use Rattle.avs_values.specs.Functions as plain
-use Rattle.avs_values.specs.Functions.{required, optional}
 use Rattle.avs_values.specs.Values.{Text, same}
-use Rattle.avs_values.specs.declared.parameter.Param.{Param}
 use Rattle.avs_values.specs.declared.plain_fn.PlainFn.{PlainFn}
 use Rattle.avs_values.specs.declared.plain_fn.PlainFn.TheVariants as p
-use Rattle.avs_values.specs.declared.value.Kind.{Kind}
 use Rattle.avs_values.specs.declared.value.Kind.TheVariants as k
 use Rattle.clip_term.specs.Filters as filters
 use Rattle.clip_term.specs.declared.filter.Filter.{Filter}
 use Rattle.clip_term.specs.declared.filter.Filter.TheVariants as f
+use Rattle.avs_meaning.specs.Signatures.{one, filter_signatures}
 use Rattle.avs_meaning.specs.declared.builtin.Builtin.{Builtin}
 use Rattle.avs_meaning.specs.declared.builtin.Builtin.TheVariants as b
 use Rattle.avs_meaning.specs.declared.builtin.ClipFn.{ClipFn}
@@ -42,48 +40,6 @@ name_of (b.Filter filter) = filters.name_of filter
 
 -- ---- signatures
 
-abbrev pub only : List Param → Signature
-only params = record { params = params; rest = None; least = 0 }
-
-abbrev pub one : Kind → Signature
-one kind = only (required kind ∷ [])
-
--- two clips or more
-abbrev pub clips : Signature
-clips = record { params = required k.Clip ∷ required k.Clip ∷ []; rest = Some k.Clip; least = 0 }
-
--- what BlankClip takes beside its clip
-abbrev pub blank_options : List Param
-blank_options =
-    optional k.Int (codes "length")
-    ∷ optional k.Int (codes "width")
-    ∷ optional k.Int (codes "height")
-    ∷ optional k.Text (codes "pixel_type")
-    ∷ optional k.Int (codes "fps")
-    ∷ optional k.Int (codes "fps_denominator")
-    ∷ optional k.Int (codes "color_yuv")
-    ∷ []
-
-abbrev pub blank : Signature
-blank = only (blank_options ++ optional k.Clip (codes "clip") ∷ [])
-
-abbrev pub blank_like : Signature
-blank_like = only (required k.Clip ∷ blank_options)
-
-abbrev pub trim : Signature
-trim =
-    only (required k.Clip ∷ required k.Int ∷ optional k.Int (codes "last") ∷ optional k.Int (codes "length")
-    ∷ optional k.Int (codes "end") ∷ [])
-
-abbrev pub filter_signatures : Filter → List Signature
-filter_signatures f.Y4MSource = one k.Text ∷ []
-filter_signatures f.BlankClip = blank ∷ blank_like ∷ []
-filter_signatures f.Trim = trim ∷ []
-filter_signatures f.FlipVertical = one k.Clip ∷ []
-filter_signatures f.UnalignedSplice = clips ∷ []
-filter_signatures f.AlignedSplice = clips ∷ []
-filter_signatures _ = []
-
 -- what a function takes, of which the first that fits counts
 abbrev pub signatures : Builtin → List Signature
 signatures (b.Plain function) = plain.signature function ∷ []
@@ -113,14 +69,32 @@ clip_functions =
     c.Width ∷ c.Height ∷ c.FrameCount ∷ c.FrameRateNumerator ∷ c.FrameRateDenominator ∷ c.IsY8 ∷ c.IsYV12 ∷ c.IsYV16
     ∷ c.IsYV24 ∷ c.IsYV411 ∷ c.PixelType ∷ []
 
+abbrev pub filters_of_time : List Filter
+filters_of_time =
+    f.Trim ∷ f.Reverse ∷ f.FreezeFrame ∷ f.SelectEven ∷ f.SelectOdd ∷ f.SelectEvery ∷ f.Interleave ∷ f.UnalignedSplice
+    ∷ f.AlignedSplice ∷ f.Loop ∷ f.DuplicateFrame ∷ f.DeleteFrame ∷ f.AssumeFPS ∷ f.ChangeFPS ∷ []
+
+abbrev pub filters_of_space : List Filter
+filters_of_space =
+    f.Crop ∷ f.CropBottom ∷ f.AddBorders ∷ f.LetterBox ∷ f.FlipHorizontal ∷ f.FlipVertical ∷ f.Turn180 ∷ f.TurnLeft
+    ∷ f.TurnRight ∷ f.Greyscale ∷ f.Invert ∷ f.Limiter ∷ f.SwapUV ∷ f.UToY8 ∷ f.VToY8 ∷ f.ConvertToY8 ∷ []
+
+abbrev pub filters_that_join : List Filter
+filters_that_join =
+    f.StackHorizontal ∷ f.StackVertical ∷ f.Merge ∷ f.MergeLuma ∷ f.MergeChroma ∷ f.YToUV ∷ []
+
 -- the filters that are built
 abbrev pub built_filters : List Filter
-built_filters = f.Y4MSource ∷ f.BlankClip ∷ f.Trim ∷ f.FlipVertical ∷ f.UnalignedSplice ∷ f.AlignedSplice ∷ []
+built_filters = f.Y4MSource ∷ f.BlankClip ∷ filters_of_time ++ filters_of_space ++ filters_that_join
 
 unfoldable pub builtins : List Builtin
 builtins =
     b.Eval ∷ b.Import ∷ map b.Filter built_filters ++ map b.Clip clip_functions ++ map b.Plain numeric_functions
     ++ map b.Plain text_functions ++ map b.Plain other_functions
+
+-- Greyscale has two spellings.
+abbrev pub spelling : Text → Text
+spelling name = if same name (codes "Grayscale") then codes "Greyscale" else name
 
 -- the first function of a name, without regard to case
 abbrev pub builtin_in : Text → List Builtin → Option Builtin
@@ -128,19 +102,4 @@ builtin_in name [] = None
 builtin_in name (function ∷ rest) = if same name (name_of function) then Some function else builtin_in name rest
 
 unfoldable pub builtin_of : Text → Option Builtin
-builtin_of name = builtin_in name builtins
-
--- a function with what it takes
-pub record Row : Type 0 where
-  pub builtin : Builtin
-  pub signatures : List Signature
-
-abbrev pub row_of : Builtin → Row
-row_of function = record { builtin = function; signatures = signatures function }
-
-abbrev pub table : List Row
-table = map row_of builtins
-
-abbrev pub row_in : Text → List Row → Option Row
-row_in name [] = None
-row_in name (row ∷ rest) = if same name (name_of row.builtin) then Some row else row_in name rest
+builtin_of name = builtin_in (spelling name) builtins

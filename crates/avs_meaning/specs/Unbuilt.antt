@@ -4,19 +4,10 @@ use Rattle.std.specs.List.{list_any}
 use Rattle.avs_tree.specs.Tree.{Expr, int, bool, str, name, call, method_calls, minus, not_, chain, compare, conditional, group, Args, no_args, arg, MethodCalls, no_method_calls, method, method_call, Steps, no_steps, step, Kind, global, assign, return, if_, while, for, value, Arms, no_arms, arm, Else, no_else, else_, Block, no_more, then_, Function, Script}
 use Rattle.avs_values.specs.Values.{Text, same}
 
--- the filters that aren't built
-abbrev pub unbuilt_filters : List Text
-unbuilt_filters =
-    codes "Reverse" ∷ codes "FreezeFrame" ∷ codes "SelectEven" ∷ codes "SelectOdd" ∷ codes "SelectEvery"
-    ∷ codes "Interleave" ∷ codes "Loop" ∷ codes "DuplicateFrame" ∷ codes "DeleteFrame" ∷ codes "AssumeFPS"
-    ∷ codes "ChangeFPS" ∷ codes "ApplyRange" ∷ codes "Crop" ∷ codes "CropBottom" ∷ codes "AddBorders"
-    ∷ codes "LetterBox" ∷ codes "FlipHorizontal" ∷ codes "Turn180" ∷ codes "TurnLeft" ∷ codes "TurnRight"
-    ∷ codes "Greyscale" ∷ codes "Grayscale" ∷ codes "Invert" ∷ codes "Limiter" ∷ codes "SwapUV" ∷ codes "UToY8"
-    ∷ codes "VToY8" ∷ codes "ConvertToY8" ∷ codes "StackHorizontal" ∷ codes "StackVertical" ∷ codes "Merge"
-    ∷ codes "MergeLuma" ∷ codes "MergeChroma" ∷ codes "YToUV" ∷ codes "TemporalSoften" ∷ codes "GeneralConvolution" ∷ []
-
 abbrev pub unbuilt : List Text
-unbuilt = codes "SetFilterMTMode" ∷ codes "Prefetch" ∷ unbuilt_filters
+unbuilt =
+    codes "SetFilterMTMode" ∷ codes "Prefetch" ∷ codes "ApplyRange" ∷ codes "TemporalSoften" ∷ codes "GeneralConvolution"
+    ∷ []
 
 unfoldable pub is_unbuilt : Text → Bool
 is_unbuilt x = list_any (same x) unbuilt

@@ -1,5 +1,6 @@
 // Laws of the definitions, each the contract of a function with an empty body.
 ghost use Rattle.avs_meaning.specs.Laws.{ClipsAreStreams, FiltersAreKnown, NamesDiffer};
+ghost use Rattle.avs_meaning.specs.RuleLaws.{RulesAreEvaluation, RulesAreExecution};
 
 /// What a file of a world is as a clip is what its bytes are as a stream.
 #[tactic(auto, using(crate::proofs::StreamLemmas::clips_are_streams))]
@@ -17,4 +18,16 @@ pub fn names_differ()
 #[tactic(auto, using(crate::proofs::FilterLemmas::filters_are_known))]
 pub fn filters_are_known()
     ensures { FiltersAreKnown }
+{}
+
+/// By the rules each start of a text or a function has exactly one outcome, which is that of its execution.
+#[tactic(auto, using(crate::proofs::RuleLemmas::rules_are_execution))]
+pub fn rules_are_execution()
+    ensures { RulesAreExecution }
+{}
+
+/// By the rules each start of an expression has exactly one outcome, which is that of its evaluation.
+#[tactic(auto, using(crate::proofs::RuleLemmas::rules_are_evaluation))]
+pub fn rules_are_evaluation()
+    ensures { RulesAreEvaluation }
 {}

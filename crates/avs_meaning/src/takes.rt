@@ -1,8 +1,9 @@
 // What the built-in functions take.
-ghost use Rattle.std.specs.Prelude.{◌≡◌, IfOk, map};
+ghost use Rattle.std.specs.Prelude.{◌≡◌, ◌∷◌, [], IfOk, map};
 ghost use Rattle.avs_values.specs.Functions as v;
 ghost use Rattle.avs_values.specs.Views.{signature_view};
-ghost use Rattle.avs_meaning.specs.Table as d;
+ghost use Rattle.avs_meaning.specs.Signatures as d;
+ghost use Rattle.avs_meaning.specs.Table.{signatures as taken};
 
 use crate::Builtin;
 use avs_values::{Kind, Param, Signature, signature};
@@ -28,17 +29,63 @@ fn one(alloc: Global, kind: Kind) -> Result<Signature, AllocError>
     Ok(only(params))
 }
 
-// Two clips or more.
-fn clips(alloc: Global) -> Result<Signature, AllocError>
-    ensures { IfOk result (λ made. signature_view made ≡ d.clips) }
+fn two_clips(alloc: Global) -> Result<Signature, AllocError>
+    ensures { IfOk result (λ made. signature_view made ≡ d.two_clips) }
 {
     let mut params = Vec::new(alloc);
     params.push(Param::required(alloc, Kind::Clip)?)?;
     params.push(Param::required(alloc, Kind::Clip)?)?;
+    Ok(only(params))
+}
+
+fn three_clips(alloc: Global) -> Result<Signature, AllocError>
+    ensures { IfOk result (λ made. signature_view made ≡ d.three_clips) }
+{
+    let mut taken = two_clips(alloc)?;
+    taken.params.push(Param::required(alloc, Kind::Clip)?)?;
+    Ok(taken)
+}
+
+// Two clips or more.
+fn clips(alloc: Global) -> Result<Signature, AllocError>
+    ensures { IfOk result (λ made. signature_view made ≡ d.clips) }
+{
+    let mut taken = two_clips(alloc)?;
+    taken.rest = Some(Kind::Clip);
+    Ok(taken)
+}
+
+// A clip, and then so many numbers.
+fn clip_and_numbers(alloc: Global, count: usize) -> Result<Vec<Param>, AllocError>
+    ensures { IfOk result (λ made. made.items ≡ d.clip_and_numbers count) }
+{
+    let mut params = Vec::new(alloc);
+    params.push(Param::required(alloc, Kind::Clip)?)?;
+    for _i in 0..count {
+        params.push(Param::required(alloc, Kind::Int)?)?;
+    }
+    Ok(params)
+}
+
+// A clip, so many numbers, and numbers of these names that a call may leave out.
+fn numbered(alloc: Global, count: usize, names: &[&str]) -> Result<Signature, AllocError>
+    ensures { IfOk result (λ made. signature_view made ≡ d.only (d.numbered count (map (λ n. n.now) names.now))) }
+{
+    let mut params = clip_and_numbers(alloc, count)?;
+    for name in names {
+        params.push(Param::optional(alloc, Kind::Int, name)?)?;
+    }
+    Ok(only(params))
+}
+
+// A clip, so many numbers, and then at least one more number.
+fn listed(alloc: Global, count: usize) -> Result<Signature, AllocError>
+    ensures { IfOk result (λ made. signature_view made ≡ d.listed count) }
+{
     Ok(Signature {
-        params,
-        rest: Some(Kind::Clip),
-        least: 0,
+        params: clip_and_numbers(alloc, count)?,
+        rest: Some(Kind::Int),
+        least: 1,
     })
 }
 
@@ -73,47 +120,89 @@ fn blank_like(alloc: Global) -> Result<Signature, AllocError>
     Ok(only(params))
 }
 
-fn trim(alloc: Global) -> Result<Signature, AllocError>
-    ensures { IfOk result (λ made. signature_view made ≡ d.trim) }
+fn crop(alloc: Global) -> Result<Signature, AllocError>
+    ensures { IfOk result (λ made. signature_view made ≡ d.crop) }
 {
-    let mut params = Vec::new(alloc);
-    params.push(Param::required(alloc, Kind::Clip)?)?;
-    params.push(Param::required(alloc, Kind::Int)?)?;
-    params.push(Param::optional(alloc, Kind::Int, "last")?)?;
-    params.push(Param::optional(alloc, Kind::Int, "length")?)?;
-    params.push(Param::optional(alloc, Kind::Int, "end")?)?;
-    Ok(only(params))
+    let mut taken = numbered(alloc, 4, &[])?;
+    let align = Param::optional(alloc, Kind::Bool, "align")?;
+    taken.params.push(align)?;
+    Ok(taken)
+}
+
+fn invert(alloc: Global) -> Result<Signature, AllocError>
+    ensures { IfOk result (λ made. signature_view made ≡ d.invert) }
+{
+    let mut taken = one(alloc, Kind::Clip)?;
+    let channels = Param::optional(alloc, Kind::Text, "channels")?;
+    taken.params.push(channels)?;
+    Ok(taken)
+}
+
+fn limiter(alloc: Global) -> Result<Signature, AllocError>
+    ensures { IfOk result (λ made. signature_view made ≡ d.limiter) }
+{
+    let names = ["min_luma", "max_luma", "min_chroma", "max_chroma"];
+    numbered(alloc, 0, &names)
+}
+
+fn blank_clip(alloc: Global) -> Result<Vec<Signature>, AllocError>
+    ensures { IfOk result (λ made. map signature_view made.items ≡ d.filter_signatures Filter.BlankClip) }
+{
+    let mut made = Vec::new(alloc);
+    made.push(blank(alloc)?)?;
+    made.push(blank_like(alloc)?)?;
+    Ok(made)
+}
+
+// The list of one signature.
+fn alone(alloc: Global, signature: Signature) -> Result<Vec<Signature>, AllocError>
+    ensures { IfOk result (λ made. made.items ≡ signature ∷ []) }
+{
+    let mut made = Vec::new(alloc);
+    made.push(signature)?;
+    Ok(made)
 }
 
 fn of_filter(alloc: Global, filter: Filter) -> Result<Vec<Signature>, AllocError>
     ensures { IfOk result (λ made. map signature_view made.items ≡ d.filter_signatures filter) }
 {
-    let mut made = Vec::new(alloc);
     match filter {
-        Filter::Y4MSource => made.push(one(alloc, Kind::Text)?)?,
-        Filter::BlankClip => {
-            made.push(blank(alloc)?)?;
-            made.push(blank_like(alloc)?)?;
+        Filter::BlankClip => blank_clip(alloc),
+        Filter::ApplyRange | Filter::TemporalSoften | Filter::GeneralConvolution => {
+            Ok(Vec::new(alloc))
         }
-        Filter::Trim => made.push(trim(alloc)?)?,
-        Filter::FlipVertical => made.push(one(alloc, Kind::Clip)?)?,
-        Filter::UnalignedSplice | Filter::AlignedSplice => made.push(clips(alloc)?)?,
-        _ => {}
+        Filter::Y4MSource => alone(alloc, one(alloc, Kind::Text)?),
+        Filter::Trim => alone(alloc, numbered(alloc, 1, &["last", "length", "end"])?),
+        Filter::FreezeFrame => alone(alloc, numbered(alloc, 3, &[])?),
+        Filter::SelectEvery => alone(alloc, listed(alloc, 1)?),
+        Filter::Loop => alone(alloc, numbered(alloc, 1, &["start", "end"])?),
+        Filter::DuplicateFrame | Filter::DeleteFrame => alone(alloc, listed(alloc, 0)?),
+        Filter::AssumeFPS | Filter::ChangeFPS => alone(alloc, numbered(alloc, 1, &["denominator"])?),
+        Filter::Crop => alone(alloc, crop(alloc)?),
+        Filter::CropBottom => alone(alloc, numbered(alloc, 1, &[])?),
+        Filter::AddBorders => alone(alloc, numbered(alloc, 4, &["color_yuv"])?),
+        Filter::LetterBox => alone(alloc, numbered(alloc, 2, &["x1", "x2", "color_yuv"])?),
+        Filter::Invert => alone(alloc, invert(alloc)?),
+        Filter::Limiter => alone(alloc, limiter(alloc)?),
+        Filter::Interleave
+        | Filter::UnalignedSplice
+        | Filter::AlignedSplice
+        | Filter::StackHorizontal
+        | Filter::StackVertical => alone(alloc, clips(alloc)?),
+        Filter::Merge | Filter::MergeLuma | Filter::MergeChroma => alone(alloc, two_clips(alloc)?),
+        Filter::YToUV => alone(alloc, three_clips(alloc)?),
+        _ => alone(alloc, one(alloc, Kind::Clip)?),
     }
-    Ok(made)
 }
 
 /// What a built-in function takes. The first signature that fits counts. An `Err` means out of memory.
 pub fn signatures(alloc: Global, builtin: Builtin) -> Result<Vec<Signature>, AllocError>
-    ensures { IfOk result (λ made. map signature_view made.items ≡ d.signatures builtin) }
+    ensures { IfOk result (λ made. map signature_view made.items ≡ taken builtin) }
 {
-    let taken = match builtin {
-        Builtin::Plain(function) => signature(alloc, function)?,
-        Builtin::Clip(_) => one(alloc, Kind::Clip)?,
-        Builtin::Eval | Builtin::Import => one(alloc, Kind::Text)?,
-        Builtin::Filter(filter) => return of_filter(alloc, filter),
-    };
-    let mut made = Vec::new(alloc);
-    made.push(taken)?;
-    Ok(made)
+    match builtin {
+        Builtin::Plain(function) => alone(alloc, signature(alloc, function)?),
+        Builtin::Clip(_) => alone(alloc, one(alloc, Kind::Clip)?),
+        Builtin::Eval | Builtin::Import => alone(alloc, one(alloc, Kind::Text)?),
+        Builtin::Filter(filter) => of_filter(alloc, filter),
+    }
 }

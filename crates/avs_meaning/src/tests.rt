@@ -7,9 +7,9 @@ use std::test::Fail;
 // What a table has by a name: the function, and how many parameters its first signature has.
 fn found(table: &Table, name: &str) -> Option<(Builtin, usize)> {
     let row = table.find(name)?;
-    match row.signatures.first() {
-        Some(signature) => Some((row.builtin, signature.params.len())),
-        None => Some((row.builtin, 0)),
+    match row.signatures().first() {
+        Some(signature) => Some((row.builtin(), signature.params.len())),
+        None => Some((row.builtin(), 0)),
     }
 }
 
@@ -36,7 +36,11 @@ fn finds_functions_in_any_case(rt: HostRuntime) -> Result<(), Fail> {
         found(&table, "BLANKCLIP"),
         Some((Builtin::Filter(Filter::BlankClip), 8))
     );
-    assert_eq!(rt; found(&table, "Reverse"), None);
+    assert_eq!(rt;
+        found(&table, "grayscale"),
+        Some((Builtin::Filter(Filter::Greyscale), 1))
+    );
+    assert_eq!(rt; found(&table, "TemporalSoften"), None);
     assert_eq!(rt; found(&table, ""), None);
     Ok(())
 }

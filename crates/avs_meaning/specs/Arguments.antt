@@ -1,0 +1,152 @@
+-- What a filter does with its arguments (AviSynth+ wiki, "Internal filters").
+use Rattle.std.specs.Prelude.{ℕ, ◌==◌, nat_le, ℤ, pos, ◌-ℤ◌, List, [], ◌∷◌, ◌++◌, length, slice_get, codes, Bool, true, false, ◌&&◌, ◌||◌, Option, Some, None, Result, Ok, Err, if◌then◌else◌}
+use Rattle.std.specs.List.{list_all, list_any}
+use Rattle.std.specs.Option.{unwrap_or}
+use Rattle.avs_values.specs.Values.{Text}
+use Rattle.avs_values.specs.declared.value.Value.{Value}
+use Rattle.avs_values.specs.declared.value.Value.TheVariants as v
+use Rattle.clip_term.specs.ClipTerm.{Act, time, space, joined}
+use Rattle.clip_term.specs.Terms.{time_inputs, time_lists, join_inputs}
+use Rattle.clip_term.specs.declared.fault.FilterFault.TheVariants as fault
+use Rattle.clip_term.specs.declared.filter.Filter.{Filter}
+use Rattle.clip_term.specs.declared.filter.Filter.TheVariants as f
+use Rattle.clip_term.specs.declared.op.Channels.{Channels}
+use Rattle.clip_term.specs.declared.op.JoinOp.TheVariants as j
+use Rattle.clip_term.specs.declared.op.SpaceOp.TheVariants as s
+use Rattle.clip_term.specs.declared.op.TimeOp.TheVariants as t
+use Rattle.clip_term.specs.declared.op.TrimBound.{TrimBound}
+use Rattle.clip_term.specs.declared.op.TrimBound.TheVariants as bound
+use Rattle.avs_meaning.specs.declared.fault.ScriptKind.{ScriptKind}
+use Rattle.avs_meaning.specs.declared.fault.ScriptKind.TheVariants as k
+
+-- ---- values
+
+abbrev pub number_in : Option Value → Option ℤ
+number_in (Some (v.Int n)) = Some n
+number_in _ = None
+
+abbrev pub text_in : Option Value → Option Text
+text_in (Some (v.Text x)) = Some x
+text_in _ = None
+
+-- the number at a place, if one is given there
+abbrev pub number_at : List Value → ℕ → Option ℤ
+number_at values i = number_in (slice_get values i)
+
+abbrev pub text_at : List Value → ℕ → Option Text
+text_at values i = text_in (slice_get values i)
+
+-- the places of the clips among values
+abbrev pub clips_among : List Value → List ℕ
+clips_among [] = []
+clips_among (v.Clip i ∷ rest) = i ∷ clips_among rest
+clips_among (x ∷ rest) = clips_among rest
+
+abbrev pub numbers_among : List Value → List ℤ
+numbers_among [] = []
+numbers_among (v.Int n ∷ rest) = n ∷ numbers_among rest
+numbers_among (x ∷ rest) = numbers_among rest
+
+-- ---- the planes that Invert names
+
+abbrev pub is_y : ℕ → Bool
+is_y letter = letter == 89 || letter == 121
+
+abbrev pub is_u : ℕ → Bool
+is_u letter = letter == 85 || letter == 117
+
+abbrev pub is_v : ℕ → Bool
+is_v letter = letter == 86 || letter == 118
+
+abbrev pub is_channel : ℕ → Bool
+is_channel letter = is_y letter || is_u letter || is_v letter
+
+-- All letters are Y, U or V, in any case.
+abbrev pub channels_of : Text → Option Channels
+channels_of x =
+    if list_all is_channel x then Some (record { y = list_any is_y x; u = list_any is_u x; v = list_any is_v x }) else None
+
+-- ---- what a filter does
+
+abbrev pub Reading : Type 0
+Reading = Result Act ScriptKind
+
+-- exactly one of `last`, `length` and `end`
+abbrev pub trim_bound : Option ℤ → Option ℤ → Option ℤ → Option TrimBound
+trim_bound (Some n) None None = Some (bound.Last n)
+trim_bound None (Some n) None = Some (bound.Length n)
+trim_bound None None (Some n) = Some (bound.End n)
+trim_bound _ _ _ = None
+
+abbrev pub trims : ℤ → Option TrimBound → Reading
+trims first (Some bound) = Ok (time (t.Trim first bound))
+trims first None = Err k.NoMatch
+
+abbrev pub inverts : Option Channels → Reading
+inverts (Some channels) = Ok (space (s.Invert channels))
+inverts None = Err (k.Filter fault.BadText)
+
+abbrev pub black : ℤ
+black = pos 0x108080
+
+abbrev pub read_join : Filter → Reading
+read_join f.StackHorizontal = Ok (joined j.StackHorizontal)
+read_join f.StackVertical = Ok (joined j.StackVertical)
+read_join f.Merge = Ok (joined j.Merge)
+read_join f.MergeLuma = Ok (joined j.MergeLuma)
+read_join f.MergeChroma = Ok (joined j.MergeChroma)
+read_join f.YToUV = Ok (joined j.YToUV)
+read_join _ = Err k.NoMatch
+
+module _ (values : List Value) where
+  -- the number at a place, or what counts where none is given
+  abbrev pub or_number : ℕ → ℤ → ℤ
+  or_number i default = unwrap_or (number_at values i) default
+
+  abbrev pub number : ℕ → ℤ
+  number i = or_number i (pos 0)
+
+  abbrev pub read_space : Filter → Reading
+  read_space f.Crop = Ok (space (s.Crop (number 1) (number 2) (number 3) (number 4)))
+  read_space f.CropBottom = Ok (space (s.CropBottom (number 1)))
+  read_space f.AddBorders = Ok (space (s.AddBorders (number 1) (number 2) (number 3) (number 4) (or_number 5 black)))
+  read_space f.LetterBox = Ok (space (s.LetterBox (number 1) (number 2) (number 3) (number 4) (or_number 5 black)))
+  read_space f.FlipHorizontal = Ok (space s.FlipHorizontal)
+  read_space f.FlipVertical = Ok (space s.FlipVertical)
+  read_space f.Turn180 = Ok (space s.Turn180)
+  read_space f.TurnLeft = Ok (space s.TurnLeft)
+  read_space f.TurnRight = Ok (space s.TurnRight)
+  read_space f.Greyscale = Ok (space s.Greyscale)
+  read_space f.Invert = inverts (channels_of (unwrap_or (text_at values 1) (codes "YUV")))
+  read_space f.Limiter =
+      Ok (space (s.Limiter (or_number 1 (pos 16)) (or_number 2 (pos 235)) (or_number 3 (pos 16)) (or_number 4 (pos 240))))
+  read_space f.SwapUV = Ok (space s.SwapUV)
+  read_space f.UToY8 = Ok (space s.UToY8)
+  read_space f.VToY8 = Ok (space s.VToY8)
+  read_space f.ConvertToY8 = Ok (space s.ConvertToY8)
+  read_space filter = read_join filter
+
+  -- by the numbers after the others, and how many frames the first clip has
+  abbrev pub read : List ℤ → ℕ → Filter → Reading
+  read rest frames f.Trim = trims (number 1) (trim_bound (number_at values 2) (number_at values 3) (number_at values 4))
+  read rest frames f.Reverse = Ok (time t.Reverse)
+  read rest frames f.FreezeFrame = Ok (time (t.FreezeFrame (number 1) (number 2) (number 3)))
+  read rest frames f.SelectEven = Ok (time t.SelectEven)
+  read rest frames f.SelectOdd = Ok (time t.SelectOdd)
+  read rest frames f.SelectEvery = Ok (time (t.SelectEvery (number 1) rest))
+  read rest frames f.Interleave = Ok (time t.Interleave)
+  read rest frames f.UnalignedSplice = Ok (time t.UnalignedSplice)
+  read rest frames f.AlignedSplice = Ok (time t.AlignedSplice)
+  read rest frames f.Loop = Ok (time (t.Loop (number 1) (number 2) (or_number 3 (pos frames -ℤ pos 1))))
+  read rest frames f.DuplicateFrame = Ok (time (t.DuplicateFrame rest))
+  read rest frames f.DeleteFrame = Ok (time (t.DeleteFrame rest))
+  read rest frames f.AssumeFPS = Ok (time (t.AssumeFPS (number 1) (or_number 2 (pos 1))))
+  read rest frames f.ChangeFPS = Ok (time (t.ChangeFPS (number 1) (or_number 2 (pos 1))))
+  read rest frames filter = read_space filter
+
+-- as many inputs, and such lists, as a filter takes
+abbrev pub takes : Act → ℕ → Bool
+takes (time op) k = time_inputs op k && time_lists op
+takes (space op) k = k == 1
+takes (joined op) k = join_inputs op k
+takes _ k = false
