@@ -1,4 +1,1 @@
-mod ItemLemmas
 mod ParameterLemmas
-mod PlaceLemmas
-mod TrimLemmas

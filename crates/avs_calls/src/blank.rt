@@ -1,5 +1,5 @@
 // `BlankClip`: its arguments, their refusals, and the clip that they make.
-ghost use Rattle.std.specs.Prelude.{◌≡◌};
+ghost use Rattle.std.specs.Prelude.{◌≡◌, ◌≤◌, option_map};
 ghost use Rattle.fv_plane.specs.Refusals.{first_fault};
 ghost use Rattle.fv_plane.specs.Info.{IsPar};
 ghost use Rattle.clip_term.specs.Blank as b;
@@ -10,6 +10,7 @@ ghost use Rattle.avs_state.specs.Answers.{Gives};
 ghost use Rattle.avs_state.specs.States.{state_of};
 ghost use Rattle.avs_calls.specs.Views.{args_view, text_given};
 
+use crate::arguments::{number_at, text_at};
 use avs_meaning::{ScriptKind, Stop};
 use avs_state::{Machine, fault_at};
 use avs_values::Value;
@@ -32,46 +33,20 @@ pub(crate) struct BlankArgs<'a> {
     color_yuv: Option<i32>,
 }
 
-fn number_of(value: &Value) -> Option<i32>
-    ensures { result ≡ f.number_of value.now }
-{
-    match value {
-        Value::Int(n) => Some(*n),
-        _ => None,
-    }
-}
-
-fn text_of(value: &Value) -> Option<&str>
-    ensures { text_given result ≡ f.text_of value.now }
-{
-    match value {
-        Value::Text(text) => Some(text.as_str()),
-        _ => None,
-    }
-}
-
 impl<'a> BlankArgs<'a> {
-    /// The arguments that these values are, in the order of the signature.
-    fn of(
-        frames: &Value,
-        width: &Value,
-        height: &Value,
-        kind: &'a Value,
-        num: &Value,
-        den: &Value,
-        colour: &Value,
-    ) -> BlankArgs<'a>
-        ensures { args_view result
-            ≡ f.blank_args frames.now width.now height.now kind.now num.now den.now colour.now }
+    /// The arguments that values are from a place on, in the order of the signature.
+    fn of(values: &'a [Value], first: usize) -> BlankArgs<'a>
+        requires { first ≤ 1 }
+        ensures { args_view result ≡ f.blank_args values.now first }
     {
         BlankArgs {
-            length: number_of(frames),
-            width: number_of(width),
-            height: number_of(height),
-            pixel_type: text_of(kind),
-            fps: number_of(num),
-            fps_denominator: number_of(den),
-            color_yuv: number_of(colour),
+            length: number_at(values, first),
+            width: number_at(values, first + 1),
+            height: number_at(values, first + 2),
+            pixel_type: text_at(values, first + 3),
+            fps: number_at(values, first + 4),
+            fps_denominator: number_at(values, first + 5),
+            color_yuv: number_at(values, first + 6),
         }
     }
 }
@@ -266,17 +241,18 @@ fn blank_like(
 fn blank_of(
     alloc: Global,
     machine: &mut Machine,
-    clip: &Value,
+    clip: Option<&Value>,
     args: &BlankArgs<'_>,
     here: &Text,
     line: u32,
 ) -> Result<Value, Stop>
-    ensures gives { Gives (λ x. x) (f.blank_of here.now clip.now (args_view args.now) line (state_of machine.old)) result
+    ensures gives { Gives (λ x. x)
+        (f.blank_of here.now (option_map (λ value. value.now) clip.entry) (args_view args.now) line (state_of machine.old)) result
         (state_of machine.new) }
     ensures opened { (state_of machine.new).opened ≡ (state_of machine.old).opened }
 {
     match clip {
-        Value::Clip(i) => {
+        Some(Value::Clip(i)) => {
             let info = machine.info_of(alloc, *i, here, line)?;
             blank_like(alloc, machine, &info, args, here, line)
         }
@@ -284,45 +260,8 @@ fn blank_of(
     }
 }
 
-// A blank clip, whose clip is given by its name.
-fn blank_named(
-    alloc: Global,
-    machine: &mut Machine,
-    values: &[Value],
-    here: &Text,
-    line: u32,
-) -> Result<Value, Stop>
-    ensures gives { Gives (λ x. x) (f.blank here.now 0 values.now line (state_of machine.old)) result
-        (state_of machine.new) }
-    ensures opened { (state_of machine.new).opened ≡ (state_of machine.old).opened }
-{
-    let [frames, width, height, kind, num, den, colour, clip] = values else {
-        return Err(fault_at(alloc, ScriptKind::NoMatch, here, line));
-    };
-    let args = BlankArgs::of(frames, width, height, kind, num, den, colour);
-    blank_of(alloc, machine, clip, &args, here, line)
-}
-
-// A blank clip, whose clip is given first.
-fn blank_first(
-    alloc: Global,
-    machine: &mut Machine,
-    values: &[Value],
-    here: &Text,
-    line: u32,
-) -> Result<Value, Stop>
-    ensures gives { Gives (λ x. x) (f.blank here.now 1 values.now line (state_of machine.old)) result
-        (state_of machine.new) }
-    ensures opened { (state_of machine.new).opened ≡ (state_of machine.old).opened }
-{
-    let [clip, frames, width, height, kind, num, den, colour] = values else {
-        return Err(fault_at(alloc, ScriptKind::NoMatch, here, line));
-    };
-    let args = BlankArgs::of(frames, width, height, kind, num, den, colour);
-    blank_of(alloc, machine, clip, &args, here, line)
-}
-
-/// A blank clip of arguments that are bound by the signature of this number.
+/// A blank clip of arguments that are bound by the signature of this number: the clip comes last by that of number 0, and
+/// first by the other one.
 pub(crate) fn blank(
     alloc: Global,
     machine: &mut Machine,
@@ -335,9 +274,10 @@ pub(crate) fn blank(
         (state_of machine.new) }
     ensures opened { (state_of machine.new).opened ≡ (state_of machine.old).opened }
 {
-    match signature {
-        0 => blank_named(alloc, machine, values, here, line),
-        1 => blank_first(alloc, machine, values, here, line),
-        _ => Err(fault_at(alloc, ScriptKind::NoMatch, here, line)),
+    if signature == 0 {
+        let args = BlankArgs::of(values, 0);
+        return blank_of(alloc, machine, values.get(7), &args, here, line);
     }
+    let args = BlankArgs::of(values, 1);
+    blank_of(alloc, machine, values.first(), &args, here, line)
 }

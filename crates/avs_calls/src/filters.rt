@@ -1,143 +1,73 @@
 // The filters, with their bound arguments.
-ghost use Rattle.std.specs.Prelude.{◌≡◌, IfOk, option_map};
+ghost use Rattle.std.specs.Prelude.{◌≡◌, ◌≤◌, ◌++◌};
 ghost use Rattle.avs_values.specs.Views.{bound_view};
+ghost use Rattle.avs_meaning.specs.Arguments as a;
 ghost use Rattle.avs_meaning.specs.Filters as f;
 ghost use Rattle.avs_meaning.specs.Outside.{Outside};
 ghost use Rattle.avs_state.specs.Answers.{Gives};
 ghost use Rattle.avs_state.specs.States.{state_of};
-ghost use Rattle.avs_calls.specs.Arguments.{JoinsClips, clip_and_number};
 
+use crate::arguments::add_clips;
 use crate::blank::blank;
+use crate::read::{Unread, read, takes};
 use avs_meaning::{ScriptKind, Stop};
 use avs_state::{Machine, fault_at};
 use avs_values::{Bound, Value};
-use clip_term::{Filter, Op, SpaceOp, TimeOp, TrimBound};
+use clip_term::Filter;
 use fv_io::Text;
-use std::alloc::{AllocError, Global};
+use std::alloc::Global;
 
-// Where `Trim` ends: exactly one of `last`, `length` and `end` is given.
-fn trim_bound(last: &Value, size: &Value, end: &Value) -> Option<TrimBound>
-    ensures { result ≡ f.trim_bound last.now size.now end.now }
-{
-    match (last, size, end) {
-        (Value::Int(n), Value::Undefined, Value::Undefined) => Some(TrimBound::Last(*n)),
-        (Value::Undefined, Value::Int(n), Value::Undefined) => Some(TrimBound::Length(*n)),
-        (Value::Undefined, Value::Undefined, Value::Int(n)) => Some(TrimBound::End(*n)),
-        _ => None,
-    }
-}
-
-// The frames of a clip from one number to another.
-fn trim_clip(
-    alloc: Global,
-    machine: &mut Machine,
-    clip: u32,
-    first: i32,
-    bound: Option<TrimBound>,
-    here: &Text,
-    line: u32,
-) -> Result<Value, Stop>
-    ensures gives { Gives (λ x. x) (f.trim_by here.now bound clip first line (state_of machine.old)) result
-        (state_of machine.new) }
-    ensures opened { (state_of machine.new).opened ≡ (state_of machine.old).opened }
-{
-    let Some(bound) = bound else {
-        return Err(fault_at(alloc, ScriptKind::NoMatch, here, line));
-    };
-    let op = Op::Time(TimeOp::Trim { first, bound });
-    machine.make(alloc, Filter::Trim, op, &[clip], here, line)
-}
-
-// What the first two arguments of `Trim` are.
-fn clip_and_number(clip: &Value, number: &Value) -> Option<(u32, i32)>
-    ensures { result ≡ clip_and_number clip.now number.now }
-{
-    match (clip, number) {
-        (Value::Clip(i), Value::Int(n)) => Some((*i, *n)),
-        _ => None,
-    }
-}
-
-#[tactic(auto, using(crate::proofs::TrimLemmas::no_trim, crate::proofs::TrimLemmas::trims))]
-fn trim(
-    alloc: Global,
-    machine: &mut Machine,
-    values: &[Value],
-    here: &Text,
-    line: u32,
-) -> Result<Value, Stop>
-    ensures gives { Gives (λ x. x) (f.trim here.now values.now line (state_of machine.old)) result (state_of machine.new) }
-    ensures opened { (state_of machine.new).opened ≡ (state_of machine.old).opened }
-{
-    let [clip, first, last, size, end] = values else {
-        return Err(fault_at(alloc, ScriptKind::NoMatch, here, line));
-    };
-    let Some((clip, first)) = clip_and_number(clip, first) else {
-        return Err(fault_at(alloc, ScriptKind::NoMatch, here, line));
-    };
-    let bound = trim_bound(last, size, end);
-    trim_clip(alloc, machine, clip, first, bound, here, line)
-}
-
-fn flip(
-    alloc: Global,
-    machine: &mut Machine,
-    values: &[Value],
-    here: &Text,
-    line: u32,
-) -> Result<Value, Stop>
-    ensures gives { Gives (λ x. x) (f.flip here.now values.now line (state_of machine.old)) result (state_of machine.new) }
-    ensures opened { (state_of machine.new).opened ≡ (state_of machine.old).opened }
-{
-    let [Value::Clip(i)] = values else {
-        return Err(fault_at(alloc, ScriptKind::NoMatch, here, line));
-    };
-    let op = Op::Space(SpaceOp::FlipVertical);
-    machine.make(alloc, Filter::FlipVertical, op, &[*i], here, line)
-}
-
-// The places of values that are all clips.
-#[tactic(auto, using(crate::proofs::PlaceLemmas::places_more))]
-fn places_of(alloc: Global, values: &[Value]) -> Result<Option<Vec<u32>>, AllocError>
-    ensures { IfOk result (λ found. option_map (λ places. places.items) found ≡ f.places_of values.now) }
-{
-    let mut places = Vec::new(alloc);
-    for value in values {
-        let Value::Clip(i) = value else {
-            return Ok(None);
-        };
-        places.push(*i)?;
-    }
-    Ok(Some(places))
-}
-
-// Clips one after the other, two or more.
-fn splice(
+// Applies a filter to clips, of which the first has so many frames.
+fn apply_to(
     alloc: Global,
     machine: &mut Machine,
     filter: Filter,
-    op: TimeOp,
+    given: &Bound,
+    inputs: &[u32],
+    frames: u32,
+    here: &Text,
+    line: u32,
+) -> Result<Value, Stop>
+    requires { frames ≤ 1000000 }
+    ensures gives { Gives (λ x. x)
+        (f.applied_by here.now (a.read given.now.values.items (a.numbers_among given.now.rest.items) frames filter) filter
+        inputs.now line (state_of machine.old)) result (state_of machine.new) }
+    ensures opened { (state_of machine.new).opened ≡ (state_of machine.old).opened }
+{
+    let op = match read(alloc, given, frames, filter) {
+        Ok(op) => op,
+        Err(Unread::Refused(kind)) => return Err(fault_at(alloc, kind, here, line)),
+        Err(Unread::Memory) => return Err(Stop::Memory),
+    };
+    if !takes(&op, inputs.len()) {
+        return Err(fault_at(alloc, ScriptKind::NoMatch, here, line));
+    }
+    machine.make(alloc, filter, op, inputs, here, line)
+}
+
+// Applies a filter but a source to the clips among its arguments.
+fn apply(
+    alloc: Global,
+    machine: &mut Machine,
+    filter: Filter,
     given: &Bound,
     here: &Text,
     line: u32,
 ) -> Result<Value, Stop>
-    requires { JoinsClips op }
     ensures gives { Gives (λ x. x)
-        (f.splice here.now filter op given.now.values.items given.now.rest.items line (state_of machine.old)) result
+        (f.applied here.now filter (bound_view given.now)
+        (a.clips_among given.now.values.items ++ a.clips_among given.now.rest.items) line (state_of machine.old)) result
         (state_of machine.new) }
     ensures opened { (state_of machine.new).opened ≡ (state_of machine.old).opened }
 {
-    let [Value::Clip(i), Value::Clip(j)] = given.values.as_slice() else {
+    let mut inputs = Vec::new(alloc);
+    add_clips(&mut inputs, &given.values)?;
+    add_clips(&mut inputs, &given.rest)?;
+    let Some(first) = inputs.first() else {
         return Err(fault_at(alloc, ScriptKind::NoMatch, here, line));
     };
-    let Some(rest) = places_of(alloc, &given.rest)? else {
-        return Err(fault_at(alloc, ScriptKind::NoMatch, here, line));
-    };
-    let mut inputs = Vec::with_capacity(alloc, rest.len() + 2)?;
-    inputs.push(*i)?;
-    inputs.push(*j)?;
-    inputs.extend_from_slice(&rest)?;
-    machine.make(alloc, filter, Op::Time(op), &inputs, here, line)
+    let info = machine.info_of(alloc, *first, here, line)?;
+    apply_to(alloc, machine, filter, given, &inputs, info.frames, here, line)
 }
 
 /// Applies a filter but `Y4MSource`, whose arguments are bound by the signature of this number.
@@ -156,18 +86,8 @@ pub fn filter(
         (state_of machine.new) }
     ensures opened { (state_of machine.new).opened ≡ (state_of machine.old).opened }
 {
-    match filter {
-        Filter::BlankClip => blank(alloc, machine, signature, &given.values, here, line),
-        Filter::Trim => trim(alloc, machine, &given.values, here, line),
-        Filter::FlipVertical => flip(alloc, machine, &given.values, here, line),
-        Filter::UnalignedSplice => {
-            let op = TimeOp::UnalignedSplice;
-            splice(alloc, machine, filter, op, given, here, line)
-        }
-        Filter::AlignedSplice => {
-            let op = TimeOp::AlignedSplice;
-            splice(alloc, machine, filter, op, given, here, line)
-        }
-        _ => Err(fault_at(alloc, ScriptKind::NoMatch, here, line)),
+    if let Filter::BlankClip = filter {
+        return blank(alloc, machine, signature, &given.values, here, line);
     }
+    apply(alloc, machine, filter, given, here, line)
 }
