@@ -11,19 +11,17 @@ use Rattle.avs_values.specs.Values.{Text}
 use Rattle.avs_values.specs.declared.value.Value.{Value}
 use Rattle.avs_values.specs.declared.value.Value.TheVariants as v
 use Rattle.clip_term.specs.Blank.{BlankArgs, default_clip, blank_refusals, blank_info, colour_of, colour_given}
-use Rattle.clip_term.specs.ClipTerm.{Act, source, plain, time, space}
+use Rattle.clip_term.specs.ClipTerm.{Act, source, plain, time, space, joined, soft}
 use Rattle.clip_term.specs.Terms.{check}
 use Rattle.clip_term.specs.declared.fault.FilterFault.{FilterFault}
 use Rattle.clip_term.specs.declared.filter.Filter.{Filter}
 use Rattle.clip_term.specs.declared.filter.Filter.TheVariants as f
-use Rattle.clip_term.specs.declared.op.SpaceOp.TheVariants.{FlipVertical}
-use Rattle.clip_term.specs.declared.op.TimeOp.{TimeOp}
 use Rattle.clip_term.specs.declared.op.TimeOp.TheVariants as t
-use Rattle.clip_term.specs.declared.op.TrimBound.{TrimBound}
 use Rattle.clip_graph.specs.Plan.{Application, infos_among, sources_in}
 use Rattle.avs_meaning.specs.Faults.{Fault}
 use Rattle.avs_meaning.specs.Filters as m
-use Rattle.avs_meaning.specs.Filters.{are_places, mode_of, next_application, blank_args, trim_bound, places_of}
+use Rattle.avs_meaning.specs.Arguments.{Reading, read, takes, clips_among, numbers_among}
+use Rattle.avs_meaning.specs.Filters.{are_places, mode_of, next_application, blank_args}
 use Rattle.avs_meaning.specs.Operators.{binary_of, combined, placed}
 use Rattle.avs_meaning.specs.Outside.{Outside}
 use Rattle.avs_meaning.specs.State.{State, Defined, Outcome, Run, and_then, lifted, fails, find, define, define_by, define_all}
@@ -48,6 +46,10 @@ then_has : {X Y : Type 0} (list : List SourceClip) (o : Outcome X) (next : X →
     → ((x : X) (s : State) → sources_of s.plan ≡ list → Has list (next x s)) → Has list (and_then o next)
 then_has list (Ok ended) next h rest = rest ended.0 ended.1 h
 then_has list (Err fault) next h rest = tt
+
+run_if_has : {X : Type 0} (list : List SourceClip) (b : Bool) (one other : Run X) (s : State) → Has list (one s) → Has list (other s) → Has list ((if b then one else other) s)
+run_if_has list true one other s h k = h
+run_if_has list false one other s h k = k
 
 lifted_has : {X : Type 0} (answer : Result X Fault) (s : State) (list : List SourceClip) → sources_of s.plan ≡ list → Has list (lifted answer s)
 lifted_has (Ok x) s list h = h
@@ -121,131 +123,49 @@ module _ (here : Text) where
   blank_like_has : (info : Info) (args : BlankArgs) (line : ℕ) (s : State) (list : List SourceClip) → sources_of s.plan ≡ list → Has list (m.blank_like here info args line s)
   blank_like_has info args line s list h = blank_by_has (first_fault (blank_refusals info args)) info args line s list h
 
-  blank_of_has : (clip : Value) (args : BlankArgs) (line : ℕ) (s : State) (list : List SourceClip) → sources_of s.plan ≡ list → Has list (m.blank_of here clip args line s)
-  blank_of_has (v.Clip i) args line s list h =
+  blank_of_has : (clip : Option Value) (args : BlankArgs) (line : ℕ) (s : State) (list : List SourceClip) → sources_of s.plan ≡ list → Has list (m.blank_of here clip args line s)
+  blank_of_has (Some (v.Clip i)) args line s list h =
       then_has list (m.info_of here i line s) (λ info. m.blank_like here info args line) (info_has (slice_get s.plan i) line s list h)
       (λ info after is. blank_like_has info args line after list is)
-  blank_of_has v.Undefined args line s list h = blank_like_has default_clip args line s list h
-  blank_of_has (v.Bool b) args line s list h = blank_like_has default_clip args line s list h
-  blank_of_has (v.Int n) args line s list h = blank_like_has default_clip args line s list h
-  blank_of_has (v.Text x) args line s list h = blank_like_has default_clip args line s list h
+  blank_of_has _ args line s list h = blank_like_has default_clip args line s list h
 
   blank_has : (n : ℕ) (values : List Value) (line : ℕ) (s : State) (list : List SourceClip) → sources_of s.plan ≡ list → Has list (m.blank here n values line s)
-  blank_has zero [] line s list h = tt
-  blank_has zero (a ∷ []) line s list h = tt
-  blank_has zero (a ∷ b ∷ []) line s list h = tt
-  blank_has zero (a ∷ b ∷ c ∷ []) line s list h = tt
-  blank_has zero (a ∷ b ∷ c ∷ d ∷ []) line s list h = tt
-  blank_has zero (a ∷ b ∷ c ∷ d ∷ e ∷ []) line s list h = tt
-  blank_has zero (a ∷ b ∷ c ∷ d ∷ e ∷ l ∷ []) line s list h = tt
-  blank_has zero (a ∷ b ∷ c ∷ d ∷ e ∷ l ∷ g ∷ []) line s list h = tt
-  blank_has zero (a ∷ b ∷ c ∷ d ∷ e ∷ l ∷ g ∷ p ∷ []) line s list h = blank_of_has p (blank_args a b c d e l g) line s list h
-  blank_has zero (a ∷ b ∷ c ∷ d ∷ e ∷ l ∷ g ∷ p ∷ o ∷ more) line s list h = tt
-  blank_has (suc zero) [] line s list h = tt
-  blank_has (suc zero) (a ∷ []) line s list h = tt
-  blank_has (suc zero) (a ∷ b ∷ []) line s list h = tt
-  blank_has (suc zero) (a ∷ b ∷ c ∷ []) line s list h = tt
-  blank_has (suc zero) (a ∷ b ∷ c ∷ d ∷ []) line s list h = tt
-  blank_has (suc zero) (a ∷ b ∷ c ∷ d ∷ e ∷ []) line s list h = tt
-  blank_has (suc zero) (a ∷ b ∷ c ∷ d ∷ e ∷ l ∷ []) line s list h = tt
-  blank_has (suc zero) (a ∷ b ∷ c ∷ d ∷ e ∷ l ∷ g ∷ []) line s list h = tt
-  blank_has (suc zero) (a ∷ b ∷ c ∷ d ∷ e ∷ l ∷ g ∷ p ∷ []) line s list h = blank_of_has a (blank_args b c d e l g p) line s list h
-  blank_has (suc zero) (a ∷ b ∷ c ∷ d ∷ e ∷ l ∷ g ∷ p ∷ o ∷ more) line s list h = tt
-  blank_has (suc (suc n)) values line s list h = tt
+  blank_has zero values line s list h = blank_of_has (slice_get values 7) (blank_args values 0) line s list h
+  blank_has (suc n) values line s list h = blank_of_has (slice_get values 0) (blank_args values 1) line s list h
 
-  trim_by_has : (end : Option TrimBound) (i : ℕ) (first : ℤ) (line : ℕ) (s : State) (list : List SourceClip) → sources_of s.plan ≡ list → Has list (m.trim_by here end i first line s)
-  trim_by_has (Some end) i first line s list h = plain_has f.Trim (time (t.Trim first end)) (i ∷ []) line s list refl h
-  trim_by_has None i first line s list h = tt
+  act_has : (act : Act) (filter : Filter) (inputs : List ℕ) (line : ℕ) (s : State) (list : List SourceClip)
+      → sources_of s.plan ≡ list → Has list (m.applied_by here (Ok act) filter inputs line s)
+  act_has (source name number info) filter inputs line s list h = tt
+  act_has (plain info colour) filter inputs line s list h = tt
+  act_has (time op) filter inputs line s list h =
+      run_if_has list (takes (time op) (length inputs)) (m.made here filter (time op) inputs line) (fails k.NoMatch here line) s
+      (plain_has filter (time op) inputs line s list refl h) tt
+  act_has (space op) filter inputs line s list h =
+      run_if_has list (takes (space op) (length inputs)) (m.made here filter (space op) inputs line) (fails k.NoMatch here line) s
+      (plain_has filter (space op) inputs line s list refl h) tt
+  act_has (joined op) filter inputs line s list h =
+      run_if_has list (takes (joined op) (length inputs)) (m.made here filter (joined op) inputs line) (fails k.NoMatch here line) s
+      (plain_has filter (joined op) inputs line s list refl h) tt
+  act_has (soft op) filter inputs line s list h = tt
 
-  trim_has : (values : List Value) (line : ℕ) (s : State) (list : List SourceClip) → sources_of s.plan ≡ list → Has list (m.trim here values line s)
-  trim_has [] line s list h = tt
-  trim_has (v.Undefined ∷ rest) line s list h = tt
-  trim_has ((v.Bool b) ∷ rest) line s list h = tt
-  trim_has ((v.Text x) ∷ rest) line s list h = tt
-  trim_has ((v.Int n) ∷ rest) line s list h = tt
-  trim_has (v.Clip i ∷ []) line s list h = tt
-  trim_has (v.Clip i ∷ v.Undefined ∷ rest) line s list h = tt
-  trim_has (v.Clip i ∷ (v.Bool b) ∷ rest) line s list h = tt
-  trim_has (v.Clip i ∷ (v.Text x) ∷ rest) line s list h = tt
-  trim_has (v.Clip i ∷ (v.Clip j) ∷ rest) line s list h = tt
-  trim_has (v.Clip i ∷ v.Int n ∷ []) line s list h = tt
-  trim_has (v.Clip i ∷ v.Int n ∷ a ∷ []) line s list h = tt
-  trim_has (v.Clip i ∷ v.Int n ∷ a ∷ b ∷ []) line s list h = tt
-  trim_has (v.Clip i ∷ v.Int n ∷ a ∷ b ∷ c ∷ []) line s list h = trim_by_has (trim_bound a b c) i n line s list h
-  trim_has (v.Clip i ∷ v.Int n ∷ a ∷ b ∷ c ∷ d ∷ rest) line s list h = tt
+  applied_by_has : (reading : Reading) (filter : Filter) (inputs : List ℕ) (line : ℕ) (s : State) (list : List SourceClip)
+      → sources_of s.plan ≡ list → Has list (m.applied_by here reading filter inputs line s)
+  applied_by_has (Ok act) filter inputs line s list h = act_has act filter inputs line s list h
+  applied_by_has (Err kind) filter inputs line s list h = tt
 
-  flip_has : (values : List Value) (line : ℕ) (s : State) (list : List SourceClip) → sources_of s.plan ≡ list → Has list (m.flip here values line s)
-  flip_has [] line s list h = tt
-  flip_has (v.Undefined ∷ rest) line s list h = tt
-  flip_has ((v.Bool b) ∷ rest) line s list h = tt
-  flip_has ((v.Int n) ∷ rest) line s list h = tt
-  flip_has ((v.Text x) ∷ rest) line s list h = tt
-  flip_has (v.Clip i ∷ []) line s list h = plain_has f.FlipVertical (space FlipVertical) (i ∷ []) line s list refl h
-  flip_has (v.Clip i ∷ x ∷ rest) line s list h = tt
-
-  splice_by_has : (filter : Filter) (op : TimeOp) (i j : ℕ) (rest : Option (List ℕ)) (line : ℕ) (s : State) (list : List SourceClip)
-      → sources_of s.plan ≡ list → Has list (m.splice_by here filter op i j rest line s)
-  splice_by_has filter op i j (Some rest) line s list h = plain_has filter (time op) (i ∷ j ∷ rest) line s list refl h
-  splice_by_has filter op i j None line s list h = tt
-
-  splice_has : (filter : Filter) (op : TimeOp) (values more : List Value) (line : ℕ) (s : State) (list : List SourceClip)
-      → sources_of s.plan ≡ list → Has list (m.splice here filter op values more line s)
-  splice_has filter op [] more line s list h = tt
-  splice_has filter op (v.Undefined ∷ rest) more line s list h = tt
-  splice_has filter op ((v.Bool b) ∷ rest) more line s list h = tt
-  splice_has filter op ((v.Int n) ∷ rest) more line s list h = tt
-  splice_has filter op ((v.Text x) ∷ rest) more line s list h = tt
-  splice_has filter op (v.Clip i ∷ []) more line s list h = tt
-  splice_has filter op (v.Clip i ∷ v.Undefined ∷ rest) more line s list h = tt
-  splice_has filter op (v.Clip i ∷ (v.Bool b) ∷ rest) more line s list h = tt
-  splice_has filter op (v.Clip i ∷ (v.Int n) ∷ rest) more line s list h = tt
-  splice_has filter op (v.Clip i ∷ (v.Text x) ∷ rest) more line s list h = tt
-  splice_has filter op (v.Clip i ∷ v.Clip j ∷ []) more line s list h = splice_by_has filter op i j (places_of more) line s list h
-  splice_has filter op (v.Clip i ∷ v.Clip j ∷ x ∷ rest) more line s list h = tt
+  applied_has : (filter : Filter) (given : Bound) (inputs : List ℕ) (line : ℕ) (s : State) (list : List SourceClip)
+      → sources_of s.plan ≡ list → Has list (m.applied here filter given inputs line s)
+  applied_has filter given [] line s list h = tt
+  applied_has filter given (i ∷ rest) line s list h =
+      let reading = λ (info : Info). read given.values (numbers_among given.rest) info.frames filter in
+      then_has list (m.info_of here i line s) (λ info. m.applied_by here (reading info) filter (i ∷ rest) line)
+      (info_has (slice_get s.plan i) line s list h) (λ info after is. applied_by_has (reading info) filter (i ∷ rest) line after list is)
 
   filtered_has : (outside : Outside) (filter : Filter) (n : ℕ) (given : Bound) (line : ℕ) (s : State) (list : List SourceClip)
       → (filter ≡ f.Y4MSource → ⊥) → sources_of s.plan ≡ list → Has list (m.filtered here outside filter n given line s)
   filtered_has outside f.Y4MSource n given line s list other h = absurd (other refl)
   filtered_has outside f.BlankClip n given line s list other h = blank_has n given.values line s list h
-  filtered_has outside f.Trim n given line s list other h = trim_has given.values line s list h
-  filtered_has outside f.Reverse n given line s list other h = tt
-  filtered_has outside f.FreezeFrame n given line s list other h = tt
-  filtered_has outside f.SelectEven n given line s list other h = tt
-  filtered_has outside f.SelectOdd n given line s list other h = tt
-  filtered_has outside f.SelectEvery n given line s list other h = tt
-  filtered_has outside f.Interleave n given line s list other h = tt
-  filtered_has outside f.UnalignedSplice n given line s list other h = splice_has f.UnalignedSplice t.UnalignedSplice given.values given.rest line s list h
-  filtered_has outside f.AlignedSplice n given line s list other h = splice_has f.AlignedSplice t.AlignedSplice given.values given.rest line s list h
-  filtered_has outside f.Loop n given line s list other h = tt
-  filtered_has outside f.DuplicateFrame n given line s list other h = tt
-  filtered_has outside f.DeleteFrame n given line s list other h = tt
-  filtered_has outside f.AssumeFPS n given line s list other h = tt
-  filtered_has outside f.ChangeFPS n given line s list other h = tt
-  filtered_has outside f.ApplyRange n given line s list other h = tt
-  filtered_has outside f.Crop n given line s list other h = tt
-  filtered_has outside f.CropBottom n given line s list other h = tt
-  filtered_has outside f.AddBorders n given line s list other h = tt
-  filtered_has outside f.LetterBox n given line s list other h = tt
-  filtered_has outside f.FlipHorizontal n given line s list other h = tt
-  filtered_has outside f.FlipVertical n given line s list other h = flip_has given.values line s list h
-  filtered_has outside f.Turn180 n given line s list other h = tt
-  filtered_has outside f.TurnLeft n given line s list other h = tt
-  filtered_has outside f.TurnRight n given line s list other h = tt
-  filtered_has outside f.Greyscale n given line s list other h = tt
-  filtered_has outside f.Invert n given line s list other h = tt
-  filtered_has outside f.Limiter n given line s list other h = tt
-  filtered_has outside f.SwapUV n given line s list other h = tt
-  filtered_has outside f.UToY8 n given line s list other h = tt
-  filtered_has outside f.VToY8 n given line s list other h = tt
-  filtered_has outside f.ConvertToY8 n given line s list other h = tt
-  filtered_has outside f.StackHorizontal n given line s list other h = tt
-  filtered_has outside f.StackVertical n given line s list other h = tt
-  filtered_has outside f.Merge n given line s list other h = tt
-  filtered_has outside f.MergeLuma n given line s list other h = tt
-  filtered_has outside f.MergeChroma n given line s list other h = tt
-  filtered_has outside f.YToUV n given line s list other h = tt
-  filtered_has outside f.TemporalSoften n given line s list other h = tt
-  filtered_has outside f.GeneralConvolution n given line s list other h = tt
+  filtered_has outside filter n given line s list other h = applied_has filter given (clips_among given.values ++ clips_among given.rest) line s list h
 
   pub filtering : (outside : Outside) (filter : Filter) (n : ℕ) (given : Bound) (line : ℕ) (s new : State) (result : Result Value Stop)
       → (filter ≡ f.Y4MSource → ⊥) → Gives (λ x. x) (m.filtered here outside filter n given line s) result new

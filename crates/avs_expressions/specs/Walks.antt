@@ -8,7 +8,7 @@ use Rattle.avs_tree.specs.declared.tree.Statement.{Statement}
 use Rattle.avs_values.specs.Values.{Text}
 use Rattle.avs_values.specs.declared.value.Value.{Value}
 use Rattle.avs_meaning.specs.Meaning.{below}
-use Rattle.avs_meaning.specs.Table.{Row}
+use Rattle.avs_meaning.specs.declared.builtin.Builtin.{Builtin}
 use Rattle.avs_meaning.specs.declared.fault.FileKind.{FileKind}
 use Rattle.avs_meaning.specs.declared.fault.InputFault.{InputFault}
 use Rattle.avs_meaning.specs.declared.state.SourceClip.{SourceClip}
@@ -30,14 +30,14 @@ pub record Keeps {H X : Type 0} (opened : H → List SourceClip) (faults : H →
 -- a function value that executes the statements of a text one call deeper
 pub record Deeper {H : Type 0} (told : Bool) (clips : Text → Result Info InputFault) (scripts : Text → Result Text FileKind)
     (opened : H → List SourceClip) (faults : H → ℕ) (depth : ℕ)
-    (pre : Global → Bor (List Row) → MutBor Machine → MutBor H → ℕ → Bor Text → Bor (List Statement) → Type 0)
-    (post : Global → Bor (List Row) → MutBor Machine → MutBor H → ℕ → Bor Text → Bor (List Statement) → Result Value Stop
+    (pre : Global → Bor (List Builtin) → MutBor Machine → MutBor H → ℕ → Bor Text → Bor (List Statement) → Type 0)
+    (post : Global → Bor (List Builtin) → MutBor Machine → MutBor H → ℕ → Bor Text → Bor (List Statement) → Result Value Stop
     → MutBor Machine → MutBor H → Type 0) : Type 0 where
-  pub callable : 0 < depth → (alloc : Global) (t : Bor (List Row)) (s : MutBor Machine) (h : MutBor H) (here : Bor Text)
+  pub callable : 0 < depth → (alloc : Global) (t : Bor (List Builtin)) (s : MutBor Machine) (h : MutBor H) (here : Bor Text)
       (body : Bor (List Statement)) → pre alloc t s h (depth - 1) here body
-  pub runs : 0 < depth → (alloc : Global) (t : Bor (List Row)) (s s' : MutBor Machine) (h h' : MutBor H) (here : Bor Text)
+  pub runs : 0 < depth → (alloc : Global) (t : Bor (List Builtin)) (s s' : MutBor Machine) (h h' : MutBor H) (here : Bor Text)
       (body : Bor (List Statement)) (result : Result Value Stop) → post alloc t s h (depth - 1) here body result s' h'
       → Told told (λ v. v) (below (outside_by clips scripts) depth here.now (block_view body.now)) s.now result s'.now
-  pub keeps : 0 < depth → (alloc : Global) (t : Bor (List Row)) (s s' : MutBor Machine) (h h' : MutBor H) (here : Bor Text)
+  pub keeps : 0 < depth → (alloc : Global) (t : Bor (List Builtin)) (s s' : MutBor Machine) (h h' : MutBor H) (here : Bor Text)
       (body : Bor (List Statement)) (result : Result Value Stop) → post alloc t s h (depth - 1) here body result s' h'
       → Keeps opened faults s.now h.now result s'.now h'.now

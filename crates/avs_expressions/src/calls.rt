@@ -14,7 +14,7 @@ ghost use Rattle.avs_expressions.specs.Walks.{Deeper, Keeps};
 
 use crate::parts::{add_source, apply_filter};
 use crate::walker::Walker;
-use avs_calls::{Callee, callee_of, fit_or_last, parameters, plain, takes, told};
+use avs_calls::{Callee, callee_of, fit_callee, parameters, plain, told};
 use avs_meaning::{Builtin, ScriptKind, Stop, Table, Variable};
 use avs_state::{ByName, Definition, Host, HostFault, Machine};
 use avs_tree::Statement;
@@ -155,7 +155,7 @@ impl<
         &self,
         machine: &mut Machine,
         host: &mut H,
-        callee: &Callee,
+        callee: &Callee<'_>,
         signature: usize,
         given: &Bound,
         line: u32,
@@ -174,14 +174,19 @@ impl<
                 let env = parameters(self.alloc, &definition.function.params, &given.values)?;
                 self.inside(machine, host, definition, env)
             }
-            Callee::Builtin(builtin) => {
-                self.builtin(machine, host, *builtin, signature, given, line)
+            Callee::Builtin(row) => {
+                self.builtin(machine, host, row.builtin(), signature, given, line)
             }
         }
     }
 
     /// What a name calls.
-    pub(crate) fn called(&self, machine: &Machine, name: &Text, line: u32) -> Result<Callee, Stop>
+    pub(crate) fn called(
+        &self,
+        machine: &Machine,
+        name: &Text,
+        line: u32,
+    ) -> Result<Callee<'t>, Stop>
         ensures { Gives callee_view (e.called self.now.here.now name.now line (state_of machine.now)) result
             (state_of machine.now) }
     {
@@ -196,7 +201,7 @@ impl<
         &self,
         machine: &mut Machine,
         host: &mut H,
-        callee: &Callee,
+        callee: &Callee<'_>,
         args: Vec<Given>,
         last: Option<Value>,
         line: u32,
@@ -207,8 +212,7 @@ impl<
             last self.now.here.now line) machine.old result machine.new }
         ensures kept { Keeps H.opened H.faults machine.old host.old result machine.new host.new }
     {
-        let signatures = takes(self.alloc, callee)?;
-        match fit_or_last(self.alloc, &signatures, args, last)? {
+        match fit_callee(self.alloc, callee, args, last)? {
             Some((signature, given)) => {
                 self.applied(machine, host, callee, signature, &given, line)
             }
@@ -221,7 +225,7 @@ impl<
         &self,
         machine: &mut Machine,
         host: &mut H,
-        callee: &Callee,
+        callee: &Callee<'_>,
         args: Vec<Given>,
         line: u32,
     ) -> Result<Value, Stop>
