@@ -119,7 +119,7 @@ fn scripts_have_clips_or_faults(rt: HostRuntime) -> Result<(), Fail> {
             "clip 0 of 2",
         ),
         (
-            "BlankClip()\nif (false) {\nInvert() }",
+            "BlankClip()\nif (false) {\nGeneralConvolution() }",
             "s.avs line 3: Unbuilt",
         ),
     ];

@@ -230,7 +230,7 @@ fn scripts_have_faults(rt: HostRuntime) -> Result<(), Fail> {
             "NestLimit",
         ),
         (b"", 1, "NotClip"),
-        (b"BlankClip().Reverse", 1, "Unbuilt"),
+        (b"BlankClip().Prefetch", 1, "Unbuilt"),
         (b"a = 1\nb", 2, "UnknownName"),
         (b"Assert(false, \"no\")", 1, "AssertFailed: no"),
         (b"BlankClip(width=1)", 1, "NotWholeChroma"),
