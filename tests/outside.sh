@@ -3,8 +3,8 @@
 # through a file. Each ends with the status and the line that docs/manual.md gives.
 set -eu
 cd "$(dirname "$0")/.."
-./build
-program=$PWD/bin/avsserve
+[ -n "${AVSSERVE:-}" ] || ./build
+program=${AVSSERVE:-$PWD/bin/avsserve}
 room=$(mktemp -d)
 trap 'rm -rf "$room"' EXIT
 cp examples/tiny.y4m "$room"

@@ -3,13 +3,13 @@
 # A tool that isn't installed is skipped with a line (Debian: apt-get install ffmpeg x264 mjpegtools).
 set -eu
 cd "$(dirname "$0")/.."
-program=$PWD/bin/avsserve
+program=${AVSSERVE:-$PWD/bin/avsserve}
 have() { command -v "$1" >/dev/null 2>&1; }
 if ! have ffmpeg; then
     echo "peers: skipped, ffmpeg is not installed"
     exit 0
 fi
-./build
+[ -n "${AVSSERVE:-}" ] || ./build
 room=$(mktemp -d)
 trap 'rm -rf "$room"' EXIT
 cd "$room"

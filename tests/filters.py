@@ -1,0 +1,412 @@
+#!/usr/bin/env python3
+"""Renders every filter over pictures at random in each format, and compares each stream with a second reading of the rules.
+
+The rules are written here a second time, in plain Python, sample by sample. Sizes are odd in the chroma planes, down to one
+column and one row. Each refusal of a filter is asked for too, and its line is compared.
+
+The program is built first, unless the environment names one as AVSSERVE.
+"""
+
+import os
+import random
+import subprocess
+import sys
+import tempfile
+from fractions import Fraction
+
+ROOT = os.path.dirname(os.path.dirname(os.path.abspath(__file__)))
+PROGRAM = os.environ.get("AVSSERVE", os.path.join(ROOT, "bin", "avsserve"))
+# name in scripts: name in streams, subsampling across and down (none: luma alone)
+FORMATS = {
+    "Y8": ("mono", None),
+    "YV12": ("420jpeg", (2, 2)),
+    "YV16": ("422", (2, 1)),
+    "YV24": ("444", (1, 1)),
+    "YV411": ("411", (4, 1)),
+}
+SIZES = {
+    "Y8": [(1, 1), (7, 1), (1, 5), (5, 3)],
+    "YV12": [(2, 2), (6, 4), (2, 6)],
+    "YV16": [(2, 1), (6, 3)],
+    "YV24": [(1, 1), (5, 3)],
+    "YV411": [(4, 1), (12, 3)],
+}
+BLACK = 0x108080
+
+
+class Clip:
+    """Frames are lists of planes, planes are lists of rows, rows are lists of samples."""
+
+    def __init__(self, kind, width, height, frames, rate=Fraction(25)):
+        self.kind, self.width, self.height, self.frames, self.rate = kind, width, height, frames, rate
+
+    def also(self, **changes):
+        made = Clip(self.kind, self.width, self.height, self.frames, self.rate)
+        made.__dict__.update(changes)
+        return made
+
+    def of(self, picture, **changes):
+        """Each frame becomes another one."""
+        return self.also(frames=[picture(frame) for frame in self.frames], **changes)
+
+    def shown(self, numbers, **changes):
+        return self.also(frames=[self.frames[n] for n in numbers], **changes)
+
+    def at(self, n):
+        return self.frames[min(n, len(self.frames) - 1)]
+
+    def stream(self):
+        head = f"YUV4MPEG2 W{self.width} H{self.height} F{self.rate.numerator}:{self.rate.denominator} Ip A1:1 C{FORMATS[self.kind][0]}\n"
+        parts = [head.encode()]
+        for frame in self.frames:
+            parts.append(b"FRAME\n")
+            parts += [bytes(row) for plane in frame for row in plane]
+        return b"".join(parts)
+
+
+def planes_of(kind, width, height):
+    """The sizes of the planes."""
+    chroma = FORMATS[kind][1]
+    return [(width, height)] + ([(width // chroma[0], height // chroma[1])] * 2 if chroma else [])
+
+
+def at_random(dice, kind, width, height, count):
+    frames = [
+        [[[dice.randrange(256) for _ in range(w)] for _ in range(h)] for w, h in planes_of(kind, width, height)]
+        for _ in range(count)
+    ]
+    return Clip(kind, width, height, frames)
+
+
+def parts(colour):
+    return [colour >> 16 & 255, colour >> 8 & 255, colour & 255]
+
+
+def steps(clip, p):
+    """How many columns and rows of the picture a sample of plane p has."""
+    return (1, 1) if p == 0 else FORMATS[clip.kind][1]
+
+
+def cut(clip, left, top, width, height):
+    def picture(frame):
+        made = []
+        for p, plane in enumerate(frame):
+            a, d = steps(clip, p)
+            made.append([row[left // a : (left + width) // a] for row in plane[top // d : (top + height) // d]])
+        return made
+
+    return clip.of(picture, width=width, height=height)
+
+
+def bordered(clip, left, top, right, bottom, colour):
+    def picture(frame):
+        made = []
+        for p, plane in enumerate(frame):
+            a, d = steps(clip, p)
+            c = parts(colour)[p]
+            wide = (left + clip.width + right) // a
+            made.append(
+                [[c] * wide] * (top // d)
+                + [[c] * (left // a) + row + [c] * (right // a) for row in plane]
+                + [[c] * wide] * (bottom // d)
+            )
+        return made
+
+    return clip.of(picture, width=left + clip.width + right, height=top + clip.height + bottom)
+
+
+def boxed(clip, top, bottom, x1, x2, colour):
+    inner = cut(clip, x1, top, clip.width - x1 - x2, clip.height - top - bottom)
+    return bordered(inner, x1, top, x2, bottom, colour)
+
+
+def each(change):
+    """Each plane becomes another one."""
+    return lambda frame: [change(p, plane) for p, plane in enumerate(frame)]
+
+
+def turned_left(plane):
+    return [[plane[y][x] for y in range(len(plane))] for x in reversed(range(len(plane[0])))]
+
+
+def turned_right(plane):
+    return [[plane[y][x] for y in reversed(range(len(plane)))] for x in range(len(plane[0]))]
+
+
+def limited(low, high, chroma_low, chroma_high):
+    def change(p, plane):
+        a, b = (low, high) if p == 0 else (chroma_low, chroma_high)
+        return [[min(max(x, a), b) for x in row] for row in plane]
+
+    return each(change)
+
+
+def inverted(letters):
+    return each(lambda p, plane: [[255 - x for x in row] for row in plane] if "YUV"[p] in letters else plane)
+
+
+def every(clip, step, offsets):
+    k = len(offsets)
+    lengths = [(len(clip.frames) - 1 - o) // step + 1 for o in offsets]
+    length = max((n - 1) * k + i + 1 for i, n in enumerate(lengths))
+    numbers = [offsets[n % k] + min(n // k, lengths[n % k] - 1) * step for n in range(length)]
+    return clip.shown(numbers, rate=clip.rate * k / step)
+
+
+def interleaved(*clips):
+    k = len(clips)
+    length = max((len(c.frames) - 1) * k + i + 1 for i, c in enumerate(clips))
+    return clips[0].also(frames=[clips[n % k].at(n // k) for n in range(length)], rate=clips[0].rate * k)
+
+
+def looped(clip, times, start, end):
+    numbers = list(range(len(clip.frames)))
+    return clip.shown(numbers[:start] + numbers[start : end + 1] * times + numbers[end + 1 :])
+
+
+def at_rate(clip, num, den):
+    rate = Fraction(num, den)
+    ratio = clip.rate / rate
+    length = -(-len(clip.frames) * ratio.denominator // ratio.numerator)
+    return clip.shown([n * ratio.numerator // ratio.denominator for n in range(length)], rate=rate)
+
+
+def stacked(across, *clips):
+    def joined(planes):
+        return [sum(rows, []) for rows in zip(*planes)] if across else sum(planes, [])
+
+    length = max(len(c.frames) for c in clips)
+    frames = [[joined(planes) for planes in zip(*(c.at(n) for c in clips))] for n in range(length)]
+    width = sum(c.width for c in clips) if across else clips[0].width
+    height = clips[0].height if across else sum(c.height for c in clips)
+    return clips[0].also(frames=frames, width=width, height=height)
+
+
+def merged(a, b, pick):
+    return a.also(frames=[pick(frame, b.at(n)) for n, frame in enumerate(a.frames)])
+
+
+def average(one, other):
+    return [[[(x + y + 1) // 2 for x, y in zip(*rows)] for rows in zip(*planes)] for planes in zip(one, other)]
+
+
+def time_rows(c, d):
+    """Calls on c and d, which agree, with the clip that each gives."""
+    n = len(c.frames)
+    yield "c.Trim(1, 0)", c.shown(range(1, n))
+    yield "c.Trim(1, 2)", c.shown([1, 2])
+    yield "c.Trim(1, -2)", c.shown([1, 2])
+    yield "c.Trim(0, length=3)", c.shown([0, 1, 2])
+    yield "c.Trim(2, end=9)", c.shown(range(2, n))
+    yield "c.Reverse", c.shown(reversed(range(n)))
+    yield "c.FreezeFrame(1, 2, 3)", c.shown([0, 3, 3, 3, 4])
+    yield "c.SelectEven", c.shown([0, 2, 4], rate=c.rate / 2)
+    yield "c.SelectOdd", c.shown([1, 3], rate=c.rate / 2)
+    yield "c.SelectEvery(3, 0, 2, 1)", every(c, 3, [0, 2, 1])
+    yield "c.SelectEvery(1, 4)", every(c, 1, [4])
+    yield "Interleave(c, d)", interleaved(c, d)
+    yield "Interleave(d, c, d)", interleaved(d, c, d)
+    yield "UnalignedSplice(c, d)", c.also(frames=c.frames + d.frames)
+    yield "AlignedSplice(c, d, c)", c.also(frames=c.frames + d.frames + c.frames)
+    yield "c + d", c.also(frames=c.frames + d.frames)
+    yield "d ++ c", c.also(frames=d.frames + c.frames)
+    yield "c.Loop(3)", looped(c, 3, 0, n - 1)
+    yield "c.Loop(2, 1)", looped(c, 2, 1, n - 1)
+    yield "c.Loop(3, 1, 2)", looped(c, 3, 1, 2)
+    yield "c.Loop(0, end=1)", looped(c, 0, 0, 1)
+    yield "c.DuplicateFrame(4, 1, 4)", c.shown([0, 1, 1, 2, 3, 4, 4, 4])
+    yield "c.DeleteFrame(3, 0, 3)", c.shown([1, 2, 4])
+    yield "c.AssumeFPS(30)", c.also(rate=Fraction(30))
+    yield "c.AssumeFPS(30000, 1001)", c.also(rate=Fraction(30000, 1001))
+    yield "c.ChangeFPS(60)", at_rate(c, 60, 1)
+    yield "c.ChangeFPS(20, 3)", at_rate(c, 20, 3)
+
+
+def space_rows(c):
+    w, h, kind = c.width, c.height, c.kind
+    a, d = FORMATS[kind][1] or (1, 1)
+    across, down = (a if w > a else 0), (d if h > d else 0)
+    yield f"c.Crop({across}, {down}, 0, 0)", cut(c, across, down, w - across, h - down)
+    yield f"c.Crop(0, {down}, {-across}, {h - down}, align=true)", cut(c, 0, down, w - across, h - down)
+    yield f"c.CropBottom({down})", cut(c, 0, 0, w, h - down)
+    yield f"c.AddBorders({a}, {2 * d}, {3 * a}, {d})", bordered(c, a, 2 * d, 3 * a, d, BLACK)
+    yield f"c.AddBorders(0, {d}, {a}, 0, $0A14FF)", bordered(c, 0, d, a, 0, 0x0A14FF)
+    yield f"c.LetterBox({down}, 0)", boxed(c, down, 0, 0, 0, BLACK)
+    yield f"c.LetterBox(0, {down}, {across}, 0, $FF0102)", boxed(c, 0, down, across, 0, 0xFF0102)
+    yield f"c.LetterBox({h}, 0)", boxed(c, h, 0, 0, 0, BLACK)
+    yield "c.FlipHorizontal", c.of(each(lambda p, plane: [row[::-1] for row in plane]))
+    yield "c.FlipVertical", c.of(each(lambda p, plane: plane[::-1]))
+    yield "c.Turn180", c.of(each(lambda p, plane: [row[::-1] for row in plane[::-1]]))
+    if kind not in ("YV16", "YV411"):
+        yield "c.TurnLeft", c.of(each(lambda p, plane: turned_left(plane)), width=h, height=w)
+        yield "c.TurnRight", c.of(each(lambda p, plane: turned_right(plane)), width=h, height=w)
+    grey = c.of(each(lambda p, plane: plane if p == 0 else [[128] * len(row) for row in plane]))
+    yield "c.Greyscale", grey
+    yield "c.Grayscale", grey
+    yield "c.Invert", c.of(inverted("YUV"))
+    yield 'c.Invert("uu")', c.of(inverted("U"))
+    yield 'c.Invert(channels="vY")', c.of(inverted("YV"))
+    yield 'c.Invert("")', c
+    yield "c.Limiter", c.of(limited(16, 235, 16, 240))
+    yield "c.Limiter(100, 120, max_chroma=200)", c.of(limited(100, 120, 16, 200))
+    yield "c.SwapUV", c.of(lambda frame: frame[:1] + frame[1:][::-1])
+    yield "c.ConvertToY8", c.of(lambda frame: frame[:1], kind="Y8")
+    if kind != "Y8":
+        small = dict(kind="Y8", width=w // a, height=h // d)
+        yield "c.UToY8", c.of(lambda frame: frame[1:2], **small)
+        yield "c.VToY8", c.of(lambda frame: frame[2:], **small)
+
+
+def join_rows(c, d):
+    yield "StackHorizontal(c, d)", stacked(True, c, d)
+    yield "StackHorizontal(d, c, d)", stacked(True, d, c, d)
+    yield "StackVertical(c, d)", stacked(False, c, d)
+    yield "StackVertical(d, d, c)", stacked(False, d, d, c)
+    yield "Merge(c, d)", merged(c, d, average)
+    yield "Merge(d, c)", merged(d, c, average)
+    yield "MergeLuma(c, d)", merged(c, d, lambda one, other: other[:1] + one[1:])
+    yield "MergeChroma(c, d)", merged(c, d, lambda one, other: one[:1] + other[1:])
+
+
+def plane_rows(dice):
+    """YToUV, with each format that it gives."""
+    for kind in ("YV24", "YV16", "YV12", "YV411"):
+        a, d = FORMATS[kind][1]
+        u, v = at_random(dice, "Y8", 3, 2, 2), at_random(dice, "Y8", 3, 2, 3)
+        y = at_random(dice, "Y8", 3 * a, 2 * d, 4)
+        frames = [[y.at(n)[0], u.at(n)[0], v.at(n)[0]] for n in range(2)]
+        yield (u, v, y), Clip(kind, 3 * a, 2 * d, frames)
+
+
+# Calls on c, of 6x4 and five frames in YV12, d, of the same in YV24, e, of 8x4 in YV12, and g, of luma alone and one frame.
+REFUSALS = [
+    ("c.Trim(5, 0)", "BadRange"),
+    ("c.Trim(-1, 0)", "BadRange"),
+    ("c.Trim(3, 2)", "BadRange"),
+    ("c.Trim(0, length=-1)", "BadRange"),
+    ("c.Trim(0, length=0)", "EmptyClip"),
+    ("c.Trim(3, end=2)", "BadRange"),
+    ("c.Trim(1)", "NoMatch"),
+    ("c.Trim(1, 2, 3)", "NoMatch"),
+    ("c.FreezeFrame(2, 1, 0)", "BadRange"),
+    ("c.FreezeFrame(-1, 1, 0)", "BadRange"),
+    ("c.FreezeFrame(0, 1, 5)", "BadRange"),
+    ("g.SelectOdd", "EmptyClip"),
+    ("c.SelectEvery(0, 1)", "BadRange"),
+    ("c.SelectEvery(2, -1)", "BadRange"),
+    ("c.SelectEvery(2, 5)", "EmptyClip"),
+    ("c.SelectEvery(2)", "NoMatch"),
+    ("Interleave(c)", "NoMatch"),
+    ("Interleave(c, d)", "FormatDiffers"),
+    ("Interleave(c, e)", "SizeDiffers"),
+    ("Interleave(c, e, d)", "FormatDiffers"),
+    ("UnalignedSplice(c, d)", "FormatDiffers"),
+    ("AlignedSplice(c, e)", "SizeDiffers"),
+    ("c.Loop(-1)", "BadRange"),
+    ("c.Loop(1, 3, 2)", "BadRange"),
+    ("c.Loop(1, 0, 5)", "BadRange"),
+    ("c.Loop(0)", "EmptyClip"),
+    ("c.Loop(1000000)", "LengthLimit"),
+    ("c.DuplicateFrame(5)", "BadRange"),
+    ("c.DuplicateFrame", "NoMatch"),
+    ("c.DeleteFrame(-1)", "BadRange"),
+    ("c.DeleteFrame(0, 1, 2, 3, 4)", "EmptyClip"),
+    ("c.AssumeFPS(0)", "BadRange"),
+    ("c.AssumeFPS(1, 0)", "BadRange"),
+    ("c.AssumeFPS(2147483647).SelectEvery(1, 0, 0, 0)", "RateLimit"),
+    ("c.ChangeFPS(0)", "BadRange"),
+    ("c.ChangeFPS(2147483647)", "LengthLimit"),
+    ("c.Crop(-2, 0, 2, 2)", "BadRange"),
+    ("c.Crop(0, 0, 8, 2)", "OutOfPicture"),
+    ("c.Crop(6, 0, 0, 0)", "OutOfPicture"),
+    ("c.Crop(1, 0, 2, 2)", "NotWholeChroma"),
+    ("c.CropBottom(-1)", "BadRange"),
+    ("c.CropBottom(4)", "OutOfPicture"),
+    ("c.CropBottom(1)", "NotWholeChroma"),
+    ("c.AddBorders(-1, 0, 0, 0)", "BadRange"),
+    ("c.AddBorders(0, 0, 0, 0, $1000000)", "BadRange"),
+    ("c.AddBorders(1, 0, 1, 0)", "NotWholeChroma"),
+    ("c.AddBorders(65532, 0, 0, 0)", "TooLarge"),
+    ("c.LetterBox(-1, 0)", "BadRange"),
+    ("c.LetterBox(2, 4)", "OutOfPicture"),
+    ("c.LetterBox(0, 0, 4, 4)", "OutOfPicture"),
+    ("c.LetterBox(1, 0)", "NotWholeChroma"),
+    ("f.TurnLeft", "TurnFormat"),
+    ("f.TurnRight", "TurnFormat"),
+    ('c.Invert("YX")', "BadText"),
+    ("c.Limiter(-1)", "BadRange"),
+    ("c.Limiter(0, 256)", "BadRange"),
+    ("c.Limiter(200, 100)", "BadRange"),
+    ("c.Limiter(min_chroma=241)", "BadRange"),
+    ("g.UToY8", "NeedsChroma"),
+    ("g.VToY8", "NeedsChroma"),
+    ("StackHorizontal(c, d)", "FormatDiffers"),
+    ("StackHorizontal(c, c.CropBottom(2))", "SizeDiffers"),
+    ("StackVertical(c, e)", "SizeDiffers"),
+    ("StackVertical(c)", "NoMatch"),
+    ("Merge(c, d)", "FormatDiffers"),
+    ("MergeLuma(c, e)", "SizeDiffers"),
+    ("MergeChroma(c, g)", "FormatDiffers"),
+    ("YToUV(g, c, c)", "SizeDiffers"),
+    ("YToUV(g, g, c)", "SizeDiffers"),
+    ("BlankClip(length=-1)", "BadRange"),
+    ("BlankClip(width=0)", "BadRange"),
+    ('BlankClip(pixel_type="YV13")', "BadText"),
+    ("BlankClip(width=3)", "NotWholeChroma"),
+    ("BlankClip(c, length=0)", "EmptyClip"),
+]
+
+
+def run(folder, script):
+    with open(os.path.join(folder, "s.avs"), "w", encoding="utf-8") as file:
+        file.write(script)
+    return subprocess.run([PROGRAM, "render", "s.avs"], cwd=folder, capture_output=True, timeout=60, check=False)
+
+
+def put(folder, **clips):
+    for name, clip in clips.items():
+        with open(os.path.join(folder, f"{name}.y4m"), "wb") as file:
+            file.write(clip.stream())
+    return "".join(f'{name} = Y4MSource("{name}.y4m")\n' for name in clips)
+
+
+class Report:
+    def __init__(self):
+        self.runs, self.wrong = 0, 0
+
+    def compare(self, what, done, status, out, said):
+        self.runs += 1
+        found = (done.returncode, done.stdout, done.stderr.decode(errors="replace").strip())
+        if found != (status, out, said):
+            self.wrong += 1
+            print(f"{what}: status {found[0]}, {len(found[1])} bytes, {found[2]!r}; wanted {status}, {len(out)} bytes, {said!r}")
+
+
+def main():
+    if "AVSSERVE" not in os.environ:
+        subprocess.run([os.path.join(ROOT, "build")], check=True)
+    dice = random.Random(1)
+    report = Report()
+    with tempfile.TemporaryDirectory() as folder:
+        for kind, sizes in SIZES.items():
+            for width, height in sizes:
+                c, d = at_random(dice, kind, width, height, 5), at_random(dice, kind, width, height, 3)
+                before = put(folder, c=c, d=d)
+                for call, want in [*time_rows(c, d), *space_rows(c), *join_rows(c, d)]:
+                    done = run(folder, f"{before}{call}\n")
+                    report.compare(f"{kind} {width}x{height} {call}", done, 0, want.stream(), "")
+        for (u, v, y), want in plane_rows(dice):
+            done = run(folder, put(folder, u=u, v=v, y=y) + "YToUV(u, v, y)\n")
+            report.compare(f"YToUV to {want.kind}", done, 0, want.stream(), "")
+        c, d = at_random(dice, "YV12", 6, 4, 5), at_random(dice, "YV24", 6, 4, 5)
+        e, f = at_random(dice, "YV12", 8, 4, 5), at_random(dice, "YV16", 2, 2, 1)
+        before = put(folder, c=c, d=d, e=e, f=f, g=at_random(dice, "Y8", 1, 1, 1))
+        for call, kind in REFUSALS:
+            done = run(folder, f"{before}{call}\n")
+            report.compare(call, done, 2, b"", f"script fault: s.avs line 6: {kind}")
+    print(f"filters: {report.runs} runs, {report.wrong} wrong")
+    return 1 if report.wrong else 0
+
+
+if __name__ == "__main__":
+    sys.exit(main())
