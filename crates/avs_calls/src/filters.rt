@@ -67,7 +67,16 @@ fn apply(
         return Err(fault_at(alloc, ScriptKind::NoMatch, here, line));
     };
     let info = machine.info_of(alloc, *first, here, line)?;
-    apply_to(alloc, machine, filter, given, &inputs, info.frames, here, line)
+    apply_to(
+        alloc,
+        machine,
+        filter,
+        given,
+        &inputs,
+        info.frames,
+        here,
+        line,
+    )
 }
 
 /// Applies a filter but `Y4MSource`, whose arguments are bound by the signature of this number.

@@ -194,12 +194,7 @@ fn repeat(values: &[Value], frames: u32) -> TimeOp
 }
 
 /// What a filter but a source does with its arguments, where its first clip has so many frames.
-pub(crate) fn read(
-    alloc: Global,
-    given: &Bound,
-    frames: u32,
-    filter: Filter,
-) -> Result<Op, Unread>
+pub(crate) fn read(alloc: Global, given: &Bound, frames: u32, filter: Filter) -> Result<Op, Unread>
     requires { frames ≤ 1000000 }
     ensures { Reads (a.read given.now.values.items (a.numbers_among given.now.rest.items) frames filter) result }
 {

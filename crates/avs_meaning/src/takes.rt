@@ -177,7 +177,10 @@ fn of_filter(alloc: Global, filter: Filter) -> Result<Vec<Signature>, AllocError
         Filter::SelectEvery => alone(alloc, listed(alloc, 1)?),
         Filter::Loop => alone(alloc, numbered(alloc, 1, &["start", "end"])?),
         Filter::DuplicateFrame | Filter::DeleteFrame => alone(alloc, listed(alloc, 0)?),
-        Filter::AssumeFPS | Filter::ChangeFPS => alone(alloc, numbered(alloc, 1, &["denominator"])?),
+        Filter::AssumeFPS | Filter::ChangeFPS => alone(
+            alloc,
+            numbered(alloc, 1, &["denominator"])?,
+        ),
         Filter::Crop => alone(alloc, crop(alloc)?),
         Filter::CropBottom => alone(alloc, numbered(alloc, 1, &[])?),
         Filter::AddBorders => alone(alloc, numbered(alloc, 4, &["color_yuv"])?),
