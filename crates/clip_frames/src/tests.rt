@@ -7,6 +7,11 @@ ghost use Rattle.clip_term.specs.Terms.{IsSound};
 ghost use Rattle.clip_reference.specs.Ready.{IsFilter};
 ghost use Rattle.clip_frames.specs.Sources.{AreSources, source_infos};
 
+mod clips;
+mod compared;
+mod ops;
+mod terms;
+
 use super::*;
 use clip_check::check;
 use clip_graph::Graph;

@@ -1,0 +1,275 @@
+// The ops that are compared, by the number of their clips.
+ghost use Rattle.std.specs.Prelude.{◌&&◌, IsTrue};
+ghost use Rattle.clip_term.specs.ClipTerm.{act_of};
+ghost use Rattle.clip_term.specs.Terms.{IsSound, time_inputs, time_lists};
+ghost use Rattle.clip_reference.specs.Ready.{IsFilter};
+
+use clip_term::{Channels, JoinOp, Numbers, Op, SpaceOp, TimeOp, TrimBound};
+use std::alloc::{AllocError, Global};
+
+// An op, and its name in failures.
+#[derive(Drop)]
+pub struct Case {
+    pub name: &'static str,
+    pub op: Op,
+}
+
+// Ops that are compared over the same clips.
+#[derive(Clone, Copy)]
+pub enum Group {
+    // Ops of the group Time over one clip.
+    Times,
+    // Ops of the group Space that cut a picture or add to it.
+    Sizes,
+    // The other ops of the group Space.
+    Samples,
+    // Ops over two clips.
+    Pairs,
+    // Ops over three clips.
+    Triples,
+}
+
+impl Group {
+    pub fn cases(self, alloc: Global) -> Result<Vec<Case>, AllocError> {
+        match self {
+            Group::Times => time_cases(alloc),
+            Group::Sizes => size_cases(alloc),
+            Group::Samples => sample_cases(alloc),
+            Group::Pairs => pair_cases(alloc),
+            Group::Triples => triple_cases(alloc),
+        }
+    }
+
+    // The number of clips of each op.
+    pub fn clips(self) -> usize {
+        match self {
+            Group::Times | Group::Sizes | Group::Samples => 1,
+            Group::Pairs => 2,
+            Group::Triples => 3,
+        }
+    }
+}
+
+fn time(name: &'static str, op: TimeOp) -> Case {
+    Case {
+        name,
+        op: Op::Time(op),
+    }
+}
+
+fn space(name: &'static str, op: SpaceOp) -> Case {
+    Case {
+        name,
+        op: Op::Space(op),
+    }
+}
+
+fn join(name: &'static str, op: JoinOp) -> Case {
+    Case {
+        name,
+        op: Op::Join(op),
+    }
+}
+
+fn time_takes(op: &TimeOp, count: usize) -> bool
+    ensures { IsTrue result → IsTrue (time_inputs op.now count && time_lists op.now) }
+{
+    match op {
+        TimeOp::Interleave | TimeOp::UnalignedSplice | TimeOp::AlignedSplice => count >= 2,
+        TimeOp::ApplyRange { .. } => count == 2,
+        TimeOp::SelectEvery { offsets, .. } => count == 1 && !offsets.as_slice().is_empty(),
+        TimeOp::DuplicateFrame { frames } | TimeOp::DeleteFrame { frames } => count == 1
+            && !frames.as_slice().is_empty(),
+        _ => count == 1,
+    }
+}
+
+// Whether the op is of the groups Time, Space and Join, and is for so many clips.
+pub fn takes(op: &Op, count: usize) -> bool
+    ensures filter { IsTrue result → IsFilter (act_of op.now) }
+    ensures sound { IsTrue result → IsSound (act_of op.now) count }
+{
+    match op {
+        Op::Time(op) => time_takes(op, count),
+        Op::Space(_) => count == 1,
+        Op::Join(JoinOp::StackHorizontal | JoinOp::StackVertical) => count >= 2,
+        Op::Join(JoinOp::YToUV) => count == 3,
+        Op::Join(_) => count == 2,
+        Op::Source { .. } | Op::Blank { .. } | Op::Soft(_) => false,
+    }
+}
+
+fn numbers(alloc: Global, list: &[i32]) -> Result<Numbers, AllocError> {
+    let mut numbers = Numbers::new(alloc);
+    for number in list {
+        numbers.push(*number)?;
+    }
+    Ok(numbers)
+}
+
+fn trim(name: &'static str, first: i32, bound: TrimBound) -> Case {
+    time(name, TimeOp::Trim { first, bound })
+}
+
+fn change(name: &'static str, num: i32, denominator: i32) -> Case {
+    time(name, TimeOp::ChangeFPS { num, denominator })
+}
+
+// The clip has seven frames, and 25 a second.
+fn time_cases(alloc: Global) -> Result<Vec<Case>, AllocError> {
+    let freeze = TimeOp::FreezeFrame {
+        first: 1,
+        last: 3,
+        source: 5,
+    };
+    let every = TimeOp::SelectEvery {
+        step: 3,
+        offsets: numbers(alloc, &[2, 0, 4])?,
+    };
+    let again = TimeOp::Loop {
+        times: 3,
+        start: 2,
+        end: 4,
+    };
+    let twice = TimeOp::DuplicateFrame {
+        frames: numbers(alloc, &[5, 1, 5])?,
+    };
+    let without = TimeOp::DeleteFrame {
+        frames: numbers(alloc, &[0, 4])?,
+    };
+    let assumed = TimeOp::AssumeFPS {
+        num: 30_000,
+        denominator: 1_001,
+    };
+    Ok(vec![in alloc;
+        trim("Trim(2, 5)", 2, TrimBound::Last(5)),
+        trim("Trim(3, 0)", 3, TrimBound::Last(0)),
+        trim("Trim(1, -3)", 1, TrimBound::Last(-3)),
+        trim("Trim(1, length=4)", 1, TrimBound::Length(4)),
+        trim("Trim(3, end=4)", 3, TrimBound::End(4)),
+        time("Reverse", TimeOp::Reverse),
+        time("FreezeFrame(1, 3, 5)", freeze),
+        time("SelectEven", TimeOp::SelectEven),
+        time("SelectOdd", TimeOp::SelectOdd),
+        time("SelectEvery(3, 2, 0, 4)", every),
+        time("Loop(3, 2, 4)", again),
+        time("DuplicateFrame(5, 1, 5)", twice),
+        time("DeleteFrame(0, 4)", without),
+        time("AssumeFPS(30000, 1001)", assumed),
+        change("ChangeFPS(60, 1)", 60, 1),
+        change("ChangeFPS(10, 1)", 10, 1),
+    ]?)
+}
+
+fn crop(name: &'static str, left: i32, top: i32, width: i32, height: i32) -> Case {
+    space(
+        name,
+        SpaceOp::Crop {
+            left,
+            top,
+            width,
+            height,
+        },
+    )
+}
+
+fn borders(name: &'static str, left: i32, top: i32, right: i32, bottom: i32) -> Case {
+    space(
+        name,
+        SpaceOp::AddBorders {
+            left,
+            top,
+            right,
+            bottom,
+            color_yuv: 0x1A_2B_3C,
+        },
+    )
+}
+
+fn letter_box(name: &'static str, top: i32, bottom: i32, x1: i32, x2: i32) -> Case {
+    space(
+        name,
+        SpaceOp::LetterBox {
+            top,
+            bottom,
+            x1,
+            x2,
+            color_yuv: 0x1A_2B_3C,
+        },
+    )
+}
+
+fn invert(name: &'static str, y: bool, u: bool, v: bool) -> Case {
+    space(
+        name,
+        SpaceOp::Invert {
+            channels: Channels { y, u, v },
+        },
+    )
+}
+
+// The sizes are whole chroma samples of one format or the other.
+fn size_cases(alloc: Global) -> Result<Vec<Case>, AllocError> {
+    Ok(vec![in alloc;
+        crop("Crop(1, 1, -1, 0)", 1, 1, -1, 0),
+        crop("Crop(2, 2, -2, 0)", 2, 2, -2, 0),
+        crop("Crop(4, 1, -4, -1)", 4, 1, -4, -1),
+        crop("Crop(0, 0, 4, 1)", 0, 0, 4, 1),
+        space("CropBottom(1)", SpaceOp::CropBottom { n: 1 }),
+        space("CropBottom(2)", SpaceOp::CropBottom { n: 2 }),
+        borders("AddBorders(1, 2, 3, 4)", 1, 2, 3, 4),
+        borders("AddBorders(4, 2, 8, 6)", 4, 2, 8, 6),
+        letter_box("LetterBox(1, 2, 1, 0)", 1, 2, 1, 0),
+        letter_box("LetterBox(2, 0, 2, 0)", 2, 0, 2, 0),
+        letter_box("LetterBox(0, 0, 4, 4)", 0, 0, 4, 4),
+    ]?)
+}
+
+fn sample_cases(alloc: Global) -> Result<Vec<Case>, AllocError> {
+    let limits = SpaceOp::Limiter {
+        min_luma: 100,
+        max_luma: 150,
+        min_chroma: 120,
+        max_chroma: 130,
+    };
+    Ok(vec![in alloc;
+        space("FlipHorizontal", SpaceOp::FlipHorizontal),
+        space("FlipVertical", SpaceOp::FlipVertical),
+        space("Turn180", SpaceOp::Turn180),
+        space("TurnLeft", SpaceOp::TurnLeft),
+        space("TurnRight", SpaceOp::TurnRight),
+        space("Greyscale", SpaceOp::Greyscale),
+        invert("Invert(Y)", true, false, false),
+        invert("Invert(U)", false, true, false),
+        invert("Invert(YV)", true, false, true),
+        space("Limiter(100, 150, 120, 130)", limits),
+        space("SwapUV", SpaceOp::SwapUV),
+        space("UToY8", SpaceOp::UToY8),
+        space("VToY8", SpaceOp::VToY8),
+        space("ConvertToY8", SpaceOp::ConvertToY8),
+    ]?)
+}
+
+fn pair_cases(alloc: Global) -> Result<Vec<Case>, AllocError> {
+    Ok(vec![in alloc;
+        time("Interleave", TimeOp::Interleave),
+        time("UnalignedSplice", TimeOp::UnalignedSplice),
+        time("AlignedSplice", TimeOp::AlignedSplice),
+        join("StackHorizontal", JoinOp::StackHorizontal),
+        join("StackVertical", JoinOp::StackVertical),
+        join("Merge", JoinOp::Merge),
+        join("MergeLuma", JoinOp::MergeLuma),
+        join("MergeChroma", JoinOp::MergeChroma),
+    ]?)
+}
+
+fn triple_cases(alloc: Global) -> Result<Vec<Case>, AllocError> {
+    Ok(vec![in alloc;
+        time("Interleave", TimeOp::Interleave),
+        time("UnalignedSplice", TimeOp::UnalignedSplice),
+        time("AlignedSplice", TimeOp::AlignedSplice),
+        join("StackHorizontal", JoinOp::StackHorizontal),
+        join("StackVertical", JoinOp::StackVertical),
+        join("YToUV", JoinOp::YToUV),
+    ]?)
+}
