@@ -1,11 +1,21 @@
 -- Planes turned on their side.
-use Rattle.std.proofs.Common.{◌≡◌, ℕ, None, refl}
+use Rattle.std.proofs.Common.{◌≡◌, ◌≢◌, ◌∙◌, ℕ, ◌+◌, ◌*◌, ◌/◌, ◌%◌, ◌<◌, ◌≤◌, None, refl, sym, ap, arith, List, [], zero, suc, length, map, take, drop, get_or, set, length-take-le, length-drop, get_or-take, get_or-set_other, get_or-set_same, length-set, ⊎_elim}
+use Rattle.std.proofs.lemmas.Nat.{div-mul-add, mod-mul-add}
+use Rattle.std.proofs.Math.Nat.{suc-mul}
+use Rattle.std.proofs.lemmas.List.{drop-drop, get_or-drop}
+use Rattle.std.proofs.lemmas.Bool.{cases_lt}
 use Rattle.fv_plane.specs.declared.format.PixelType.{PixelType}
 use Rattle.fv_plane.specs.declared.format.PixelType.TheVariants.{Y8, YV12, YV16, YV24, YV411}
 use Rattle.fv_plane.specs.Format.{plane_width, plane_height}
+use Rattle.fv_plane.specs.Bytes.{row_of_bytes, rows_of_bytes}
+use Rattle.fv_plane.specs.declared.format.Shape.{Shape}
+use Rattle.fv_plane.specs.Look.{Look, row_from}
 use Rattle.fv_plane.specs.Refusals.{first_fault}
+use Rattle.fv_plane.specs.Rows.{rows_of}
+use Rattle.fv_plane.proofs.FillLemmas.{row_listed}
 use Rattle.clip_term.specs.declared.op.SpaceOp.TheVariants.{TurnLeft}
 use Rattle.clip_term.specs.Space.{space_refusals}
+use Rattle.flt_space.specs.Rows.{HasRows}
 
 -- the planes of a picture that may be turned have the same sides, exchanged
 pub turned_width : (kind : PixelType) (w h p : ℕ) → first_fault (space_refusals TurnLeft (record { kind = kind; width = w; height = h })) ≡ None
@@ -23,3 +33,69 @@ turned_height YV12 w h p told = refl
 turned_height YV24 w h p told = refl
 turned_height YV16 w h p told = cc
 turned_height YV411 w h p told = cc
+
+-- ---- places of columns in rows that lie side by side
+
+same_row : (y z w a b : ℕ) → a < w → b < w → y * w + a ≡ z * w + b → y ≡ z
+same_row y z w a b h g e = sym (div-mul-add y w a h) ∙ ap (λ n. n / w) e ∙ div-mul-add z w b g
+
+same_column : (y z w a b : ℕ) → a < w → b < w → y * w + a ≡ z * w + b → a ≡ b
+same_column y z w a b h g e = sym (mod-mul-add y w a h) ∙ ap (λ n. n % w) e ∙ mod-mul-add z w b g
+
+-- one more sample of column x is put
+pub turn_step : (out : List ℕ) (want : ℕ → ℕ → ℕ) (count h x y p v size : ℕ) → length out ≡ size → y < count → x < h → p ≡ y * h + x → p < length out → v ≡ want y x
+    → ((b a : ℕ) → b < count → a < x → get_or out (b * h + a) 0 ≡ want b a)
+    → ((b : ℕ) → b < y → get_or out (b * h + x) 0 ≡ want b x)
+    → (length (set out p v) ≡ size)
+    × ((b a : ℕ) → b < count → a < x → get_or (set out p v) (b * h + a) 0 ≡ want b a)
+    × ((b : ℕ) → b < y + 1 → get_or (set out p v) (b * h + x) 0 ≡ want b x)
+turn_step out want count h x y p v size long ly lx is inside value before here = (
+  length-set out p v ∙ long,
+  λ b a lb la.
+      let below : a < h = omega arith in
+      let ne : b * h + a ≢ p = (λ e. let same : a ≡ x = same_column b y h a x below lx (e ∙ is) in omega arith) in
+      get_or-set_other out p (b * h + a) v 0 ne ∙ before b a lb la,
+  λ b lb.
+      ⊎_elim
+      (λ (l : b < y).
+      let ne : b * h + x ≢ p = (λ e. let same : b ≡ y = same_row b y h x x lx lx (e ∙ is) in omega arith) in
+      get_or-set_other out p (b * h + x) v 0 ne ∙ here b l)
+      (λ (l : y ≤ b).
+      let same : b ≡ y = omega arith in
+      ap (λ n. get_or (set out p v) (n * h + x) 0) same ∙ ap (λ n. get_or (set out p v) n 0) (sym is)
+      ∙ get_or-set_same out p v 0 inside ∙ value ∙ ap (λ n. want n x) (sym same))
+      (cases_lt b y),
+)
+
+-- a row of those that lie side by side
+decoded_at : (shape : Shape) (bytes : List ℕ) (w n k : ℕ) → k < n → get_or (map (row_of_bytes shape) (rows_of bytes w w n)) k [] ≡ take w (drop (k * w) bytes)
+unfolding row_of_bytes
+decoded_at shape bytes w zero k less = absurd (omega arith)
+decoded_at shape bytes w (suc n) zero less = let none : 0 ≡ 0 * w = omega arith in ap (λ m. take w (drop m bytes)) none
+decoded_at shape bytes w (suc n) (suc k) less =
+    let next : w + k * w ≡ suc k * w = omega (arith, suc-mul k w) in
+    decoded_at shape (drop w bytes) w n k (omega (arith, less)) ∙ ap (take w) (drop-drop (k * w) w bytes ∙ ap (λ m. drop m bytes) next)
+
+fits_in : (w n k x : ℕ) → k < n → x < w → k * w + x < n * w
+fits_in w zero k x less within = absurd (omega (arith, less))
+fits_in w (suc n) zero x less within = omega (arith, within, suc-mul n w)
+fits_in w (suc n) (suc k) x less within =
+    let below : k * w + x < n * w = fits_in w n k x (omega (arith, less)) within in omega (arith, below, suc-mul n w, suc-mul k w)
+
+row_length : (bytes : List ℕ) (w n k : ℕ) → length bytes ≡ n * w → k < n → length (take w (drop (k * w) bytes)) ≡ w
+row_length bytes zero n k long less = refl
+row_length bytes (suc w) n k long less =
+    let last : k * suc w + w < n * suc w = fits_in (suc w) n k w less (omega arith) in
+    length-take-le (suc w) (drop (k * suc w) bytes) (omega (arith, last, long, length-drop (k * suc w) bytes))
+
+-- the rows that were made are those that are listed
+pub rows_are : (shape : Shape) (at : Look) (p y n w h k : ℕ) (bytes : List ℕ) → w ≡ h → length bytes ≡ n * h → HasRows at p y n h bytes → k < n
+    → get_or (map (row_of_bytes shape) (rows_of bytes w w n)) k [] ≡ row_from at p h (y + k)
+rows_are shape at p y n w h k bytes same long has less =
+    ap (λ v. get_or (map (row_of_bytes shape) (rows_of bytes v v n)) k []) same ∙ decoded_at shape bytes h n k less
+    ∙ row_listed (take h (drop (k * h) bytes)) at p h (y + k) (row_length bytes h n k long less)
+    (λ x within. get_or-take h (drop (k * h) bytes) x 0 within ∙ get_or-drop (k * h) bytes x 0 ∙ has k x less within)
+
+pub rows_count : (shape : Shape) (w n : ℕ) (bytes : List ℕ) → length (map (row_of_bytes shape) (rows_of bytes w w n)) ≡ n
+rows_count shape w zero bytes = refl
+rows_count shape w (suc n) bytes = ap suc (rows_count shape w n (drop w bytes))

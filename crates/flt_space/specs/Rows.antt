@@ -1,6 +1,7 @@
 -- The rows that makers put.
-use Rattle.std.specs.Prelude.{ℕ, ◌-◌, List, ◌++◌, length, replicate, take, drop}
+use Rattle.std.specs.Prelude.{◌≡◌, ℕ, ◌+◌, ◌*◌, ◌-◌, ◌<◌, List, ◌++◌, length, replicate, take, drop, slice_index}
 use Rattle.fv_plane.specs.Format.{plane_height}
+use Rattle.fv_plane.specs.Look.{Look}
 use Rattle.fv_plane.specs.Picture.{Picture, row_of}
 
 -- by plane and place
@@ -14,3 +15,8 @@ padded before value row width = replicate before value ++ (row ++ replicate (wid
 -- a row whose first and last samples are of one value
 abbrev pub covered : ℕ → ℕ → ℕ → List ℕ → List ℕ
 covered left right value row = padded left value (take (length row - right - left) (drop left row)) (length row)
+
+-- rows of this width that lie side by side, from row y on
+abbrev pub HasRows : Look → ℕ → ℕ → ℕ → ℕ → List ℕ → Type 0
+HasRows at p y count width rows =
+    (k x : ℕ) → k < count → x < width → slice_index rows (k * width + x) ≡ at p x (y + k)

@@ -1,0 +1,49 @@
+use Rattle.std.proofs.Common.{rules, ◌≡◌, ◌∙◌, ◌<◌, ◌+◌, ◌*◌, arith, ap, sym, refl, length, get_or}
+use Rattle.fv_plane.specs.declared.format.Shape.{Shape}
+use Rattle.fv_plane.specs.Bytes.{rows_of_bytes}
+use Rattle.fv_plane.specs.Format.{planes, plane_width, plane_height, row_bytes}
+use Rattle.fv_plane.specs.Look.{look_in, row_from}
+use Rattle.fv_plane.proofs.FillLemmas.{filled_plane, filled_done}
+use Rattle.fv_plane.proofs.WholePlaneLemmas.{rows_listed, filled_rows}
+use Rattle.clip_term.specs.declared.op.SpaceOp.TheVariants.{TurnLeft}
+use Rattle.clip_term.specs.Space.{space_at, space_shape}
+use Rattle.flt_space.proofs.TurnLemmas.{turned_width, rows_are, rows_count}
+use Rattle.flt_space.proofs.turn.make_turned.Goals as goal
+
+pub loop-y-preserved : goal.loop-y-preserved
+loop-y-preserved g c =
+    let input = c.args.input.now in
+    let shape = c.on_side-shape.result in
+    let plane = c.loop-plane.plane in
+    let high = plane_height input.shape plane in
+    let at = space_at g.T.Turn.op input.shape (look_in input) in
+    let bytes = c.deref.result.now in
+    let made = c.loop-y.made in
+    let is : shape ≡ space_shape TurnLeft input.shape = c.on_side-shape.ensures ∙ ap (space_shape TurnLeft) c.shape.ensures.shape in
+    let wide : plane_width shape plane ≡ high
+    = ap (λ (s : Shape). plane_width s plane) is ∙ turned_width input.shape.kind input.shape.width input.shape.height plane c.requires.accepted in
+    let stored : row_bytes made.shape plane ≡ high = omega (arith, wide, ap (λ (s : Shape). plane_width s plane) c.loop-y.invariant.1.same) in
+    let long : length bytes ≡ c.min-count.result * high = ap length c.deref.ensures.value ∙ c.in_ok-rows.ensures.long in (
+      search rules,
+      filled_rows (rows_listed shape at) shape made c.put_rows.new.self plane c.loop-y.y c.min-count.result (rows_of_bytes made.shape plane c.min-count.result bytes)
+          c.loop-y.invariant.1 c.put_rows.ensures.sizes c.put_rows.ensures.shape c.put_rows.ensures.rows
+          (rows_count made.shape (row_bytes made.shape plane) c.min-count.result bytes)
+          (λ z less.
+          rows_are made.shape at plane c.loop-y.y c.min-count.result (row_bytes made.shape plane) high z bytes stored long
+          (λ k x few within. ap (λ l. get_or l (k * high + x) 0) c.deref.ensures.value ∙ c.in_ok-rows.ensures.rows k x few within) less
+          ∙ ap (λ w. row_from at plane w (c.loop-y.y + z)) (sym wide))
+          (search rules) (search rules),
+    )
+
+pub loop-plane-preserved : goal.loop-plane-preserved
+loop-plane-preserved g c =
+    filled_plane (rows_listed c.on_side-shape.result (space_at g.T.Turn.op c.args.input.now.shape (look_in c.args.input.now))) c.on_side-shape.result c.loop-y.made c.loop-plane.plane c.loop-y.y
+    (search rules) c.loop-y.invariant.1
+
+pub returns : goal.returns
+returns g c =
+    let input = c.args.input.now in
+    let shape = c.on_side-shape.result in
+    let at = space_at g.T.Turn.op input.shape (look_in input) in
+    let is : shape ≡ space_shape TurnLeft input.shape = c.on_side-shape.ensures ∙ ap (space_shape TurnLeft) c.shape.ensures.shape in
+    rw (← (is ∙ sym c.requires.side), ← filled_done (rows_listed shape at) shape c.loop-plane.made at c.loop-plane.plane 0 (search rules) (search rules) (search rules) (λ p z there inside. refl)) c.finish.ensures
