@@ -1,0 +1,5 @@
+pub mod Changes
+pub mod Held
+pub mod Lending
+pub mod Lent
+pub mod Places
