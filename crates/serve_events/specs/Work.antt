@@ -1,0 +1,62 @@
+-- The events that a worker may make, whole or cut short by a stop.
+use Rattle.std.specs.Prelude.{◌≡◌, ℕ, ◌<◌, List, [], ◌∷◌, ◌++◌, Option, length}
+use Rattle.std.specs.List.{range_with_len}
+use Rattle.fv_plane.specs.declared.key.Key.{Key}
+use Rattle.clip_graph.specs.Plan.{Application, IsPlan}
+use Rattle.clip_graph.specs.Unfolding.{input_keys}
+use Rattle.serve_events.specs.declared.event.Event.{Event}
+use Rattle.serve_events.specs.declared.event.Event.TheVariants.{Hit, Claim, Publish, Abandon, Take, Deliver, Fail}
+use Rattle.serve_events.specs.declared.event.Stop.{Stop}
+use Rattle.serve_events.specs.Keys.{frame_key}
+use Rattle.serve_events.specs.SerialRun.{eviction, leases, serial_production, serial_window}
+
+-- a key is produced: a hit, or a claim, the productions of its inputs, its instance and its publication
+mutual
+  pub data Production (plan : List Application) (w : ℕ) : Key → List Event → Type 0 where
+    hit : {k : Key} → Production plan w k (Hit w k ∷ [])
+    made : {k : Key} {es : List Event} (gone : Option Key) → Productions plan w (input_keys plan k) es
+        → Production plan w k (Claim w k ∷ (es ++ (leases plan w k.node ++ (eviction w gone ++ Publish w k ∷ []))))
+
+  pub data Productions (plan : List Application) (w : ℕ) : List Key → List Event → Type 0 where
+    done : Productions plan w [] []
+    more : {k : Key} {ks : List Key} {es fs : List Event} → Production plan w k es → Productions plan w ks fs
+        → Productions plan w (k ∷ ks) (es ++ fs)
+
+-- a production that a stop cut short, with the events that close it
+mutual
+  pub data CutShort (plan : List Application) (w : ℕ) : Key → List Event → Type 0 where
+    refused : {k : Key} → CutShort plan w k []
+    inside : {k : Key} {es : List Event} → CutInputs plan w (input_keys plan k) es
+        → CutShort plan w k (Claim w k ∷ (es ++ Abandon w k ∷ []))
+    leased : {k : Key} {es : List Event} → Productions plan w (input_keys plan k) es
+        → CutShort plan w k (Claim w k ∷ (es ++ (leases plan w k.node ++ Abandon w k ∷ [])))
+
+  -- some of these keys were produced, and perhaps the next was cut short
+  pub data CutInputs (plan : List Application) (w : ℕ) : List Key → List Event → Type 0 where
+    between : {ks all : List Key} {es : List Event} (js : List Key) → all ≡ ks ++ js → Productions plan w ks es
+        → CutInputs plan w all es
+    within : {ks all : List Key} {j : Key} {es fs : List Event} (js : List Key) → all ≡ ks ++ j ∷ js
+        → Productions plan w ks es → CutShort plan w j fs → CutInputs plan w all (es ++ fs)
+
+-- outputs one after the other, each taken, produced and delivered
+pub data Deliveries (plan : List Application) (root w : ℕ) : List ℕ → List Event → Type 0 where
+  none : Deliveries plan root w [] []
+  also : {n : ℕ} {ns : List ℕ} {es fs : List Event} → Production plan w (frame_key root n) es
+      → Deliveries plan root w ns fs → Deliveries plan root w (n ∷ ns) ((Take w n ∷ (es ++ Deliver w n ∷ [])) ++ fs)
+
+-- outputs, and perhaps one more that was taken and cut short
+pub data CutDeliveries (plan : List Application) (root w : ℕ) : List Event → Type 0 where
+  untaken : {ns : List ℕ} {es : List Event} → Deliveries plan root w ns es → CutDeliveries plan root w es
+  taken : {ns : List ℕ} {es fs : List Event} {n : ℕ} → Deliveries plan root w ns es → CutShort plan w (frame_key root n) fs
+      → CutDeliveries plan root w (es ++ Take w n ∷ fs)
+
+-- the events of a worker that failed end with its failure; one that another's stop cut short has no such event
+pub data CutWork (plan : List Application) (root w : ℕ) : List Event → Type 0 where
+  failed : {es : List Event} (why : Stop) → CutDeliveries plan root w es → CutWork plan root w (es ++ Fail w why ∷ [])
+
+-- what one worker alone makes of a key, and of a window, is whole
+pub record SerialIsWhole : Type 0 where
+  pub key : (plan : List Application) (capacity : ℕ) (keys : List Key) (k : Key) → IsPlan plan → k.node < length plan
+      → Production plan 0 k (serial_production plan capacity keys k).events
+  pub window : (plan : List Application) (root capacity : ℕ) (keys : List Key) (first count : ℕ) → IsPlan plan → root < length plan
+      → Deliveries plan root 0 (range_with_len first count) (serial_window plan root capacity keys first count).events

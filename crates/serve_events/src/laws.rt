@@ -1,0 +1,24 @@
+// Laws of the definitions, each the contract of a function with an empty body.
+ghost use Rattle.std.specs.Prelude.{◌≡◌, []};
+ghost use Rattle.serve_events.specs.Examples.{trimmed, in_a_large_cache, in_a_cache_of_one};
+ghost use Rattle.serve_events.specs.Own.{IsOwn};
+ghost use Rattle.serve_events.specs.SerialRun.{serial_window};
+ghost use Rattle.serve_events.specs.Work.{SerialIsWhole};
+
+/// The events that one worker alone makes are whole work.
+#[tactic(auto, using(crate::proofs::SerialLemmas::serial_is_whole))]
+pub fn serial_is_whole()
+    ensures { SerialIsWhole }
+{}
+
+/// What a worker has shows in its own events, whatever others do between them.
+#[tactic(auto, using(crate::proofs::OwnLemmas::is_own))]
+pub fn own_events_show()
+    ensures { IsOwn }
+{}
+
+/// The window of output 0 of `Trim(2, 0)` over a source, in a cache of 64 frames and in a cache of one.
+pub fn examples()
+    ensures large { (serial_window trimmed 1 64 [] 0 1).events ≡ in_a_large_cache }
+    ensures one { (serial_window trimmed 1 1 [] 0 1).events ≡ in_a_cache_of_one }
+{}
