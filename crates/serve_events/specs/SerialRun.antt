@@ -38,7 +38,9 @@ each_produced produce keys (k ∷ ks) =
 -- a key is made after its inputs
 abbrev pub made_after : Serial → List Application → ℕ → Key → Serial
 made_after inputs plan capacity k = record {
-  events = Claim 0 k ∷ (inputs.events ++ (leases plan 0 k.node ++ (eviction_from 0 capacity inputs.keys ++ Publish 0 k ∷ [])));
+  events =
+      Claim 0 k
+      ∷ (inputs.events ++ (leases plan 0 k.node ++ (eviction_from 0 capacity inputs.keys ++ Publish 0 k ∷ [])));
   keys = k ∷ take (capacity - 1) inputs.keys;
 }
 
@@ -47,10 +49,11 @@ abbrev pub serial_production_within : ℕ → List Application → ℕ → List 
 serial_production_within zero plan capacity keys k = record { events = []; keys = keys }
 serial_production_within (suc most) plan capacity keys k =
     if has k keys then record { events = Hit 0 k ∷ []; keys = k ∷ without k keys }
-    else made_after (each_produced (serial_production_within most plan capacity) keys (input_keys plan k)) plan capacity k
+    else
+    made_after (each_produced (serial_production_within most plan capacity) keys (input_keys plan k)) plan capacity k
 
--- a key that is cached is a hit, and another is made: as inputs are of earlier nodes, there are no more filters than nodes
--- up to its own
+-- a key that is cached is a hit, and another is made: as inputs are of earlier nodes, there are no more filters than
+-- nodes up to its own
 abbrev pub serial_production : List Application → ℕ → List Key → Key → Serial
 serial_production plan capacity keys k = serial_production_within (suc k.node) plan capacity keys k
 

@@ -47,8 +47,8 @@ pub data Deliveries (plan : List Application) (root w : ℕ) : List ℕ → List
 -- outputs, and perhaps one more that was taken and cut short
 pub data CutDeliveries (plan : List Application) (root w : ℕ) : List Event → Type 0 where
   untaken : {ns : List ℕ} {es : List Event} → Deliveries plan root w ns es → CutDeliveries plan root w es
-  taken : {ns : List ℕ} {es fs : List Event} {n : ℕ} → Deliveries plan root w ns es → CutShort plan w (frame_key root n) fs
-      → CutDeliveries plan root w (es ++ Take w n ∷ fs)
+  taken : {ns : List ℕ} {es fs : List Event} {n : ℕ} → Deliveries plan root w ns es
+      → CutShort plan w (frame_key root n) fs → CutDeliveries plan root w (es ++ Take w n ∷ fs)
 
 -- the events of a worker that failed end with its failure; one that another's stop cut short has no such event
 pub data CutWork (plan : List Application) (root w : ℕ) : List Event → Type 0 where
@@ -58,5 +58,6 @@ pub data CutWork (plan : List Application) (root w : ℕ) : List Event → Type 
 pub record SerialIsWhole : Type 0 where
   pub key : (plan : List Application) (capacity : ℕ) (keys : List Key) (k : Key) → IsPlan plan → k.node < length plan
       → Production plan 0 k (serial_production plan capacity keys k).events
-  pub window : (plan : List Application) (root capacity : ℕ) (keys : List Key) (first count : ℕ) → IsPlan plan → root < length plan
+  pub window : (plan : List Application) (root capacity : ℕ) (keys : List Key) (first count : ℕ)
+      → IsPlan plan → root < length plan
       → Deliveries plan root 0 (range_with_len first count) (serial_window plan root capacity keys first count).events

@@ -2,8 +2,8 @@
 ghost use Rattle.std.specs.Prelude.{◌≡◌};
 ghost use Rattle.serve_events.specs.Keys.{instance_in};
 
-/// The number of the instance that a worker uses at a node of this mode: 0 for MT_SERIALIZED, 3, of which there is one for
-/// all workers, and else the worker's own.
+/// The number of the instance that a worker uses at a node of this mode: 0 in mode 3, MT_SERIALIZED, where one instance
+/// serves all workers, and else the worker's own.
 pub fn instance_for(mode: u8, worker: u32) -> u32
     ensures { result ≡ instance_in mode worker }
 {
