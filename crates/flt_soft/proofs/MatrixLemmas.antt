@@ -1,0 +1,112 @@
+-- Words of a matrix, read one after the other.
+use Rattle.std.proofs.Common.{◌≡◌, ℕ, ◌∙◌, List, [], ◌∷◌, ◌++◌, length, refl, sym, ap, arith, Bool, true, false, cond, not, Option, Some, None, is_some, append-nil}
+use Rattle.std.specs.Prelude.{ℤ, suc, ◌&&◌, ◌||◌, ◌==◌, if◌then◌else◌}
+use Rattle.std.specs.List.{filter, filter_map, list_all, slice_split, cons_option}
+use Rattle.std.proofs.lemmas.Bool.Decides.{nat_tests}
+use Rattle.std.proofs.lemmas.List.Elements.{filter-append, filter_map-append}
+use Rattle.std.proofs.lemmas.List.Folds.{list_all-append}
+use Rattle.clip_term.specs.Texts.{entry_of, is_gap, matrix_named}
+use Rattle.clip_term.proofs.PassedLemmas.{all_at}
+
+-- the words among the parts between gaps
+abbrev pub words : List (List ℕ) → List (List ℕ)
+words parts = filter (λ (word : List ℕ). not (length word == 0)) parts
+
+abbrev are_all : List (List ℕ) → Bool
+are_all texts = list_all (λ (word : List ℕ). is_some (entry_of word)) texts
+
+abbrev pub are_entries : List (List ℕ) → Bool
+are_entries parts = are_all (words parts)
+
+abbrev pub entries_in : List (List ℕ) → List ℤ
+entries_in parts = filter_map entry_of (words parts)
+
+not_empty : (c : ℕ) (cs : List ℕ) → (length (c ∷ cs) == 0) ≡ false
+not_empty c cs = grind (arith, nat_tests)
+
+word_alone : (c : ℕ) (cs : List ℕ) → words ((c ∷ cs) ∷ []) ≡ (c ∷ cs) ∷ []
+word_alone c cs = ap (λ b. cond (not b) ((c ∷ cs) ∷ []) []) (not_empty c cs)
+
+one_entry : (word : List ℕ) (entry : ℤ) → entry_of word ≡ Some entry → entries_in (word ∷ []) ≡ entry ∷ []
+one_entry [] entry e = cc
+one_entry (c ∷ cs) entry e = ap (filter_map entry_of) (word_alone c cs) ∙ ap (λ o. cons_option o []) e
+
+one_is : (word : List ℕ) (entry : ℤ) → entry_of word ≡ Some entry → are_entries (word ∷ []) ≡ true
+one_is [] entry e = refl
+one_is (c ∷ cs) entry e = ap are_all (word_alone c cs) ∙ ap (λ (o : Option ℤ). is_some o && true) e
+
+no_entry : (word : List ℕ) → entry_of word ≡ None → entries_in (word ∷ []) ≡ []
+no_entry [] e = refl
+no_entry (c ∷ cs) e = ap (filter_map entry_of) (word_alone c cs) ∙ ap (λ o. cons_option o []) e
+
+none_is : (word : List ℕ) → entry_of word ≡ None → are_entries (word ∷ []) ≡ (length word == 0)
+none_is [] e = refl
+none_is (c ∷ cs) e = ap are_all (word_alone c cs) ∙ ap (λ (o : Option ℤ). is_some o && true) e ∙ sym (not_empty c cs)
+
+words_more : (parts : List (List ℕ)) (word : List ℕ) → words (parts ++ word ∷ []) ≡ words parts ++ words (word ∷ [])
+words_more parts word = filter-append (λ (w : List ℕ). not (length w == 0)) parts (word ∷ [])
+
+entries_by : (parts : List (List ℕ)) (word : List ℕ) → entries_in (parts ++ word ∷ []) ≡ entries_in parts ++ entries_in (word ∷ [])
+entries_by parts word = ap (filter_map entry_of) (words_more parts word) ∙ filter_map-append entry_of (words parts) (words (word ∷ []))
+
+are_by : (parts : List (List ℕ)) (word : List ℕ) → are_entries (parts ++ word ∷ []) ≡ (are_entries parts && are_entries (word ∷ []))
+are_by parts word = ap are_all (words_more parts word) ∙ list_all-append (λ (w : List ℕ). is_some (entry_of w)) (words parts) (words (word ∷ []))
+
+and_true : (b : Bool) → (b && true) ≡ b
+and_true true = refl
+and_true false = refl
+
+and_false : (b : Bool) → (b && false) ≡ false
+and_false true = refl
+and_false false = refl
+
+-- a word that is an entry
+pub entries_more : (parts : List (List ℕ)) (word : List ℕ) (entry : ℤ) → entry_of word ≡ Some entry → entries_in (parts ++ word ∷ []) ≡ entries_in parts ++ entry ∷ []
+entries_more parts word entry e = entries_by parts word ∙ ap (λ es. entries_in parts ++ es) (one_entry word entry e)
+
+pub are_more : (parts : List (List ℕ)) (word : List ℕ) (entry : ℤ) → entry_of word ≡ Some entry → are_entries (parts ++ word ∷ []) ≡ are_entries parts
+are_more parts word entry e = are_by parts word ∙ ap (λ b. are_entries parts && b) (one_is word entry e) ∙ and_true (are_entries parts)
+
+-- and one that is none
+pub entries_less : (parts : List (List ℕ)) (word : List ℕ) → entry_of word ≡ None → entries_in (parts ++ word ∷ []) ≡ entries_in parts
+entries_less parts word e = entries_by parts word ∙ ap (λ es. entries_in parts ++ es) (no_entry word e) ∙ append-nil (entries_in parts)
+
+pub are_less : (parts : List (List ℕ)) (word : List ℕ) → entry_of word ≡ None → are_entries (parts ++ word ∷ []) ≡ (are_entries parts && (length word == 0))
+are_less parts word e = are_by parts word ∙ ap (λ b. are_entries parts && b) (none_is word e)
+
+some_more : (o : Option ℤ) (es : List ℤ) → is_some o ≡ true → length (cons_option o es) ≡ suc (length es)
+some_more (Some entry) es e = refl
+some_more None es e = cc
+
+-- where all words are entries, there are as many
+count_same : (texts : List (List ℕ)) → are_all texts ≡ true → length (filter_map entry_of texts) ≡ length texts
+count_same [] e = refl
+count_same (word ∷ texts) e =
+    let now = all_at (λ (w : List ℕ). is_some (entry_of w)) word texts e in
+    some_more (entry_of word) (filter_map entry_of texts) now.0 ∙ ap (λ n. suc n) (count_same texts now.1)
+
+abbrev is_count : ℕ → Bool
+is_count n = n == 9 || n == 25
+
+abbrev matrix_of : List (List ℕ) → Option (List ℤ)
+matrix_of parts = if is_count (length (words parts)) && are_entries parts then Some (entries_in parts) else None
+
+read_by : (count are : Bool) (n : ℕ) (entries : List ℤ) → are && count ≡ true → (are ≡ true → count ≡ is_count n) → (if is_count n && are then Some entries else None) ≡ Some entries
+read_by count true n entries both same = ap (λ b. if b && true then Some entries else None) (sym (same refl) ∙ both)
+read_by count false n entries both same = cc
+
+refused_by : (count are : Bool) (n : ℕ) (entries : List ℤ) → are && count ≡ false → (are ≡ true → count ≡ is_count n) → (if is_count n && are then Some entries else None) ≡ None
+refused_by count true n entries both same = ap (λ b. if b && true then Some entries else None) (sym (same refl) ∙ both)
+refused_by count false n entries both same = ap (λ (b : Bool). if b then Some entries else None) (and_false (is_count n))
+
+counts : (parts : List (List ℕ)) → are_entries parts ≡ true → is_count (length (entries_in parts)) ≡ is_count (length (words parts))
+counts parts e = ap is_count (count_same (words parts) e)
+
+-- all parts of a text are read
+pub matrix_read : (parts : List (List ℕ)) (text : List ℕ) → parts ≡ slice_split is_gap text → (are_entries parts && is_count (length (entries_in parts))) ≡ true → matrix_named text ≡ Some (entries_in parts)
+matrix_read parts text whole both =
+    ap matrix_of (sym whole) ∙ read_by (is_count (length (entries_in parts))) (are_entries parts) (length (words parts)) (entries_in parts) both (counts parts)
+
+pub matrix_refused : (parts : List (List ℕ)) (text : List ℕ) → parts ≡ slice_split is_gap text → (are_entries parts && is_count (length (entries_in parts))) ≡ false → matrix_named text ≡ None
+matrix_refused parts text whole both =
+    ap matrix_of (sym whole) ∙ refused_by (is_count (length (entries_in parts))) (are_entries parts) (length (words parts)) (entries_in parts) both (counts parts)

@@ -1,0 +1,90 @@
+-- Pictures of one shape, and planes that stay.
+use Rattle.std.proofs.Common.{◌≡◌, ℕ, ◌+◌, ◌*◌, ◌/◌, ◌<◌, ◌∙◌, List, [], ◌∷◌, length, map, get_or, refl, ap, arith, Bool, true, false, inl, inr, eqb-true, eq-eqb}
+use Rattle.std.specs.Prelude.{ℤ, ◌⊎◌, ◌||◌, if◌then◌else◌, ◌==◌, ◌&&◌, nat_le}
+use Rattle.std.proofs.lemmas.List.{get_or_read}
+use Rattle.fv_plane.specs.declared.format.Shape.{Shape}
+use Rattle.fv_plane.specs.Picture.{Picture}
+use Rattle.fv_plane.specs.Look.{look_in, look_at, row_from}
+use Rattle.fv_plane.proofs.FillLemmas.{row_listed}
+use Rattle.clip_term.specs.declared.op.Matrix.{Matrix}
+use Rattle.clip_term.specs.declared.op.SoftOp.{SoftOp}
+use Rattle.clip_term.specs.declared.op.SoftOp.TheVariants as op
+use Rattle.clip_term.specs.Refusals.{nat_of}
+use Rattle.clip_term.specs.Soft.{near, softened, samples_at, soft_at, convolved}
+use Rattle.clip_term.specs.Terms.{no_picture}
+use Rattle.flt_soft.specs.Pictures.{CanSoften, HaveShape, asked_count, keeps_plane, shape_of}
+use Rattle.flt_soft.proofs.SoftenLemmas.{look_seen}
+
+-- a filter asks a frame
+pub some_asked : (filter : SoftOp) → 0 < asked_count filter
+some_asked (op.TemporalSoften radius luma chroma) = omega arith
+some_asked (op.GeneralConvolution bias matrix) = omega arith
+
+pub some_pictures : (filter : SoftOp) (pictures : List Picture) → CanSoften filter pictures → 0 < length pictures
+some_pictures filter pictures can = omega (arith, can.asked, some_asked filter)
+
+-- the first picture has the shape
+pub first_shape : (pictures : List Picture) (one : Picture) → 0 < length pictures → one ≡ get_or pictures 0 one → one.shape ≡ shape_of pictures
+first_shape pictures one some is = ap (λ (q : Picture). q.shape) (get_or_read pictures 0 one some is no_picture)
+
+-- and so has each other
+pub shape_same : (shape : Shape) (pictures : List Picture) (i : ℕ) (one : Picture) → HaveShape shape pictures → i < length pictures → one ≡ get_or pictures i one → one.shape ≡ shape
+shape_same shape pictures i one alike there is = ap (λ (q : Picture). q.shape) is ∙ alike i one there
+
+-- PLANES THAT STAY
+
+either : (a b : Bool) → (a || b) ≡ true → (a ≡ true) ⊎ (b ≡ true)
+either true b e = inl refl
+either false b e = inr e
+
+if_same : (test : Bool) (a b m : ℕ) → a ≡ m → b ≡ m → (if test then a else b) ≡ m
+if_same true a b m e f = e
+if_same false a b m e f = f
+
+first_of : (test : Bool) (a b : ℕ) → test ≡ true → (if test then a else b) ≡ a
+first_of true a b e = refl
+first_of false a b e = cc
+
+-- the mean of one sample
+mean_of_one : (threshold m : ℕ) → softened 0 threshold m (m ∷ []) ≡ m
+mean_of_one threshold m =
+    let same : near threshold m m ≡ m = if_same (nat_le m (m + threshold) && nat_le m (m + threshold)) m m m refl refl in
+    if_same (threshold == 0) m ((0 + near threshold m m + 0) / 1) m refl (omega (arith, same))
+
+one_stays : (radius threshold : ℕ) (pictures : List Picture) (p x y : ℕ) → radius ≡ 0 → length pictures ≡ 2 * radius + 1
+    → softened radius threshold (look_at (map look_in pictures) radius p x y) (samples_at (map look_in pictures) p x y) ≡ look_in (get_or pictures (length pictures / 2) no_picture) p x y
+one_stays radius threshold [] p x y e h = absurd (omega arith)
+one_stays radius threshold (a ∷ []) p x y e h =
+    ap (λ r. softened r threshold (look_at (look_in a ∷ []) r p x y) (look_in a p x y ∷ [])) e ∙ mean_of_one threshold (look_in a p x y)
+one_stays radius threshold (a ∷ b ∷ more) p x y e h = absurd (omega arith)
+
+middle_stays : (radius threshold : ℕ) (pictures : List Picture) (p x y : ℕ) → threshold ≡ 0 → length pictures ≡ 2 * radius + 1
+    → softened radius (threshold * 1) (look_at (map look_in pictures) radius p x y) (samples_at (map look_in pictures) p x y) ≡ look_in (get_or pictures (length pictures / 2) no_picture) p x y
+middle_stays radius threshold pictures p x y e h =
+    let none : threshold * 1 ≡ 0 = omega arith in
+    let half : radius ≡ length pictures / 2 = omega arith in
+    first_of (threshold * 1 == 0) (look_at (map look_in pictures) radius p x y) _ (eq-eqb (threshold * 1) 0 none)
+    ∙ look_seen pictures radius p x y (omega arith) ∙ ap (λ i. look_in (get_or pictures i no_picture) p x y) half
+
+-- a plane that is kept shows the samples of the middle picture
+pub kept_samples : (filter : SoftOp) (shape : Shape) (pictures : List Picture) (p : ℕ) → CanSoften filter pictures → keeps_plane filter p ≡ true
+    → (x y : ℕ) → soft_at filter shape (map look_in pictures) p x y ≡ look_in (get_or pictures (length pictures / 2) no_picture) p x y
+kept_samples (op.TemporalSoften radius luma chroma) shape pictures p can keeps x y =
+    let threshold : ℕ = nat_of (if p == 0 then luma else chroma) in
+    elim (either (nat_of radius == 0) (threshold == 0) keeps) [
+      | inl none ↦ one_stays (nat_of radius) (threshold * 1) pictures p x y (eqb-true (nat_of radius) 0 none) can.asked
+      | inr none ↦ middle_stays (nat_of radius) threshold pictures p x y (eqb-true threshold 0 none) can.asked
+    ]
+kept_samples (op.GeneralConvolution bias matrix) shape pictures p can keeps x y = cc
+
+-- SUMS
+
+-- a row whose samples are those of the sums around them is listed
+pub convolved_listed : (bias : ℤ) (matrix : Matrix) (pictures : List Picture) (one : Picture) (p y width : ℕ) (out : List ℕ) → length pictures ≡ 1 → one ≡ get_or pictures 0 one → length out ≡ width
+    → ((x : ℕ) → x < length out → get_or out x 0 ≡ convolved bias matrix.entries one.shape (look_in one) p x y)
+    → out ≡ row_from (soft_at (op.GeneralConvolution bias matrix) (shape_of pictures) (map look_in pictures)) p width y
+convolved_listed bias matrix [] one p y width out count is long each = absurd (omega arith)
+convolved_listed bias matrix (a ∷ []) one p y width out count is long each =
+    row_listed out (soft_at (op.GeneralConvolution bias matrix) (shape_of (a ∷ [])) (map look_in (a ∷ []))) p width y long
+    (λ x h. each x (rw long h) ∙ ap (λ (q : Picture). convolved bias matrix.entries q.shape (look_in q) p x y) is)
+convolved_listed bias matrix (a ∷ b ∷ more) one p y width out count is long each = absurd (omega arith)

@@ -1,0 +1,16 @@
+-- Rows that are written from the left.
+use Rattle.std.proofs.Common.{◌≡◌, ℕ, ◌+◌, ◌<◌, ◌≤◌, ◌∙◌, List, length, get_or, set, arith, inl, inr}
+use Rattle.std.proofs.lemmas.List.{get_or-set_same, get_or-set_other}
+use Rattle.std.proofs.lemmas.Bool.{cases_eq}
+
+-- one more value is written
+pub next_set : {A : Type 0} (out : List A) (want : ℕ → A) (x : ℕ) (v d : A) → x < length out → v ≡ want x → ((k : ℕ) → k < x → get_or out k d ≡ want k)
+    → (k : ℕ) → k < x + 1 → get_or (set out x v) k d ≡ want k
+next_set out want x v d inside is before k h = elim (cases_eq k x) [
+  | inl e ↦ rw e (get_or-set_same out x v d inside ∙ is)
+  | inr other ↦ get_or-set_other out x k v d other ∙ before k (omega (arith, other))
+]
+
+-- those after it stay
+pub after_set : {A : Type 0} (out old : List A) (x : ℕ) (v d : A) → ((k : ℕ) → x ≤ k → get_or out k d ≡ get_or old k d) → (k : ℕ) → x + 1 ≤ k → get_or (set out x v) k d ≡ get_or old k d
+after_set out old x v d left k h = get_or-set_other out x k v d (omega arith) ∙ left k (omega arith)

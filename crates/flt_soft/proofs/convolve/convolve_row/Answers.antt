@@ -1,0 +1,23 @@
+use Rattle.std.proofs.Common.{◌≡◌, ◌<◌, ◌∙◌, length, ap, sym, arith, w32, pos, ◌+ℤ◌, ◌*ℤ◌}
+use Rattle.std.specs.Prelude.{ℤ, int_div}
+use Rattle.std.proofs.lemmas.Int.{ints, to_z-of_z}
+use Rattle.fv_plane.specs.Look.{look_in}
+use Rattle.clip_term.specs.Soft.{side_of, weighed, divisor_of, sample_from}
+use Rattle.flt_soft.proofs.WeightLemmas.{times_one}
+use Rattle.flt_soft.proofs.convolve.convolve_row.Goals as goal
+use mir.Val.{to_z, of_z}
+
+pub returns : goal.returns
+returns c =
+    let weights = c.args.weights.now in
+    let divisor = to_z w32 (of_z w32 c.divisor_of-divisor.result) in
+    let bias = to_z w32 (of_z w32 c.args.bias) in
+    let divisor_is : divisor ≡ divisor_of weights = omega (arith, ints, c.divisor_of-divisor.ensures.value) in
+    let bias_is : bias ≡ c.args.bias *ℤ pos 1 = to_z-of_z w32 c.args.bias c.ranges.bias ∙ sym (times_one c.args.bias) in
+    λ x h.
+    let inside : x < length c.sum_around.new.sums = omega arith in
+    let sum : ℤ = weighed (side_of weights) 0 weights c.args.input.now.shape (look_in c.args.input.now) c.args.plane x c.args.y in
+    c.show_row.ensures x h
+    ∙ ap (λ s. sample_from 255 (int_div s divisor +ℤ bias)) (c.sum_around.ensures.sums x inside)
+    ∙ ap (λ d. sample_from 255 (int_div sum d +ℤ bias)) divisor_is
+    ∙ ap (λ b. sample_from 255 (int_div sum (divisor_of weights) +ℤ b)) bias_is

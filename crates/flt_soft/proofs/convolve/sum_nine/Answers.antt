@@ -1,0 +1,53 @@
+use Rattle.std.proofs.Common.{◌≡◌, ◌<◌, ◌≤◌, ◌*◌, ◌+◌, ◌∙◌, ℕ, List, length, get_or, sym, ap, arith, pos, ◌+ℤ◌}
+use Rattle.std.proofs.lemmas.Int.{ints}
+use Rattle.std.proofs.lemmas.List.{take_all}
+use Rattle.fv_plane.specs.declared.format.Shape.{Shape}
+use Rattle.fv_plane.specs.Bytes.{bytes_of_row}
+use Rattle.fv_plane.specs.Format.{plane_width, plane_height}
+use Rattle.fv_plane.specs.Look.{look_in}
+use Rattle.clip_term.specs.Soft.{place, weighed}
+use Rattle.flt_soft.specs.Rows.{extended, weighed_three}
+use Rattle.flt_soft.proofs.WeightLemmas.{nine_more, weighed_within, within_same, sums_small}
+use Rattle.flt_soft.proofs.convolve.sum_nine.Goals as goal
+use mir.Syntax.{w16}
+use mir.Val.{to_z, of_z}
+
+pub add_three-requires-clause-small : goal.add_three-requires-clause-small
+add_three-requires-clause-small c =
+    let i = c.loop-i.i in
+    let few : (a b : ℕ) → look_in c.args.input.now c.args.plane a b ≤ 255 = c.shape.ensures.sizes.bounded c.args.plane in
+    sums_small c.loop-i.sums (261120 * (3 * i)) (omega arith) (λ x h.
+    within_same _ _ _ (c.loop-i.invariant x h) (weighed_within 3 0 (3 * i) c.args.weights.now c.args.input.now.shape (look_in c.args.input.now) c.args.plane x c.args.y c.requires.weights few))
+
+pub loop-i-preserved : goal.loop-i-preserved
+unfolding bytes_of_row
+loop-i-preserved c =
+    let weights = c.args.weights.now in
+    let input = c.args.input.now in
+    let p = c.args.plane in
+    let y = c.args.y in
+    let i = c.loop-i.i in
+    let row : List ℕ = c.row.result.now in
+    let line : c.place.result ≡ place y i 1 (plane_height input.shape p)
+    = c.place.ensures.place ∙ ap (λ h. place y i 1 h) (c.plane_height-height.ensures ∙ ap (λ (s : Shape). plane_height s p) c.shape.ensures.shape) in
+    let seen : (z : ℕ) → get_or row z 0 ≡ look_in input p z (place y i 1 (plane_height input.shape p)) = λ z. ap (λ l. get_or l z 0) c.row.ensures.row ∙ ap (λ r. look_in input p z r) line in
+    let long : length row ≡ plane_width input.shape p = omega (arith, c.row.ensures.whole) in
+    let a : to_z w16 (of_z w16 c.weight.result) ≡ get_or weights (3 * i) (pos 0) = omega (arith, ints, c.weight.ensures.value, c.weight.ensures.weight.low, c.weight.ensures.weight.high) in
+    let b : to_z w16 (of_z w16 c.weight-in-loop-i.result) ≡ get_or weights (3 * i + 1) (pos 0) = omega (arith, ints, c.weight-in-loop-i.ensures.value, c.weight-in-loop-i.ensures.weight.low, c.weight-in-loop-i.ensures.weight.high) in
+    let d : to_z w16 (of_z w16 c.weight-in-loop-i-2.result) ≡ get_or weights (3 * i + 2) (pos 0) = omega (arith, ints, c.weight-in-loop-i-2.ensures.value, c.weight-in-loop-i-2.ensures.weight.low, c.weight-in-loop-i-2.ensures.weight.high) in
+    λ x h.
+    let inside : x < length c.loop-i.sums = omega arith in
+    let more = nine_more input.shape (look_in input) p x y i weights row c.requires.nine c.loop-i-test.true long (omega arith) seen in
+    let put = rw (a, b, d, c.pad_row.ensures) at c.add_three.ensures x h in
+    put ∙ ap (λ s. s +ℤ weighed_three (get_or weights (3 * i) (pos 0)) (get_or weights (3 * i + 1) (pos 0)) (get_or weights (3 * i + 2) (pos 0)) (extended 1 row) x) (c.loop-i.invariant x inside) ∙ sym more
+
+pub returns : goal.returns
+returns c =
+    let i = c.loop-i.i in
+    let few : (a b : ℕ) → look_in c.args.input.now c.args.plane a b ≤ 255 = c.shape.ensures.sizes.bounded c.args.plane in
+    record {
+      sums = λ x h. c.loop-i.invariant x h
+          ∙ ap (λ ws. weighed 3 0 ws c.args.input.now.shape (look_in c.args.input.now) c.args.plane x c.args.y) (take_all (3 * i) c.args.weights.now (omega arith));
+      small = sums_small c.loop-i.sums (261120 * (3 * i)) (omega arith) (λ x h.
+          within_same _ _ _ (c.loop-i.invariant x h) (weighed_within 3 0 (3 * i) c.args.weights.now c.args.input.now.shape (look_in c.args.input.now) c.args.plane x c.args.y c.requires.weights few));
+    }

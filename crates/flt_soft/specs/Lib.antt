@@ -1,0 +1,3 @@
+pub mod Pictures
+pub mod Rows
+pub mod Scratch

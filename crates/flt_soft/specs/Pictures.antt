@@ -1,0 +1,43 @@
+-- What a filter makes of pictures.
+use Rattle.std.specs.Prelude.{◌≡◌, ℕ, ◌+◌, ◌*◌, Bool, false, ◌||◌, if◌then◌else◌, ◌==◌, List, map, length, slice_index_or, IsTrue, None}
+use Rattle.std.specs.List.{All}
+use Rattle.fv_plane.specs.declared.format.Shape.{Shape}
+use Rattle.fv_plane.specs.Picture.{Picture, row_of}
+use Rattle.fv_plane.specs.Look.{look_in, picture_from}
+use Rattle.fv_plane.specs.Refusals.{first_fault}
+use Rattle.clip_term.specs.declared.op.SoftOp.{SoftOp}
+use Rattle.clip_term.specs.declared.op.SoftOp.TheVariants as op
+use Rattle.clip_term.specs.Refusals.{nat_of}
+use Rattle.clip_term.specs.Soft.{soft_refusals, soft_at}
+use Rattle.clip_term.specs.Terms.{no_picture, soft_lists}
+
+abbrev pub shape_of : List Picture → Shape
+shape_of pictures = (slice_index_or pictures 0 no_picture).shape
+
+abbrev pub HaveShape : Shape → List Picture → Type 0
+HaveShape shape pictures = All (λ (picture : Picture). picture.shape ≡ shape) pictures
+
+abbrev pub soft_picture : SoftOp → List Picture → Picture
+soft_picture op pictures = picture_from (shape_of pictures) (soft_at op (shape_of pictures) (map look_in pictures))
+
+-- how many frames a filter asks
+abbrev pub asked_count : SoftOp → ℕ
+asked_count (op.TemporalSoften radius luma chroma) = 2 * nat_of radius + 1
+asked_count (op.GeneralConvolution bias matrix) = 1
+
+-- as many pictures of one shape as the filter asks, and arguments that its row doesn't refuse
+pub record CanSoften (op : SoftOp) (pictures : List Picture) : Type 0 where
+  pub accepted : first_fault (soft_refusals op) ≡ None
+  pub lists : IsTrue (soft_lists op)
+  pub asked : length pictures ≡ asked_count op
+  pub alike : HaveShape (shape_of pictures) pictures
+
+-- a plane of the result is that plane of the middle picture
+abbrev pub keeps_plane : SoftOp → ℕ → Bool
+keeps_plane (op.TemporalSoften radius luma chroma) p =
+    nat_of radius == 0 || nat_of (if p == 0 then luma else chroma) == 0
+keeps_plane (op.GeneralConvolution bias matrix) p = false
+
+-- a row of one of the pictures
+abbrev pub row_in : List Picture → ℕ → ℕ → ℕ → List ℕ
+row_in pictures i p y = row_of (slice_index_or pictures i no_picture).planes p y

@@ -1,0 +1,45 @@
+-- What is made of rows of samples.
+use Rattle.std.specs.Prelude.{ℕ, ◌+◌, ◌-◌, ◌*◌, ◌^◌, ◌<◌, ◌≤◌, ℤ, pos, negsuc, ◌+ℤ◌, ◌*ℤ◌, ◌≤ℤ◌, List, ◌++◌, length, replicate, slice_index, slice_index_or, Bool, not, ◌||◌, int_lt}
+use Rattle.clip_term.specs.Refusals.{above}
+
+-- a row with its first and its last sample repeated before and after it
+abbrev pub extended : ℕ → List ℕ → List ℕ
+extended count row =
+    replicate count (slice_index row 0) ++ (row ++ replicate count (slice_index row (length row - 1)))
+
+-- three samples from a place on, each times its weight
+abbrev pub weighed_three : ℤ → ℤ → ℤ → List ℕ → ℕ → ℤ
+weighed_three a b c row x =
+    a *ℤ pos (slice_index row x) +ℤ b *ℤ pos (slice_index row (x + 1)) +ℤ c *ℤ pos (slice_index row (x + 2))
+
+-- and five
+abbrev pub weighed_five : ℤ → ℤ → ℤ → ℤ → ℤ → List ℕ → ℕ → ℤ
+weighed_five a b c d e row x =
+    weighed_three a b c row x +ℤ (d *ℤ pos (slice_index row (x + 3)) +ℤ e *ℤ pos (slice_index row (x + 4)))
+
+-- a weight is from -1,024 to 1,024
+pub record IsWeight (weight : ℤ) : Type 0 where
+  pub low : negsuc 1023 ≤ℤ weight
+  pub high : weight ≤ℤ pos 1024
+
+abbrev pub AreWeights : List ℤ → Type 0
+AreWeights weights = (k : ℕ) → IsWeight (slice_index_or weights k (pos 0))
+
+abbrev pub is_weight : ℤ → Bool
+is_weight weight = not (int_lt weight (negsuc 1023) || above weight 1024)
+
+-- a sum whose size is below 2^23
+pub record IsSmall (sum : ℤ) : Type 0 where
+  pub low : negsuc 8388606 ≤ℤ sum
+  pub high : sum ≤ℤ pos 8388607
+
+abbrev pub AreSmall : List ℤ → Type 0
+AreSmall sums = (x : ℕ) → IsSmall (slice_index_or sums x (pos 0))
+
+-- a quotient by this divisor of a number below 2^23 is the number times the factor, without the lowest bits
+pub record IsReciprocal (divisor factor bits : ℕ) : Type 0 where
+  pub some : 0 < divisor
+  pub few : bits < 64
+  pub low : 2 ^ bits ≤ factor * divisor
+  pub high : factor * divisor ≤ 2 ^ bits + divisor
+  pub wide : 2 ^ 23 * divisor ≤ 2 ^ bits

@@ -1,0 +1,257 @@
+// Sums of the samples around a place.
+ghost use Rattle.std.specs.Prelude.{◌≡◌, ◌<◌, ◌≤◌, ◌+◌, ◌*◌, ◌/◌, ◌⊎◌, ℕ, max, map, pos, negsuc, ◌≤ℤ◌, IfOk, length, EachIndex, slice_index, slice_index_or, unsigned_abs, vec_len};
+ghost use Rattle.fv_plane.specs.Format.{planes, plane_width, plane_height};
+ghost use Rattle.fv_plane.specs.Look.{look_in};
+ghost use Rattle.clip_term.specs.declared.op.SoftOp.TheVariants.{GeneralConvolution};
+ghost use Rattle.clip_term.specs.Soft.{place, side_of, weighed, total, divisor_of, convolved};
+ghost use Rattle.flt_soft.specs.Pictures.{CanSoften, shape_of, soft_picture};
+ghost use Rattle.flt_soft.specs.Rows.{IsWeight, AreWeights, IsSmall, AreSmall};
+
+use crate::kernels::{add_five, add_three, pad_row, show_row};
+use crate::reciprocal::reciprocal_of;
+use crate::rows::{RowFilter, make_by_rows};
+use crate::scratch::Scratch;
+use clip_term::Matrix;
+use fv_plane::Frame;
+use std::alloc::{AllocError, Global};
+
+// A place beside another, brought to the edge where it is past it.
+fn place(at: u32, step: u32, half: u32, size: u32) -> u32
+    requires inside { at < size }
+    requires small { size ≤ 65535 }
+    requires near { step ≤ 4 }
+    ensures place { result ≡ place at step half size }
+    ensures inside { result < size }
+{
+    (at + step).saturating_sub(half).min(size - 1)
+}
+
+fn weight(weights: &[i32], k: usize) -> i16
+    requires inside { k < length weights.now }
+    requires weights { AreWeights weights.now }
+    ensures value { result ≡ slice_index_or weights.now k (pos 0) }
+    ensures weight { IsWeight result }
+{
+    weights[k] as i16
+}
+
+// The sums of the nine samples around each place of a row.
+fn sum_nine(input: &Frame, plane: u32, y: u32, weights: &[i32], padded: &mut [u8], sums: &mut [i32])
+    requires plane { plane < planes input.now.shape.kind }
+    requires inside { y < plane_height input.now.shape plane }
+    requires nine { length weights.now ≡ 9 }
+    requires weights { AreWeights weights.now }
+    requires sums { length sums.old ≡ plane_width input.now.shape plane }
+    requires padded { length padded.old ≡ length sums.old + 2 }
+    ensures sums { (x : ℕ) → x < length sums.new → slice_index_or sums.new x (pos 0)
+        ≡ weighed 3 0 weights.now input.now.shape (look_in input.now) plane x y }
+    ensures small { AreSmall sums.new }
+{
+    let height = input.shape().plane_height(plane);
+    sums.fill(0);
+    for i in 0..3 {
+        pad_row(input.row(plane, place(y, i, 1, height)), 1, padded);
+        let k = 3 * i as usize;
+        add_three(
+            padded,
+            weight(weights, k),
+            weight(weights, k + 1),
+            weight(weights, k + 2),
+            sums,
+        );
+    }
+}
+
+// The sums of the 25 samples around each place of a row.
+fn sum_of_25(
+    input: &Frame,
+    plane: u32,
+    y: u32,
+    weights: &[i32],
+    padded: &mut [u8],
+    sums: &mut [i32],
+)
+    requires plane { plane < planes input.now.shape.kind }
+    requires inside { y < plane_height input.now.shape plane }
+    requires all { length weights.now ≡ 25 }
+    requires weights { AreWeights weights.now }
+    requires sums { length sums.old ≡ plane_width input.now.shape plane }
+    requires padded { length padded.old ≡ length sums.old + 4 }
+    ensures sums { (x : ℕ) → x < length sums.new → slice_index_or sums.new x (pos 0)
+        ≡ weighed 5 0 weights.now input.now.shape (look_in input.now) plane x y }
+    ensures small { AreSmall sums.new }
+{
+    let height = input.shape().plane_height(plane);
+    sums.fill(0);
+    for i in 0..5 {
+        pad_row(input.row(plane, place(y, i, 2, height)), 2, padded);
+        let k = 5 * i as usize;
+        add_five(
+            padded,
+            weight(weights, k),
+            weight(weights, k + 1),
+            weight(weights, k + 2),
+            weight(weights, k + 3),
+            weight(weights, k + 4),
+            sums,
+        );
+    }
+}
+
+// The sum of the weights.
+fn total(weights: &[i32]) -> i32
+    requires few { length weights.now ≤ 25 }
+    requires weights { AreWeights weights.now }
+    ensures value { result ≡ total weights.now }
+    ensures low { negsuc 25599 ≤ℤ result }
+    ensures high { result ≤ℤ pos 25600 }
+{
+    let mut sum = 0;
+    for weight in weights {
+        sum += *weight;
+    }
+    sum
+}
+
+// The sum of the weights, and 1 where it is 0.
+fn divisor_of(weights: &[i32]) -> i32
+    requires few { length weights.now ≤ 25 }
+    requires weights { AreWeights weights.now }
+    ensures value { result ≡ divisor_of weights.now }
+    ensures some { 0 < unsigned_abs result }
+    ensures small { unsigned_abs result ≤ 25600 }
+{
+    let sum = total(weights);
+    if sum < 0 || sum > 0 { sum } else { 1 }
+}
+
+// The sums of the samples around each place of a row.
+fn sum_around(
+    input: &Frame,
+    plane: u32,
+    y: u32,
+    weights: &[i32],
+    padded: &mut [u8],
+    sums: &mut [i32],
+)
+    requires plane { plane < planes input.now.shape.kind }
+    requires inside { y < plane_height input.now.shape plane }
+    requires square { (length weights.now ≡ 9) ⊎ (length weights.now ≡ 25) }
+    requires weights { AreWeights weights.now }
+    requires sums { length sums.old ≡ plane_width input.now.shape plane }
+    requires padded { length padded.old ≡ length sums.old + 4 }
+    ensures sums { (x : ℕ) → x < length sums.new → slice_index_or sums.new x (pos 0)
+        ≡ weighed (side_of weights.now) 0 weights.now input.now.shape (look_in input.now) plane x y }
+    ensures small { AreSmall sums.new }
+{
+    if weights.len() == 9 {
+        let (padded, _) = padded.split_at_mut(sums.len() + 2);
+        sum_nine(input, plane, y, weights, padded, sums);
+    } else {
+        sum_of_25(input, plane, y, weights, padded, sums);
+    }
+}
+
+// A row of the picture that is made, by its sums.
+fn convolve_row(
+    input: &Frame,
+    plane: u32,
+    y: u32,
+    bias: i32,
+    weights: &[i32],
+    padded: &mut [u8],
+    sums: &mut [i32],
+    out: &mut [u8],
+)
+    requires plane { plane < planes input.now.shape.kind }
+    requires inside { y < plane_height input.now.shape plane }
+    requires square { (length weights.now ≡ 9) ⊎ (length weights.now ≡ 25) }
+    requires weights { AreWeights weights.now }
+    requires bias { IsSmall bias }
+    requires whole { length out.old ≡ plane_width input.now.shape plane }
+    requires sums { length sums.old ≡ length out.old }
+    requires padded { length padded.old ≡ length out.old + 4 }
+    ensures { EachIndex out.new (λ x. slice_index out.new x
+        ≡ convolved bias weights.now input.now.shape (look_in input.now) plane x y) }
+{
+    sum_around(input, plane, y, weights, padded, sums);
+    let divisor = divisor_of(weights);
+    let by = reciprocal_of(divisor.unsigned_abs());
+    show_row(sums, divisor, by, bias, out);
+}
+
+// The same, in rows that may be wider.
+fn convolve_in(
+    input: &Frame,
+    plane: u32,
+    y: u32,
+    bias: i32,
+    weights: &[i32],
+    padded: &mut Vec<u8>,
+    sums: &mut Vec<i32>,
+    out: &mut [u8],
+)
+    requires plane { plane < planes input.now.shape.kind }
+    requires inside { y < plane_height input.now.shape plane }
+    requires square { (length weights.now ≡ 9) ⊎ (length weights.now ≡ 25) }
+    requires weights { AreWeights weights.now }
+    requires bias { IsSmall bias }
+    requires whole { length out.old ≡ plane_width input.now.shape plane }
+    requires sums { length out.old ≤ vec_len sums.old }
+    requires padded { length out.old + 4 ≤ vec_len padded.old }
+    ensures row { EachIndex out.new (λ x. slice_index out.new x
+        ≡ convolved bias weights.now input.now.shape (look_in input.now) plane x y) }
+    ensures sums { vec_len sums.new ≡ vec_len sums.old }
+    ensures padded { vec_len padded.new ≡ vec_len padded.old }
+{
+    let _ = input.shape();
+    let (padded, _) = padded.as_mut_slice().split_at_mut(out.len() + 4);
+    let (sums, _) = sums.as_mut_slice().split_at_mut(out.len());
+    convolve_row(input, plane, y, bias, weights, padded, sums, out);
+}
+
+#[derive(Drop)]
+struct ConvolveRows<'a> {
+    bias: i32,
+    matrix: &'a Matrix,
+}
+
+impl RowFilter for ConvolveRows<'_> {
+    ghost op = { λ filter. GeneralConvolution filter.bias filter.matrix.now };
+
+    fn keeps_plane(&self, plane: u32) -> bool {
+        false
+    }
+
+    fn fill_row(
+        &self,
+        inputs: &[Frame],
+        plane: u32,
+        y: u32,
+        scratch: &mut Scratch,
+        out: &mut [u8],
+    ) {
+        let input = &inputs[0];
+        let _ = input.shape();
+        let weights = self.matrix.entries.as_slice();
+        let padded = &mut scratch.padded;
+        let sums = &mut scratch.sums;
+        convolve_in(input, plane, y, self.bias, weights, padded, sums, out);
+    }
+}
+
+/// `GeneralConvolution`: each sample becomes the sum of those around it, each times its weight, divided by the sum of the
+/// weights, plus the bias. An `Err` is out of memory.
+pub fn general_convolution(
+    alloc: Global,
+    bias: i32,
+    matrix: &Matrix,
+    inputs: &[Frame],
+    scratch: &mut Scratch,
+) -> Result<Frame, AllocError>
+    requires { CanSoften (GeneralConvolution bias matrix.now) inputs.now }
+    ensures made { IfOk result (λ made. made ≡ soft_picture (GeneralConvolution bias matrix.now) inputs.now) }
+    ensures room { scratch.new ≤ max scratch.old (shape_of inputs.now).width }
+{
+    make_by_rows(alloc, &ConvolveRows { bias, matrix }, inputs, scratch)
+}

@@ -1,0 +1,22 @@
+//! Filters that mix a sample with its neighbours, in time or in place.
+//!
+//! The maker's contract says that the frame it makes is the picture whose samples the definition of the filter lists
+//! (`clip_term/specs/Soft.antt`), whatever the scratch holds. The one error is `AllocError`.
+#![tactic(auto)]
+
+mod convolve;
+mod kernels;
+mod make;
+mod matrix;
+mod reciprocal;
+mod rows;
+mod scratch;
+mod soften;
+
+pub use clip_check::check_soft;
+pub use make::make_soft;
+pub use matrix::{MatrixFault, read_matrix};
+pub use scratch::Scratch;
+
+#[cfg(test)]
+mod tests;

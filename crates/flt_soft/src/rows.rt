@@ -1,0 +1,78 @@
+// Filters that make each row of a picture by itself.
+ghost use Rattle.std.specs.Prelude.{◌≡◌, ◌<◌, ◌≤◌, max, map, IfOk, false, length};
+ghost use Rattle.fv_plane.specs.Format.{planes, plane_width, plane_height};
+ghost use Rattle.fv_plane.specs.Look.{look_in, row_from};
+ghost use Rattle.clip_term.specs.declared.op.SoftOp.{SoftOp};
+ghost use Rattle.clip_term.specs.Soft.{soft_at};
+ghost use Rattle.flt_soft.specs.Pictures.{CanSoften, HaveShape, keeps_plane, row_in, shape_of, soft_picture};
+
+use crate::scratch::Scratch;
+use fv_plane::{Frame, FrameBuilder};
+use std::alloc::{AllocError, Global};
+
+/// A row of one of the inputs.
+pub fn row_in(inputs: &[Frame], i: usize, plane: u32, y: u32) -> &[u8]
+    requires input { i < length inputs.now }
+    requires alike { HaveShape (shape_of inputs.now) inputs.now }
+    requires plane { plane < planes (shape_of inputs.now).kind }
+    requires inside { y < plane_height (shape_of inputs.now) plane }
+    ensures row { result.now ≡ row_in inputs.now i plane y }
+    ensures whole { length result.now ≡ plane_width (shape_of inputs.now) plane }
+{
+    let input = &inputs[i];
+    input.row(plane, y)
+}
+
+/// A filter that makes a row from the rows of the inputs.
+pub trait RowFilter {
+    /// The filter with its arguments.
+    ghost op: { Self → SoftOp };
+
+    /// Whether a plane of the result is that plane of the middle input.
+    fn keeps_plane(&self, plane: u32) -> bool
+        ensures { result ≡ keeps_plane (op self.now) plane };
+
+    /// Writes a row of a plane that isn't kept.
+    fn fill_row(&self, inputs: &[Frame], plane: u32, y: u32, scratch: &mut Scratch, out: &mut [u8])
+        requires able { CanSoften (op self.now) inputs.now }
+        requires changed { keeps_plane (op self.now) plane ≡ false }
+        requires plane { plane < planes (shape_of inputs.now).kind }
+        requires inside { y < plane_height (shape_of inputs.now) plane }
+        requires whole { length out.old ≡ plane_width (shape_of inputs.now) plane }
+        requires room { length out.old ≤ scratch.old }
+        ensures row { out.new ≡ row_from (soft_at (op self.now) (shape_of inputs.now) (map look_in inputs.now))
+            plane (length out.old) y }
+        ensures room { scratch.new ≡ scratch.old };
+}
+
+/// The picture that a filter makes.
+pub fn make_by_rows<F: RowFilter>(
+    alloc: Global,
+    filter: &F,
+    inputs: &[Frame],
+    scratch: &mut Scratch,
+) -> Result<Frame, AllocError>
+    requires { CanSoften (F.op filter.now) inputs.now }
+    ensures made { IfOk result (λ made. made ≡ soft_picture (F.op filter.now) inputs.now) }
+    ensures room { scratch.new ≤ max scratch.old (shape_of inputs.now).width }
+{
+    let first = &inputs[0];
+    let middle = &inputs[inputs.len() / 2];
+    let shape = first.shape();
+    let _ = middle.shape();
+    scratch.grow(shape.width as usize)?;
+    let mut made = FrameBuilder::new(alloc, shape)?;
+    for plane in 0..shape.kind.planes() {
+        if filter.keeps_plane(plane) {
+            made.put_plane(plane, middle, plane)?;
+            continue;
+        }
+        let mut buffer = vec![in alloc; 0u8; shape.row_bytes(plane) as usize]?;
+        let row = buffer.as_mut_slice();
+        for y in 0..shape.plane_height(plane) {
+            filter.fill_row(inputs, plane, y, scratch, row);
+            made.put_row(plane, y, row);
+        }
+    }
+    made.finish()
+}

@@ -1,0 +1,70 @@
+// Rows that a filter keeps from frame to frame.
+ghost use Rattle.std.specs.Prelude.{◌≡◌, ◌*◌, ◌≤◌, max, OnOk, OnErr};
+
+use std::alloc::{AllocError, Global};
+use std::marker::Model;
+
+/// Rows for a filter of the group Soft to work in. What they hold matters to no frame. Contracts see how many samples
+/// wide a picture may be for which it has room.
+#[derive(Drop)]
+pub struct Scratch {
+    alloc: Global,
+    width: usize,
+    pub(crate) padded: Vec<u8>,
+    pub(crate) means: Vec<u16>,
+    pub(crate) sums: Vec<i32>,
+}
+
+impl Model for Scratch {
+    ghost use Rattle.std.specs.Prelude.{ℕ};
+    ghost use Rattle.std.specs.Vec.{vec_len};
+    ghost use Rattle.flt_soft.specs.Scratch.{HasRows};
+
+    ghost Value = { ℕ };
+
+    ghost view = { λ s. s.width };
+
+    ghost invariant = { λ s. HasRows s.width (vec_len s.padded) (vec_len s.means) (vec_len s.sums) };
+}
+
+impl Scratch {
+    /// No rows. It takes no memory.
+    pub fn new(alloc: Global) -> Scratch
+        ensures { result ≡ 0 }
+    {
+        Scratch {
+            alloc,
+            width: 0,
+            padded: Vec::new(alloc),
+            means: Vec::new(alloc),
+            sums: Vec::new(alloc),
+        }
+    }
+
+    /// The bytes of its rows: at most as many as four rows of `u32` have.
+    pub fn bytes(&self) -> u64
+        requires { self.now ≤ 65535 }
+        ensures { result ≤ 16 * self.now }
+    {
+        self.padded.len() as u64 + 2 * self.means.len() as u64 + 4 * self.sums.len() as u64
+    }
+
+    /// Makes room for rows of this width. An `Err` is out of memory, and then nothing has changed.
+    pub(crate) fn grow(&mut self, width: usize) -> Result<(), AllocError>
+        requires { width ≤ 65535 }
+        ensures ok { OnOk result (self.new ≡ max self.old width) }
+        ensures err { OnErr result (self.new ≡ self.old) }
+    {
+        if width <= self.width {
+            return Ok(());
+        }
+        let padded = vec![in self.alloc; 0u8; width + 4]?;
+        let means = vec![in self.alloc; 0u16; width]?;
+        let sums = vec![in self.alloc; 0i32; width]?;
+        self.padded = padded;
+        self.means = means;
+        self.sums = sums;
+        self.width = width;
+        Ok(())
+    }
+}
