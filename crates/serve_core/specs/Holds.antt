@@ -1,0 +1,31 @@
+-- What a worker holds.
+use Rattle.std.specs.Prelude.{◌≡◌, ℕ, ◌==◌, Bool, true, false, not, ◌&&◌, ◌||◌, List, [], ◌∷◌, Option, Some, None}
+use Rattle.fv_plane.specs.declared.key.Key.{Key}
+use Rattle.inst_table.specs.declared.place.Place.{Place}
+use Rattle.inst_table.specs.declared.place.Slot.{Slot}
+use Rattle.inst_table.specs.declared.place.Slot.TheVariants.{Free, Leased}
+use Rattle.inst_table.specs.Places.{slot_at, shared_place}
+use Rattle.serve_events.specs.declared.event.Stop.{Stop}
+use Rattle.serve_events.specs.declared.event.Stop.TheVariants.{Read, Changed, Memory}
+
+-- a claim on a frame of the node
+abbrev pub claims_at : ℕ → ℕ → List (Key × ℕ) → Bool
+claims_at w i [] = false
+claims_at w i (c ∷ cs) = (c.1 == w && (c.0).node == i) || claims_at w i cs
+
+-- no lease
+abbrev pub holds_none : {I : Type 0} → ℕ → List (Place × Slot I) → Bool
+holds_none w [] = true
+holds_none w ((p, Free x) ∷ es) = holds_none w es
+holds_none w ((p, Leased v) ∷ es) = not (v == w) && holds_none w es
+
+abbrev pub is_free_at : {I : Type 0} → Option (Slot I) → Bool
+is_free_at None = false
+is_free_at (Some (Free x)) = true
+is_free_at (Some (Leased w)) = false
+
+-- the source whose read failed is in the table
+abbrev pub IsThere : {I : Type 0} → List (Place × Slot I) → Stop → Type 0
+IsThere table (Read i) = is_free_at (slot_at (shared_place i) table) ≡ true
+IsThere table (Changed i n want got) = Unit {0}
+IsThere table Memory = Unit {0}
