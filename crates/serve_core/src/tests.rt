@@ -10,7 +10,7 @@ use clip_graph::Graph;
 use clip_term::Op;
 use frame_cache::FrameCache;
 use fv_io::Text;
-use fv_plane::{Field, Info, Key, Par, PixelType, Shape, Tag};
+use fv_plane::{Colour, Field, Frame, Info, Key, Par, PixelType, Shape, Tag};
 use inst_table::{Held, InstTable};
 use std::alloc::Global;
 use std::sync::Arc;
@@ -118,5 +118,26 @@ fn a_stop_ends_a_window(rt: HostRuntime) -> Result<(), Fail> {
     assert_eq!(rt; finished.events.as_slice(), events.as_slice());
     let mut table = core.into_table();
     assert!(rt; table.take_any().is_some());
+    Ok(())
+}
+
+#[test]
+fn an_output_is_taken(rt: HostRuntime) -> Result<(), Fail> {
+    let mut core = over_a_source(rt.alloc())?;
+    core.begin_window(2, 2)?;
+    assert_eq!(rt; core.take_output(1)?, Some(2));
+    Ok(())
+}
+
+#[test]
+fn a_made_frame_is_cached(rt: HostRuntime) -> Result<(), Fail> {
+    let alloc = rt.alloc();
+    let frame = Frame::blank(alloc, DOTS.shape, Colour { y: 7, u: 0, v: 0 })?;
+    let mut core = over_a_source(alloc)?;
+    core.begin_window(0, 2)?;
+    let asked = core.ask(0, FIRST)?;
+    let Ask::Claimed = asked else { unreachable!() };
+    core.publish(0, FIRST, frame)?;
+    assert_eq!(rt; core.cached(), 1);
     Ok(())
 }
