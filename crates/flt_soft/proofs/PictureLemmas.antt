@@ -4,7 +4,7 @@ use Rattle.std.specs.Prelude.{ℤ, ◌⊎◌, ◌||◌, if◌then◌else◌, ◌
 use Rattle.std.proofs.lemmas.List.{get_or_read}
 use Rattle.fv_plane.specs.declared.format.Shape.{Shape}
 use Rattle.fv_plane.specs.Picture.{Picture}
-use Rattle.fv_plane.specs.Look.{look_in, look_at, row_from}
+use Rattle.fv_plane.specs.Look.{Look, look_in, look_at, row_from}
 use Rattle.fv_plane.proofs.FillLemmas.{row_listed}
 use Rattle.clip_term.specs.declared.op.Matrix.{Matrix}
 use Rattle.clip_term.specs.declared.op.SoftOp.{SoftOp}
@@ -30,6 +30,10 @@ first_shape pictures one some is = ap (λ (q : Picture). q.shape) (get_or_read p
 -- and so has each other
 pub shape_same : (shape : Shape) (pictures : List Picture) (i : ℕ) (one : Picture) → HaveShape shape pictures → i < length pictures → one ≡ get_or pictures i one → one.shape ≡ shape
 shape_same shape pictures i one alike there is = ap (λ (q : Picture). q.shape) is ∙ alike i one there
+
+-- a row that is listed for one shape and width is listed for equal ones
+pub row_moved : (filter : SoftOp) (looks : List Look) (p y : ℕ) (s t : Shape) (w v : ℕ) (row : List ℕ) → s ≡ t → v ≡ w → row ≡ row_from (soft_at filter t looks) p v y → row ≡ row_from (soft_at filter s looks) p w y
+row_moved filter looks p y s t w v row shape width e = rw (shape, ← width) e
 
 -- PLANES THAT STAY
 

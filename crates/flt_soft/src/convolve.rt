@@ -1,5 +1,5 @@
 // Sums of the samples around a place.
-ghost use Rattle.std.specs.Prelude.{◌≡◌, ◌<◌, ◌≤◌, ◌+◌, ◌*◌, ◌/◌, ◌⊎◌, ℕ, max, map, pos, negsuc, ◌≤ℤ◌, IfOk, length, EachIndex, slice_index, slice_index_or, unsigned_abs, vec_len};
+ghost use Rattle.std.specs.Prelude.{◌≡◌, ◌<◌, ◌≤◌, ◌+◌, ◌⊎◌, ℕ, max, pos, negsuc, ◌≤ℤ◌, IfOk, length, EachIndex, slice_index, slice_index_or, unsigned_abs, vec_len};
 ghost use Rattle.fv_plane.specs.Format.{planes, plane_width, plane_height};
 ghost use Rattle.fv_plane.specs.Look.{look_in};
 ghost use Rattle.clip_term.specs.declared.op.SoftOp.TheVariants.{GeneralConvolution};

@@ -1,5 +1,5 @@
 // What is done to rows of samples. Plain loops over slices, which the compiler turns into vector instructions.
-ghost use Rattle.std.specs.Prelude.{◌≡◌, ◌+◌, ◌-◌, ◌*◌, ◌/◌, ◌<◌, ◌≤◌, ◌^◌, ℕ, min, pos, negsuc, ◌+ℤ◌, ◌*ℤ◌, ◌≤ℤ◌, EachIndex, length, slice_index, slice_index_or, [], ◌∷◌, int_div, unsigned_abs};
+ghost use Rattle.std.specs.Prelude.{◌≡◌, ◌+◌, ◌*◌, ◌/◌, ◌<◌, ◌≤◌, ◌^◌, ℕ, pos, negsuc, ◌+ℤ◌, ◌*ℤ◌, ◌≤ℤ◌, EachIndex, length, slice_index, slice_index_or, [], ◌∷◌, int_div, unsigned_abs};
 ghost use Rattle.clip_term.specs.Soft.{near, softened, sample_from};
 ghost use Rattle.flt_soft.specs.Rows.{extended, weighed_three, weighed_five, IsWeight, AreSmall, IsSmall, IsReciprocal};
 

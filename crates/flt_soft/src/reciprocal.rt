@@ -1,5 +1,5 @@
 // Division by multiplication.
-ghost use Rattle.std.specs.Prelude.{◌≡◌, ◌≢◌, ◌+◌, ◌*◌, ◌/◌, ◌^◌, ◌<◌, ◌≤◌, pos, negsuc, ◌≤ℤ◌, int_div, unsigned_abs};
+ghost use Rattle.std.specs.Prelude.{◌≡◌, ◌/◌, ◌^◌, ◌<◌, ◌≤◌, int_div, unsigned_abs};
 ghost use Rattle.flt_soft.specs.Rows.{IsReciprocal, IsSmall};
 
 /// What a number is multiplied by, and how many bits are then left out, in place of a division.

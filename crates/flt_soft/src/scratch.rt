@@ -1,5 +1,5 @@
 // Rows that a filter keeps from frame to frame.
-ghost use Rattle.std.specs.Prelude.{◌≡◌, ◌*◌, ◌≤◌, max, OnOk, OnErr};
+ghost use Rattle.std.specs.Prelude.{◌≡◌, ◌<◌, ◌+◌, ◌*◌, ◌≤◌, max, OnOk, OnErr};
 
 use std::alloc::{AllocError, Global};
 use std::marker::Model;
@@ -44,7 +44,9 @@ impl Scratch {
     /// The bytes of its rows: at most as many as four rows of `u32` have.
     pub fn bytes(&self) -> u64
         requires { self.now ≤ 65535 }
-        ensures { result ≤ 16 * self.now }
+        ensures none { self.now ≡ 0 → result ≡ 0 }
+        ensures rows { 0 < self.now → result ≡ 7 * self.now + 4 }
+        ensures few { result ≤ 16 * self.now }
     {
         self.padded.len() as u64 + 2 * self.means.len() as u64 + 4 * self.sums.len() as u64
     }

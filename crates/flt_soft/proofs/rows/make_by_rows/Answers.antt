@@ -10,7 +10,7 @@ use Rattle.fv_plane.proofs.WholePlaneLemmas.{rows_listed, filled_whole, row_seen
 use Rattle.clip_term.specs.Soft.{soft_at}
 use Rattle.clip_term.specs.Terms.{no_picture}
 use Rattle.flt_soft.specs.Pictures.{keeps_plane, shape_of, soft_picture}
-use Rattle.flt_soft.proofs.PictureLemmas.{first_shape, kept_samples, shape_same, some_pictures}
+use Rattle.flt_soft.proofs.PictureLemmas.{first_shape, kept_samples, row_moved, shape_same, some_pictures}
 use Rattle.flt_soft.proofs.rows.make_by_rows.Goals as goal
 
 pub put_plane-requires-clause-of : goal.put_plane-requires-clause-of
@@ -102,7 +102,7 @@ loop-y-preserved g c =
     let shape : mine ≡ shape_of inputs = c.shape-shape.ensures.shape ∙ first_shape inputs c.index-inputs-0.result some c.index-inputs-0.is in
     let at : Look = soft_at filter mine (map look_in inputs) in
     let row : c.fill_row.new.out ≡ rows_listed mine at p y
-    = c.fill_row.ensures.row ∙ ap (λ (s : Shape). row_from (soft_at filter s (map look_in inputs)) p (length c.loop-y.row) y) (sym shape) ∙ ap (λ w. row_from at p w y) c.loop-y.invariant.long in
+    = row_moved filter (map look_in inputs) p y mine (shape_of inputs) (plane_width mine p) (length c.loop-y.row) c.fill_row.new.out shape c.loop-y.invariant.long c.fill_row.ensures.row in
     record {
       long = c.fill_row.auto.out ∙ c.loop-y.invariant.long;
       room = c.fill_row.ensures.room ∙ c.loop-y.invariant.room;
