@@ -1,0 +1,6 @@
+mod NumberLemmas
+mod LookLemmas
+mod RowLemmas
+mod WalkLemmas
+mod GivenLemmas
+mod CommandLemmas

@@ -1,0 +1,31 @@
+// What the words ask for.
+use fv_io::Text;
+
+/// What the words of the command line ask for.
+#[derive(Drop)]
+pub enum Command {
+    /// The clip of a script, written as a stream.
+    Render {
+        script: Text,
+        options: RenderOptions,
+    },
+    /// What is known of the clip of a script.
+    Info {
+        script: Text,
+    },
+    /// A render in memory, of a clip that this number chooses.
+    SelfTest {
+        number: u32,
+    },
+}
+
+/// The options of a render.
+#[derive(Clone, Copy, Debug, PartialEq, Eq)]
+pub struct RenderOptions {
+    /// The capacity of the cache in frames, 1 to 256, where it was given.
+    pub cache: Option<u32>,
+    /// The number of workers, 1 to 16, where it was given.
+    pub threads: Option<u32>,
+    /// One worker alone, and windows of one frame.
+    pub plain: bool,
+}

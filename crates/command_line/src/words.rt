@@ -1,0 +1,133 @@
+// What the words ask for.
+ghost use Rattle.std.specs.Prelude.{◌≡◌, IfOk, OnOk, map, option_map};
+ghost use Rattle.std.specs.List.{All};
+ghost use Rattle.std.specs.Str.{IsUtf8};
+ghost use Rattle.clap.specs.Matches.{found_of};
+ghost use Rattle.clap.specs.Simple.{subcommand_rows_of};
+ghost use Rattle.clap.specs.Walk.{rows_of};
+ghost use Rattle.command_line.specs.Command.{command_in, options_with, render_with, info_with, self_test_with, flag_among, only};
+ghost use Rattle.command_line.specs.Parser.{texts_of, values_in, command_of_rows};
+
+use crate::command::{Command, RenderOptions};
+use crate::numbers::{number_among, number_in};
+use crate::parser::parser;
+use clap::ArgMatches;
+use clap::error::ErrorKind;
+use fv_io::Text;
+use std::alloc::{AllocError, Global};
+
+// The values that were given for a name.
+#[tactic(auto, using(crate::proofs::RowLemmas::values_read))]
+fn values_of<'m, 'a>(matches: &'m ArgMatches<'a>, name: &str) -> Option<&'m [&'a str]>
+    ensures { texts_of result ≡ values_in (rows_of (found_of matches.now)) name.now }
+{
+    matches.get_raw(name)
+}
+
+// The only one of some values.
+fn only<'a>(values: Option<&[&'a str]>) -> Option<&'a str>
+    ensures { option_map (λ value. value.now) result ≡ only (texts_of values.entry) }
+{
+    match values {
+        Some([value]) => Some(*value),
+        _ => None,
+    }
+}
+
+// Whether a flag was given. None comes where it was given twice.
+fn flag_among(values: Option<&[&str]>) -> Option<bool>
+    ensures { result ≡ flag_among (texts_of values.entry) }
+{
+    match values {
+        None | Some([]) => Some(false),
+        Some([_]) => Some(true),
+        Some(_) => None,
+    }
+}
+
+// The options of a render. None comes where one is given twice, or its value is out of range.
+fn options_of(matches: &ArgMatches) -> Option<RenderOptions>
+    ensures { result ≡ options_with (values_in (rows_of (found_of matches.now))) }
+{
+    Some(RenderOptions {
+        cache: number_among(1, 256, values_of(matches, "cache"))?,
+        threads: number_among(1, 16, values_of(matches, "threads"))?,
+        plain: flag_among(values_of(matches, "plain"))?,
+    })
+}
+
+fn render_of(alloc: Global, matches: &ArgMatches) -> Result<Option<Command>, AllocError>
+    ensures { IfOk result (λ command. command ≡ render_with (values_in (rows_of (found_of matches.now)))) }
+{
+    let Some(script) = only(values_of(matches, "operand")) else {
+        return Ok(None);
+    };
+    let Some(options) = options_of(matches) else {
+        return Ok(None);
+    };
+    let script = Text::from_str(alloc, script)?;
+    Ok(Some(Command::Render { script, options }))
+}
+
+fn info_of(alloc: Global, matches: &ArgMatches) -> Result<Option<Command>, AllocError>
+    ensures { IfOk result (λ command. command ≡ info_with (values_in (rows_of (found_of matches.now)))) }
+{
+    let Some(script) = only(values_of(matches, "operand")) else {
+        return Ok(None);
+    };
+    let script = Text::from_str(alloc, script)?;
+    Ok(Some(Command::Info { script }))
+}
+
+fn self_test_of(matches: &ArgMatches) -> Option<Command>
+    ensures { result ≡ self_test_with (values_in (rows_of (found_of matches.now))) }
+{
+    let word = only(values_of(matches, "operand"))?;
+    let number = number_in(0, u32::MAX, word)?;
+    Some(Command::SelfTest { number })
+}
+
+// What the matches ask for.
+fn command_from(alloc: Global, matches: &ArgMatches) -> Result<Option<Command>, AllocError>
+    ensures { IfOk result (λ command. command ≡ command_of_rows (subcommand_rows_of matches.now)) }
+{
+    let Some((name, matches)) = matches.subcommand() else {
+        return Ok(None);
+    };
+    if name == "render" {
+        render_of(alloc, matches)
+    } else if name == "info" {
+        info_of(alloc, matches)
+    } else if name == "selftest" {
+        Ok(self_test_of(matches))
+    } else {
+        Ok(None)
+    }
+}
+
+// The words as texts.
+fn texts_in(alloc: Global, words: &[Text]) -> Result<Vec<&str>, AllocError>
+    ensures texts { IfOk result (λ texts. map (λ text. text.now) texts.items ≡ words.now) }
+    ensures utf8 { OnOk result (All IsUtf8 words.now) }
+{
+    let mut texts = Vec::new(alloc);
+    for word in words {
+        texts.push(word.as_str())?;
+    }
+    Ok(texts)
+}
+
+/// What the words after the program's name ask for. None comes exactly where they break the rules on words, and an `Err`
+/// is out of memory.
+pub fn command_of(alloc: Global, words: &[Text]) -> Result<Option<Command>, AllocError>
+    ensures { IfOk result (λ command. command ≡ command_in words.now) }
+{
+    let texts = texts_in(alloc, words)?;
+    match parser(alloc)?.try_get_matches_from(texts.as_slice()) {
+        Ok(matches) => command_from(alloc, &matches),
+        Err(error) => match error.kind() {
+            ErrorKind::OutOfMemory => Err(AllocError),
+            _ => Ok(None),
+        },
+    }
+}
