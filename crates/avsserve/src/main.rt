@@ -1,10 +1,8 @@
 //! The program: `run_plain` over the real files and streams.
 #![tactic(auto)]
 
-mod real;
-
 use fv_io::{Sink, Text};
-use real::{RealFiles, RealSink};
+use fv_real::{RealFiles, RealSink};
 use serve_app::run_plain;
 use std::alloc::{AllocError, Global};
 use std::env;

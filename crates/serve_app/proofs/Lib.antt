@@ -4,4 +4,3 @@ mod PlayLemmas
 mod RunLemmas
 mod SayLemmas
 mod TextLemmas
-mod WordLemmas

@@ -1,5 +1,5 @@
 -- A script means one thing at most.
-use Rattle.std.proofs.Common.{◌≡◌, ◌∙◌, ℕ, zero, suc, ◌<◌, arith, List, [], ◌∷◌, length, get_or, slice_get, Option, Some, None, refl, sym, ap}
+use Rattle.std.proofs.Common.{◌≡◌, ◌∙◌, ℕ, zero, suc, ◌<◌, arith, List, [], ◌∷◌, length, get_or, slice_get, Some, refl, sym, ap}
 use Rattle.fv_io.specs.World.{World}
 use Rattle.fv_plane.specs.Clip.{Clip}
 use Rattle.fv_plane.specs.Picture.{Picture}
@@ -10,7 +10,7 @@ use Rattle.avs_meaning.specs.Meaning as m
 use Rattle.avs_meaning.specs.declared.state.SourceClip.{SourceClip}
 use Rattle.avs_expressions.specs.Sources.{sources_of}
 use Rattle.avs_files.specs.Opened.{IsFileOf}
-use Rattle.serve_app.specs.Meaning.{Meaning, a_clip, a_fault, HasPictures, IsBookOf, MeansClip, MeansOneThing}
+use Rattle.serve_app.specs.Meaning.{a_clip, a_fault, HasPictures, IsBookOf, MeansClip, MeansOneThing}
 
 -- an item that is there
 pub item_at : {X : Type 0} (xs : List X) (k : ℕ) → k < length xs → (x : X) × (slice_get xs k ≡ Some x)

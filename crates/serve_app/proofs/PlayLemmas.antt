@@ -1,5 +1,5 @@
 -- A clip that was put, and what a script means.
-use Rattle.std.proofs.Common.{◌≡◌, ◌∙◌, ◌⊎◌, ◌≤◌, ◌<◌, ℕ, zero, suc, arith, Bool, true, false, IsTrue, List, [], ◌∷◌, ◌++◌, length, take, map, get_or, slice_get, Option, Some, None, Err, All, refl, inl, inr, sym, ap, subst, drop}
+use Rattle.std.proofs.Common.{◌≡◌, ◌∙◌, ◌<◌, ℕ, zero, suc, arith, Bool, true, false, IsTrue, List, [], ◌∷◌, ◌++◌, length, take, map, get_or, slice_get, Some, IfOk, Result, Ok, Err, refl, inl, inr, sym, ap, ap₂, subst, drop}
 use Rattle.std.proofs.lemmas.List.{take_all, length-map}
 use Rattle.std.proofs.lemmas.List.FromFn.{length-range_with_len}
 use Rattle.std.specs.List.{range_with_len}
@@ -8,7 +8,7 @@ use Rattle.fv_io.specs.World.{World, InWorld}
 use Rattle.fv_io.specs.Told.{with_piece}
 use Rattle.fv_io.specs.declared.source.Source as of_source
 use Rattle.fv_io.specs.declared.sink.Sink.{Ghosts}
-use Rattle.fv_io.specs.Sink.{Puts}
+use Rattle.fv_io.specs.Sink.{Puts, PutsPrefix}
 use Rattle.fv_plane.specs.declared.format.Info.{Info}
 use Rattle.fv_plane.specs.Bytes.{bytes_of}
 use Rattle.fv_plane.specs.Clip.{Clip}
@@ -19,9 +19,10 @@ use Rattle.seq_source.specs.FrameSource.{FrameSource}
 use Rattle.clip_term.specs.ClipTerm.{Act, source, plain, time, space, joined, soft}
 use Rattle.clip_graph.specs.Plan.{Application, application_at}
 use Rattle.clip_graph.specs.Unfolding.{key_picture}
-use Rattle.clip_frames.specs.Sources.{IsBook, HasPictures as HasFramesOf, KeepAll, AreSources, source_infos, source_info}
+use Rattle.clip_frames.specs.Sources.{IsBook, KeepAll, AreSources, source_infos}
 use Rattle.clip_frames.specs.Faults.{HasFailed, HasChanged}
 use Rattle.clip_frames.proofs.CallerLemmas.{none_changed}
+use Rattle.graph_text.specs.InfoText.{info_text}
 use Rattle.clip_render.specs.Clips.{clip_at, IsClipOf}
 use Rattle.clip_render.specs.Render.{PutsFrames, PutsSome}
 use Rattle.avs_eval.specs.Evaluates.{Names}
@@ -37,8 +38,9 @@ use Rattle.serve_app.specs.declared.fault.InputFault.TheVariants.{NotThere, Y4m,
 use Rattle.serve_app.specs.declared.stop.Stop.{Stop}
 use Rattle.serve_app.specs.declared.stop.Stop.TheVariants as of_stop
 use Rattle.serve_app.specs.Meaning.{meaning_in, HasPictures, IsBookOf, MeansClip}
-use Rattle.serve_app.specs.Playing.{Tells, EndsBefore, StreamShows, SomeFailed}
-use Rattle.serve_app.specs.Rendered.{PutsWholeFrames, PutsFront}
+use Rattle.serve_app.specs.Info.{IsInfoOf, IsToldInfo, InfoShows}
+use Rattle.serve_app.specs.Playing.{Tells, EndsBefore, StreamShows, SomeFailed, PutsClip, PutsInfo}
+use Rattle.serve_app.specs.Rendered.{PutsWholeFrames}
 use Rattle.serve_app.specs.Stop.{IsOfScript, ScriptHasClip, RenderShows}
 use Rattle.serve_app.proofs.MeaningLemmas.{item_at, same_plan, same_root}
 
@@ -164,10 +166,34 @@ module _ {S : Type 0} (of : of_source.Ghosts S) (told : Bool) (world : World) (s
         ∙ ap (λ (l : List Picture). with_piece (sink.bytes out) (head clip.info ++ frames_text (map bytes_of l))) all
 
     -- all frames are the clip
-    pub all_frames : PutsFrames of sink plan root sources out put (application_at plan root).info.frames
-        → InWorld (told_of told world) (λ w. (clip : Clip) × MeansClip w script clip × Puts sink out put (stream clip))
-    all_frames frames = in_told told world (λ w. (clip : Clip) × MeansClip w script clip × Puts sink out put (stream clip)) (λ tells.
-        (let one = a_clip_at tells in (one.0, one.1, whole_clip frames one.0 (of_means tells one.0 one.1))))
+    pub all_frames : (frames : ℕ) → frames ≡ (application_at plan root).info.frames → PutsFrames of sink plan root sources out put frames
+        → InWorld (told_of told world) (λ w. PutsClip sink w script out put frames)
+    unfolding a_clip_at
+    all_frames frames all some = in_told told world (λ w. PutsClip sink w script out put frames) (λ tells.
+        (let one = a_clip_at tells in
+        record {
+          clip = one.0;
+          means = one.1;
+          put = whole_clip (rw all at some) one.0 (of_means tells one.0 one.1);
+          frames_are = all ∙ ap (λ (c : Clip). c.info.frames) (sym (let is = one.1 in is.clip_is));
+        }))
+
+    -- the text of the plan is what is known of the clip
+    told_info : (text : List ℕ) → text ≡ info_text plan root 1 1 → IsTrue told → IsInfoOf world script text
+    told_info text is tells = record { plan = plan; root = root; means = means tells; text_is = is }
+
+    pub info_put : (text : List ℕ) → text ≡ info_text plan root 1 1 → Puts sink out put text → InWorld (told_of told world) (λ w. PutsInfo sink w script out put)
+    info_put text is puts = in_told told world (λ w. PutsInfo sink w script out put) (λ tells. record { text = text; info = told_info text is tells; put = puts })
+
+    pub info_cut : (text : List ℕ) → text ≡ info_text plan root 1 1 → PutsPrefix sink out put text → (other : List ℕ) → IsToldInfo (told_of told world) script other → PutsPrefix sink out put other
+    info_cut text is cut other too =
+        let both = told_same told world too.world too.told_is in
+        let info : IsInfoOf world script other = rw (sym both.1) at too.info in
+        let same = sym info.means ∙ means both.0 in
+        let plans = same_plan info.plan plan info.root root same in
+        let roots = same_root info.plan plan info.root root same in
+        let texts : text ≡ other = is ∙ ap₂ (λ p r. info_text p r 1 1) (sym plans) (sym roots) ∙ sym info.text_is in
+        rw texts at cut
 
     some_frames : PutsSome of sink plan root sources out put → PutsWholeFrames sink out put (IsOfScript (told_of told world) script) (ScriptHasClip (told_of told world) script)
     some_frames (inl none) = inl none
@@ -223,6 +249,21 @@ before_stops told world script sink out failed before now of_stop.Read tells end
 before_stops told world script sink out failed before now of_stop.Write tells ends fails = absurd ends
 before_stops told world script sink out failed before now of_stop.Memory tells ends fails = inl refl
 
+-- the same, where the text of the clip was to be put
+pub before_tells : {K : Type 0} (told : Bool) (world : World) (script : List ℕ) (sink : Ghosts K) (out : K) (failed : Type 0) (before now : ℕ) (stop : Stop)
+    → (IsTrue told → Tells (meaning_in world script) (Err stop)) → EndsBefore {X = Opened} before now (Err stop) → (HasRisen before now → failed)
+    → InfoShows failed sink (told_of told world) script out out stop
+before_tells told world script sink out failed before now (of_stop.Script kind name line) tells ends fails =
+    before_stops told world script sink out failed before now (of_stop.Script kind name line) tells ends fails
+before_tells told world script sink out failed before now (of_stop.Input name NotThere) tells ends fails =
+    before_stops told world script sink out failed before now (of_stop.Input name NotThere) tells ends fails
+before_tells told world script sink out failed before now (of_stop.Input name (Y4m fault)) tells ends fails =
+    before_stops told world script sink out failed before now (of_stop.Input name (Y4m fault)) tells ends fails
+before_tells told world script sink out failed before now (of_stop.Input name (Changed frame want got)) tells ends fails = absurd ends
+before_tells told world script sink out failed before now of_stop.Read tells ends fails = (fails ends, refl)
+before_tells told world script sink out failed before now of_stop.Write tells ends fails = absurd ends
+before_tells told world script sink out failed before now of_stop.Memory tells ends fails = refl
+
 -- ---- what the render leaves
 
 module _ {S : Type 0} (of : of_source.Ghosts S) (told : Bool) (world : World) where
@@ -255,3 +296,8 @@ written [] (y ∷ ys) n same long = absurd (omega (arith, same))
 written (x ∷ xs) [] n same long = absurd (omega (arith, same))
 written (x ∷ xs) (y ∷ ys) zero same long = absurd (omega (arith, long))
 written (x ∷ xs) (y ∷ ys) (suc n) same long = ap (λ l. x ∷ l) (written xs ys n (omega (arith, same)) (omega (arith, long)))
+
+-- two facts of an answer that is Ok
+pub both_of : {T E : Type 0} (P Q R : T → Type 0) (result : Result T E) → IfOk result P → IfOk result Q → ((x : T) → P x → Q x → R x) → IfOk result R
+both_of P Q R (Ok x) p q both = both x p q
+both_of P Q R (Err e) p q both = tt

@@ -1,11 +1,12 @@
--- The headline, from what a render that was asked for shows.
-use Rattle.std.proofs.Common.{◌≡◌, ◌⊎◌, ℕ, ◌≤◌, List, Option, Some, inl, inr, refl, sym, ◌∙◌, ap, arith}
+-- What a run leaves, from what its parts show.
+use Rattle.std.proofs.Common.{◌≡◌, ◌⊎◌, ℕ, ◌≤◌, List, [], Option, Some, None, Result, Ok, Err, inl, inr, refl, sym, ◌∙◌, ap, ap₂, subst, codes, arith}
 use Rattle.fv_io.specs.declared.files.Files as of_files
 use Rattle.fv_io.specs.declared.sink.Sink.{Ghosts}
 use Rattle.fv_io.specs.Files.{KeepsFiles, FilesFailed}
-use Rattle.fv_io.specs.Sink.{Puts, PutsPrefix, IsLater, SinkFailed}
+use Rattle.fv_io.specs.Sink.{PutsPrefix, IsLater, SinkFailed}
 use Rattle.fv_io.specs.World.{World, InWorld}
-use Rattle.fv_io.proofs.CallerLemmas.{gets_all}
+use Rattle.fv_io.specs.Told.{with_piece}
+use Rattle.fv_io.proofs.CallerLemmas.{gets_all, gets_none}
 use Rattle.fv_plane.specs.Clip.{Clip}
 use Rattle.y4m_stream.specs.Stream.{stream}
 use Rattle.avs_meaning.specs.Faults.{Fault, input}
@@ -16,19 +17,25 @@ use Rattle.serve_app.specs.declared.fault.InputFault.TheVariants.{NotThere, Y4m,
 use Rattle.serve_app.specs.declared.stop.Stop.{Stop}
 use Rattle.serve_app.specs.declared.stop.Stop.TheVariants.{Script, Input, Read, Write, Memory}
 use Rattle.serve_app.specs.StopKinds.{status_of_stop}
-use Rattle.serve_app.specs.Words.{IsRender}
+use Rattle.serve_app.specs.Info.{IsInfoOf, IsToldInfo, InfoShows}
+use Rattle.serve_app.specs.Playing.{PutsClip, PutsInfo}
 use Rattle.serve_app.specs.Meaning.{Meaning, a_clip, a_fault, MeansClip, Means, status_of, status_of_fault}
 use Rattle.clip_render.specs.Rendered.{PutsNothing}
 use Rattle.serve_app.specs.Rendered.{PutsWholeFrames}
-use Rattle.serve_app.specs.Stop.{IsOfScript, ScriptHasClip, RenderShows}
+use Rattle.serve_app.specs.Stop.{IsOfScript, ScriptHasClip, PutsBefore, IsScriptFault, IsNamedFault, RenderShows}
 use Rattle.serve_app.specs.Lines.{Says, stop_line, usage_line, read_line, write_line, memory_line}
-use Rattle.serve_app.specs.Headline.{AskForClip, IsAskedFor, HaveClip, AskForNone, EndsByScript, EndsByInput, Headline}
-use Rattle.serve_app.proofs.MeaningLemmas.{means_one_thing}
-use Rattle.serve_app.proofs.TextLemmas.{whole_frames_of, none_is_prefix, frames_are_prefix}
-
--- the words ask for one script at most
-same_script : (words : List (List ℕ)) (script other : List ℕ) → IsRender words script → IsRender words other → script ≡ other
-same_script words script other one two = let first = one.command in let second = two.command in cc
+use Rattle.serve_app.specs.Headline.{EndsByScript, EndsByInput, Causes, Headline, InfoEnds, Ends}
+use Rattle.serve_app.specs.SelfTest.{IsLineOf, IsSelfLine, PutsSelfLine, SelfTestShows, SelfTestEnds}
+use Rattle.serve_app.specs.Run.{Does, Finishes}
+use Rattle.command_line.specs.Command.{command_in}
+use Rattle.command_line.specs.declared.command.Command.{Command}
+use Rattle.command_line.specs.declared.command.Command.TheVariants as c
+use Rattle.command_line.specs.declared.command.RenderOptions.{RenderOptions}
+use Rattle.graph_text.specs.InfoText.{info_text}
+use Rattle.self_test.specs.Digested.{digest_line}
+use Rattle.self_test.specs.Workload.{self_world}
+use Rattle.serve_app.proofs.MeaningLemmas.{means_one_thing, same_plan, same_root}
+use Rattle.serve_app.proofs.TextLemmas.{none_is_prefix, frames_are_prefix}
 
 clip_of : (one other : Clip) → a_clip one ≡ a_clip other → one ≡ other
 clip_of one other is = cc
@@ -46,90 +53,143 @@ never_zero Read is = omega (arith, is)
 never_zero Write is = omega (arith, is)
 never_zero Memory is = omega (arith, is)
 
-never_one : (stop : Stop) → status_of_stop stop ≡ 1 → ⊥
-never_one (Script kind name line) is = omega (arith, is)
-never_one (Input name fault) is = omega (arith, is)
-never_one Read is = omega (arith, is)
-never_one Write is = omega (arith, is)
-never_one Memory is = omega (arith, is)
+known_of : (stop : Stop) → (status_of_stop stop ≡ 0) ⊎ (2 ≤ status_of_stop stop) × (status_of_stop stop ≤ 6)
+known_of (Script kind name line) = inr (omega arith, omega arith)
+known_of (Input name fault) = inr (omega arith, omega arith)
+known_of Read = inr (omega arith, omega arith)
+known_of Write = inr (omega arith, omega arith)
+known_of Memory = inr (omega arith, omega arith)
 
-most : (stop : Stop) → status_of_stop stop ≤ 6
-most (Script kind name line) = omega arith
-most (Input name fault) = omega arith
-most Read = omega arith
-most Write = omega arith
-most Memory = omega arith
+module _ {F S K E : Type 0} (files : of_files.Ghosts F S) (sink : Ghosts K) (lines : Ghosts E) (f g : F) (out new : K) (err said : E) (script : List ℕ) where
+  -- ---- causes
 
-module _ {F S K E : Type 0} (files : of_files.Ghosts F S) (sink : Ghosts K) (lines : Ghosts E) (words : List (List ℕ)) (script : List ℕ) (f g : F) (out new : K) (err said : E) (asked : IsRender words script) where
-  told : Option World
-  told = files.world f
+  -- what a stop shows, whatever was to be put
+  abbrev Cause : Stop → Type 0
+  Cause (Script kind name line) = IsScriptFault (files.world f) script kind name line × PutsNothing sink out new
+  Cause (Input name fault) = IsNamedFault (files.world f) script name fault × PutsBefore sink out new fault
+  Cause Read = FilesFailed files f g
+  Cause Write = SinkFailed sink out new × ScriptHasClip (files.world f) script
+  Cause Memory = Unit {0}
 
-  -- ---- what the words ask for is what the script means
+  script_of : (stop : Stop) → Cause stop → Says lines err said (stop_line stop) → status_of_stop stop ≡ 2 → EndsByScript files sink lines f g out new err said script
+  script_of (Script kind name line) shown says is = record { kind = kind; name = name; at = line; is = shown.0; line = says; put = shown.1 }
+  script_of (Input name fault) shown says is = absurd (omega (arith, is))
+  script_of Read shown says is = absurd (omega (arith, is))
+  script_of Write shown says is = absurd (omega (arith, is))
+  script_of Memory shown says is = absurd (omega (arith, is))
 
-  means_of : (world : World) (clip : Clip) → AskForClip world words clip → MeansClip world script clip
-  means_of world clip ask = rw (same_script words ask.script script ask.asked asked) at ask.means
+  input_of : (stop : Stop) → Cause stop → Says lines err said (stop_line stop) → status_of_stop stop ≡ 3 → EndsByInput files sink lines f g out new err said script
+  input_of (Script kind name line) shown says is = absurd (omega (arith, is))
+  input_of (Input name fault) shown says is = record { name = name; fault = fault; is = shown.0; line = says; put = shown.1 }
+  input_of Read shown says is = absurd (omega (arith, is))
+  input_of Write shown says is = absurd (omega (arith, is))
+  input_of Memory shown says is = absurd (omega (arith, is))
 
-  ask_for : (world : World) (clip : Clip) → MeansClip world script clip → AskForClip world words clip
-  ask_for world clip means = record { script = script; asked = asked; means = means }
+  read_of : (stop : Stop) → Cause stop → Says lines err said (stop_line stop) → status_of_stop stop ≡ 4 → FilesFailed files f g × Says lines err said read_line
+  read_of (Script kind name line) shown says is = absurd (omega (arith, is))
+  read_of (Input name fault) shown says is = absurd (omega (arith, is))
+  read_of Read shown says is = (shown, says)
+  read_of Write shown says is = absurd (omega (arith, is))
+  read_of Memory shown says is = absurd (omega (arith, is))
 
-  of_asked : (clip : Clip) → IsAskedFor (files.world f) words clip → IsOfScript (files.world f) script clip
-  of_asked clip is = record { world = is.world; told_is = is.told_is; means = means_of is.world clip is.ask }
+  write_of : (stop : Stop) → Cause stop → Says lines err said (stop_line stop) → status_of_stop stop ≡ 5
+      → SinkFailed sink out new × ScriptHasClip (files.world f) script × Says lines err said write_line
+  write_of (Script kind name line) shown says is = absurd (omega (arith, is))
+  write_of (Input name fault) shown says is = absurd (omega (arith, is))
+  write_of Read shown says is = absurd (omega (arith, is))
+  write_of Write shown says is = (shown.0, shown.1, says)
+  write_of Memory shown says is = absurd (omega (arith, is))
 
-  ask_has : ScriptHasClip (files.world f) script → HaveClip (files.world f) words
-  ask_has has world is = let one = has world is in (one.0, ask_for world one.0 one.1)
+  memory_of : (stop : Stop) → Says lines err said (stop_line stop) → status_of_stop stop ≡ 6 → Says lines err said memory_line
+  memory_of (Script kind name line) says is = absurd (omega (arith, is))
+  memory_of (Input name fault) says is = absurd (omega (arith, is))
+  memory_of Read says is = absurd (omega (arith, is))
+  memory_of Write says is = absurd (omega (arith, is))
+  memory_of Memory says is = says
 
-  same_meaning : (world : World) (other : List ℕ) (here meaning : Meaning) → IsRender words other → Means world script here → Means world other meaning → status_of here ≡ status_of meaning
-  same_meaning world other here meaning too one two =
-      ap status_of (means_one_thing world other here meaning (rw (same_script words script other asked too) at one) two)
+  same_status : (world : World) (here meaning : Meaning) → Means world script here → Means world script meaning → status_of here ≡ status_of meaning
+  same_status world here meaning one two = ap status_of (means_one_thing world script here meaning one two)
 
-  -- ---- a render that wrote the whole text
+  complete_of : (stop : Stop) → Cause stop → (world : World) (meaning : Meaning) → files.world f ≡ Some world → Means world script meaning
+      → (FilesFailed files f g → ⊥) → (SinkFailed sink out new → ⊥) → (status_of_stop stop ≡ status_of meaning) ⊎ (status_of_stop stop ≡ 6)
+  complete_of (Script kind name line) shown world meaning is means no_fault no_failure =
+      let wrong = shown.0 world is in
+      inl (sym (script_status kind name line wrong.0 wrong.1.0) ∙ same_status world (a_fault wrong.0) meaning wrong.1.1 means)
+  complete_of (Input name NotThere) shown world meaning is means no_fault no_failure = inl (same_status world (a_fault (input name clip_fault.NotThere)) meaning (shown.0 world is) means)
+  complete_of (Input name (Y4m fault)) shown world meaning is means no_fault no_failure = inl (same_status world (a_fault (input name (clip_fault.Y4m fault))) meaning (shown.0 world is) means)
+  complete_of (Input name (Changed frame want got)) shown world meaning is means no_fault no_failure = absurd (shown.0 world is)
+  complete_of Read shown world meaning is means no_fault no_failure = absurd (no_fault shown)
+  complete_of Write shown world meaning is means no_fault no_failure = absurd (no_failure shown.0)
+  complete_of Memory shown world meaning is means no_fault no_failure = inr refl
 
-  pub headline_of_whole : InWorld (files.world f) (λ world. (clip : Clip) × MeansClip world script clip × Puts sink out new (stream clip))
-      → said ≡ err → KeepsFiles files f g → IsLater sink out new → IsLater lines err said → Headline files sink lines words f g out new err said 0
-  headline_of_whole whole quiet keeps later later_lines = record {
-    whole = λ zero world is. (let one = whole world is in (one.0, ask_for world one.0 one.1, one.2));
-    prefix = λ clip is.
-        (let one = whole is.world is.told_is in
-        let same = clip_of one.0 clip (means_one_thing is.world script (a_clip one.0) (a_clip clip) one.1 (means_of is.world clip is.ask)) in
-        gets_all (sink.bytes out) (sink.bytes new) (stream clip) (rw same at one.2));
-    nothing = λ world is none. (let one = whole world is in absurd (none one.0 (ask_for world one.0 one.1)));
-    whole_frames = λ which. absurd (omega (arith, which));
-    known = omega arith;
+  causes_of : (stop : Stop) → Cause stop → Says lines err said (stop_line stop) → Causes files sink lines f g out new err said script (status_of_stop stop)
+  causes_of stop shown says = record {
+    known = known_of stop;
+    quiet = λ zero. absurd (never_zero stop zero);
+    by_script = script_of stop shown says;
+    by_input = input_of stop shown says;
+    read = read_of stop shown says;
+    write = write_of stop shown says;
+    memory = memory_of stop says;
+    complete = complete_of stop shown;
+  }
+
+  -- nothing was wrong
+  causes_of_whole : said ≡ err → ScriptHasClip (files.world f) script → Causes files sink lines f g out new err said script 0
+  causes_of_whole quiet has = record {
+    known = inl refl;
     quiet = λ zero. quiet;
-    usage = λ is. absurd (omega (arith, is));
-    only_usage = λ none. absurd (none script asked);
-    script = λ is. absurd (omega (arith, is));
-    input = λ is. absurd (omega (arith, is));
+    by_script = λ is. absurd (omega (arith, is));
+    by_input = λ is. absurd (omega (arith, is));
     read = λ is. absurd (omega (arith, is));
     write = λ is. absurd (omega (arith, is));
     memory = λ is. absurd (omega (arith, is));
-    complete = λ world other meaning is too means no_fault no_failure. (let one = whole world is in inl (same_meaning world other (a_clip one.0) meaning too one.1 means));
-    keeps = keeps;
-    later = later;
-    later_lines = later_lines;
-    untouched = λ is. absurd (omega (arith, is));
+    complete = λ world meaning is means no_fault no_failure. (let one = has world is in inl (same_status world (a_clip one.0) meaning one.1 means));
   }
 
-  -- ---- a render that stopped
+  -- ---- a render
+
+  has_clip : (frames : ℕ) → InWorld (files.world f) (λ world. PutsClip sink world script out new frames) → ScriptHasClip (files.world f) script
+  has_clip frames whole world is = let one = whole world is in (one.clip, one.means)
+
+  pub headline_of_whole : (frames : ℕ) → InWorld (files.world f) (λ world. PutsClip sink world script out new frames) → said ≡ err
+      → Headline files sink lines f g out new err said script 0
+  headline_of_whole frames whole quiet = record {
+    whole = λ zero world is. (let one = whole world is in (one.clip, one.means, one.put));
+    prefix = λ clip is.
+        (let one = whole is.world is.told_is in
+        let same = clip_of one.clip clip (means_one_thing is.world script (a_clip one.clip) (a_clip clip) one.means is.means) in
+        gets_all (sink.bytes out) (sink.bytes new) (stream clip) (rw same at one.put));
+    nothing = λ world is none. (let one = whole world is in absurd (none one.clip one.means));
+    whole_frames = λ which. absurd (omega (arith, which));
+    causes = causes_of_whole quiet (has_clip frames whole);
+  }
 
   module _ (stop : Stop) where
     abbrev Shown : Type 0
     Shown = RenderShows (FilesFailed files f g) sink (files.world f) script out new stop
 
-  prefix_of : (stop : Stop) → Shown stop → (clip : Clip) → IsAskedFor (files.world f) words clip → PutsPrefix sink out new (stream clip)
+  cause_of : (stop : Stop) → Shown stop → Cause stop
+  cause_of (Script kind name line) shown = shown
+  cause_of (Input name fault) shown = shown
+  cause_of Read shown = shown.0
+  cause_of Write shown = (shown.0, (let front = shown.1 in front.has_one))
+  cause_of Memory shown = tt
+
+  prefix_of : (stop : Stop) → Shown stop → (clip : Clip) → IsOfScript (files.world f) script clip → PutsPrefix sink out new (stream clip)
   prefix_of (Script kind name line) shown clip is = none_is_prefix sink out new clip shown.1
   prefix_of (Input name NotThere) shown clip is = none_is_prefix sink out new clip shown.1
   prefix_of (Input name (Y4m fault)) shown clip is = none_is_prefix sink out new clip shown.1
   prefix_of (Input name (Changed frame want got)) shown clip is = absurd (shown.0 is.world is.told_is)
-  prefix_of Read shown clip is = frames_are_prefix sink out new clip _ _ (of_asked clip is) shown.1
-  prefix_of Write shown clip is = (let front = shown.1 in front.prefix clip (of_asked clip is))
-  prefix_of Memory shown clip is = frames_are_prefix sink out new clip _ _ (of_asked clip is) shown
+  prefix_of Read shown clip is = frames_are_prefix sink out new clip _ _ is shown.1
+  prefix_of Write shown clip is = (let front = shown.1 in front.prefix clip is)
+  prefix_of Memory shown clip is = frames_are_prefix sink out new clip _ _ is shown
 
-  nothing_of : (stop : Stop) → Shown stop → InWorld (files.world f) (λ world. ((clip : Clip) → AskForClip world words clip → ⊥) → PutsNothing sink out new)
+  nothing_of : (stop : Stop) → Shown stop → InWorld (files.world f) (λ world. ((clip : Clip) → MeansClip world script clip → ⊥) → PutsNothing sink out new)
   nothing_of stop shown world is none = by_stop stop shown
     where
       no_clip : ScriptHasClip (files.world f) script → ⊥
-      no_clip has = let one = has world is in none one.0 (ask_for world one.0 one.1)
+      no_clip has = let one = has world is in none one.0 one.1
 
       no_frames : PutsWholeFrames sink out new (IsOfScript (files.world f) script) (ScriptHasClip (files.world f) script) → PutsNothing sink out new
       no_frames (inl put) = put
@@ -144,103 +204,270 @@ module _ {F S K E : Type 0} (files : of_files.Ghosts F S) (sink : Ghosts K) (lin
       by_stop Write shown = absurd (no_clip (let front = shown.1 in front.has_one))
       by_stop Memory shown = no_frames shown
 
-  frames_of : (stop : Stop) → Shown stop → (status_of_stop stop ≡ 4) ⊎ (status_of_stop stop ≡ 6) → PutsWholeFrames sink out new (IsAskedFor (files.world f) words) (HaveClip (files.world f) words)
+  frames_of : (stop : Stop) → Shown stop → (status_of_stop stop ≡ 4) ⊎ (status_of_stop stop ≡ 6) → PutsWholeFrames sink out new (IsOfScript (files.world f) script) (ScriptHasClip (files.world f) script)
   frames_of (Script kind name line) shown which = absurd (omega (arith, which))
   frames_of (Input name fault) shown which = absurd (omega (arith, which))
-  frames_of Read shown which = whole_frames_of sink out new _ _ _ _ of_asked ask_has shown.1
+  frames_of Read shown which = shown.1
   frames_of Write shown which = absurd (omega (arith, which))
-  frames_of Memory shown which = whole_frames_of sink out new _ _ _ _ of_asked ask_has shown
+  frames_of Memory shown which = shown
 
-  script_of : (stop : Stop) → Shown stop → Says lines err said (stop_line stop) → status_of_stop stop ≡ 2 → EndsByScript files sink lines words f g out new err said
-  script_of (Script kind name line) shown says is = record { script = script; asked = asked; kind = kind; name = name; at = line; is = shown.0; line = says; put = shown.1 }
-  script_of (Input name fault) shown says is = absurd (omega (arith, is))
-  script_of Read shown says is = absurd (omega (arith, is))
-  script_of Write shown says is = absurd (omega (arith, is))
-  script_of Memory shown says is = absurd (omega (arith, is))
-
-  input_of : (stop : Stop) → Shown stop → Says lines err said (stop_line stop) → status_of_stop stop ≡ 3 → EndsByInput files sink lines words f g out new err said
-  input_of (Script kind name line) shown says is = absurd (omega (arith, is))
-  input_of (Input name fault) shown says is = record { script = script; asked = asked; name = name; fault = fault; is = shown.0; line = says; put = shown.1 }
-  input_of Read shown says is = absurd (omega (arith, is))
-  input_of Write shown says is = absurd (omega (arith, is))
-  input_of Memory shown says is = absurd (omega (arith, is))
-
-  read_of : (stop : Stop) → Shown stop → Says lines err said (stop_line stop) → status_of_stop stop ≡ 4 → FilesFailed files f g × Says lines err said read_line
-  read_of (Script kind name line) shown says is = absurd (omega (arith, is))
-  read_of (Input name fault) shown says is = absurd (omega (arith, is))
-  read_of Read shown says is = (shown.0, says)
-  read_of Write shown says is = absurd (omega (arith, is))
-  read_of Memory shown says is = absurd (omega (arith, is))
-
-  write_of : (stop : Stop) → Shown stop → Says lines err said (stop_line stop) → status_of_stop stop ≡ 5 → SinkFailed sink out new × HaveClip (files.world f) words × Says lines err said write_line
-  write_of (Script kind name line) shown says is = absurd (omega (arith, is))
-  write_of (Input name fault) shown says is = absurd (omega (arith, is))
-  write_of Read shown says is = absurd (omega (arith, is))
-  write_of Write shown says is = (shown.0, ask_has (let front = shown.1 in front.has_one), says)
-  write_of Memory shown says is = absurd (omega (arith, is))
-
-  memory_of : (stop : Stop) → Says lines err said (stop_line stop) → status_of_stop stop ≡ 6 → Says lines err said memory_line
-  memory_of (Script kind name line) says is = absurd (omega (arith, is))
-  memory_of (Input name fault) says is = absurd (omega (arith, is))
-  memory_of Read says is = absurd (omega (arith, is))
-  memory_of Write says is = absurd (omega (arith, is))
-  memory_of Memory says is = says
-
-  complete_of : (stop : Stop) → Shown stop → (world : World) (other : List ℕ) (meaning : Meaning) → files.world f ≡ Some world → IsRender words other → Means world other meaning
-      → (FilesFailed files f g → ⊥) → (SinkFailed sink out new → ⊥) → (status_of_stop stop ≡ status_of meaning) ⊎ (status_of_stop stop ≡ 6)
-  complete_of (Script kind name line) shown world other meaning is too means no_fault no_failure =
-      let wrong = shown.0 world is in
-      inl (sym (script_status kind name line wrong.0 wrong.1.0) ∙ same_meaning world other (a_fault wrong.0) meaning too wrong.1.1 means)
-  complete_of (Input name NotThere) shown world other meaning is too means no_fault no_failure = inl (same_meaning world other (a_fault (input name clip_fault.NotThere)) meaning too (shown.0 world is) means)
-  complete_of (Input name (Y4m fault)) shown world other meaning is too means no_fault no_failure = inl (same_meaning world other (a_fault (input name (clip_fault.Y4m fault))) meaning too (shown.0 world is) means)
-  complete_of (Input name (Changed frame want got)) shown world other meaning is too means no_fault no_failure = absurd (shown.0 world is)
-  complete_of Read shown world other meaning is too means no_fault no_failure = absurd (no_fault shown.0)
-  complete_of Write shown world other meaning is too means no_fault no_failure = absurd (no_failure shown.0)
-  complete_of Memory shown world other meaning is too means no_fault no_failure = inr refl
-
-  pub headline_of_stop : (stop : Stop) → Shown stop → Says lines err said (stop_line stop) → KeepsFiles files f g → IsLater sink out new → Headline files sink lines words f g out new err said (status_of_stop stop)
-  headline_of_stop stop shown says keeps later = record {
+  pub headline_of_stop : (stop : Stop) → Shown stop → Says lines err said (stop_line stop) → Headline files sink lines f g out new err said script (status_of_stop stop)
+  headline_of_stop stop shown says = record {
     whole = λ zero. absurd (never_zero stop zero);
     prefix = prefix_of stop shown;
     nothing = nothing_of stop shown;
     whole_frames = frames_of stop shown;
-    known = most stop;
-    quiet = λ zero. absurd (never_zero stop zero);
-    usage = λ one. absurd (never_one stop one);
-    only_usage = λ none. absurd (none script asked);
-    script = script_of stop shown says;
-    input = input_of stop shown says;
-    read = read_of stop shown says;
-    write = write_of stop shown says;
-    memory = memory_of stop says;
-    complete = complete_of stop shown;
-    keeps = keeps;
-    later = later;
-    later_lines = says.later;
-    untouched = λ one. absurd (never_one stop one);
+    causes = causes_of stop (cause_of stop shown) says;
   }
 
--- ---- words that ask for no render
+  -- ---- what is known of the clip
 
-pub headline_of_usage : {F S K E : Type 0} (files : of_files.Ghosts F S) (sink : Ghosts K) (lines : Ghosts E) (words : List (List ℕ)) (f : F) (out : K) (err said : E) → AskForNone words → Says lines err said usage_line
-    → Headline files sink lines words f f out out err said 1
-headline_of_usage files sink lines words f out err said none says = record {
-  whole = λ is. absurd (omega (arith, is));
-  prefix = λ clip is. (let ask = is.ask in absurd (none ask.script ask.asked));
-  nothing = λ world is no_clip. refl;
-  whole_frames = λ which. inl refl;
-  known = omega arith;
-  quiet = λ is. absurd (omega (arith, is));
-  usage = λ one. (none, says);
-  only_usage = λ nothing. refl;
-  script = λ is. absurd (omega (arith, is));
-  input = λ is. absurd (omega (arith, is));
-  read = λ is. absurd (omega (arith, is));
-  write = λ is. absurd (omega (arith, is));
-  memory = λ is. absurd (omega (arith, is));
-  complete = λ world script meaning is asked means no_fault no_failure. absurd (none script asked);
-  keeps = record { world = refl; given = refl; later = omega arith };
-  later = omega arith;
-  later_lines = says.later;
-  untouched = λ one. (refl, refl);
-}
+  one_info : (world : World) (one other : List ℕ) → IsInfoOf world script one → IsInfoOf world script other → one ≡ other
+  one_info world one other a b =
+      let same = sym a.means ∙ b.means in
+      let plan = same_plan a.plan b.plan a.root b.root same in
+      let root = same_root a.plan b.plan a.root b.root same in
+      a.text_is ∙ ap₂ (λ p r. info_text p r 1 1) plan root ∙ sym b.text_is
+
+  pub info_of_whole : InWorld (files.world f) (λ world. PutsInfo sink world script out new) → ScriptHasClip (files.world f) script → said ≡ err
+      → InfoEnds files sink lines f g out new err said script 0
+  info_of_whole whole has quiet = record {
+    whole = λ zero world is. (let one = whole world is in (one.text, one.info, one.put));
+    prefix = λ text is.
+        (let one = whole is.world is.told_is in
+        gets_all (sink.bytes out) (sink.bytes new) text (rw (one_info is.world one.text text one.info is.info) at one.put));
+    nothing = λ world is none. (let one = has world is in absurd (none one.0 one.1));
+    unwritten = λ which. absurd (omega (arith, which));
+    causes = causes_of_whole quiet has;
+  }
+
+  module _ (stop : Stop) where
+    abbrev Told : Type 0
+    Told = InfoShows (FilesFailed files f g) sink (files.world f) script out new stop
+
+  info_cause : (stop : Stop) → Told stop → Cause stop
+  info_cause (Script kind name line) shown = shown
+  info_cause (Input name NotThere) shown = shown
+  info_cause (Input name (Y4m fault)) shown = shown
+  info_cause (Input name (Changed frame want got)) shown = absurd shown
+  info_cause Read shown = shown.0
+  info_cause Write shown = (shown.0, shown.1)
+  info_cause Memory shown = tt
+
+  nothing_cut : (text : List ℕ) → PutsNothing sink out new → PutsPrefix sink out new text
+  nothing_cut text none = rw none (gets_none (sink.bytes out) text)
+
+  info_prefix : (stop : Stop) → Told stop → (text : List ℕ) → IsToldInfo (files.world f) script text → PutsPrefix sink out new text
+  info_prefix (Script kind name line) shown text is = nothing_cut text shown.1
+  info_prefix (Input name NotThere) shown text is = nothing_cut text shown.1
+  info_prefix (Input name (Y4m fault)) shown text is = nothing_cut text shown.1
+  info_prefix (Input name (Changed frame want got)) shown text is = absurd shown
+  info_prefix Read shown text is = nothing_cut text shown.1
+  info_prefix Write shown text is = shown.2 text is
+  info_prefix Memory shown text is = nothing_cut text shown
+
+  info_nothing : (stop : Stop) → Told stop → InWorld (files.world f) (λ world. ((clip : Clip) → MeansClip world script clip → ⊥) → PutsNothing sink out new)
+  info_nothing (Script kind name line) shown world is none = shown.1
+  info_nothing (Input name NotThere) shown world is none = shown.1
+  info_nothing (Input name (Y4m fault)) shown world is none = shown.1
+  info_nothing (Input name (Changed frame want got)) shown world is none = absurd shown
+  info_nothing Read shown world is none = shown.1
+  info_nothing Write shown world is none = (let one = shown.1 world is in absurd (none one.0 one.1))
+  info_nothing Memory shown world is none = shown
+
+  info_unwritten : (stop : Stop) → Told stop → (status_of_stop stop ≡ 4) ⊎ (status_of_stop stop ≡ 6) → PutsNothing sink out new
+  info_unwritten (Script kind name line) shown which = shown.1
+  info_unwritten (Input name NotThere) shown which = shown.1
+  info_unwritten (Input name (Y4m fault)) shown which = shown.1
+  info_unwritten (Input name (Changed frame want got)) shown which = absurd shown
+  info_unwritten Read shown which = shown.1
+  info_unwritten Write shown which = absurd (omega (arith, which))
+  info_unwritten Memory shown which = shown
+
+  pub info_of_stop : (stop : Stop) → Told stop → Says lines err said (stop_line stop) → InfoEnds files sink lines f g out new err said script (status_of_stop stop)
+  info_of_stop stop shown says = record {
+    whole = λ zero. absurd (never_zero stop zero);
+    prefix = info_prefix stop shown;
+    nothing = info_nothing stop shown;
+    unwritten = info_unwritten stop shown;
+    causes = causes_of stop (info_cause stop shown) says;
+  }
+
+-- ---- the self test
+
+one_line : (world : World) (script one other : List ℕ) → IsLineOf world script one → IsLineOf world script other → one ≡ other
+one_line world script one other a b =
+    let same = clip_of a.clip b.clip (means_one_thing world script (a_clip a.clip) (a_clip b.clip) a.means b.means) in
+    a.line_is ∙ ap (λ (clip : Clip). digest_line clip.info.frames (stream clip)) same ∙ sym b.line_is
+
+same_line : (number : ℕ) (one other : List ℕ) → IsSelfLine number one → IsSelfLine number other → one ≡ other
+same_line number one other a b = one_line (self_world number) (codes "self.avs") one other a b
+
+-- a line that failed to be put is a prefix of each line of the self test
+pub self_prefix : {K : Type 0} (sink : Ghosts K) (out new : K) (number : ℕ) (line : List ℕ) → IsSelfLine number line → PutsPrefix sink out new line
+    → (other : List ℕ) → IsSelfLine number other → PutsPrefix sink out new other
+self_prefix sink out new number line is cut other too = rw (same_line number line other is too) at cut
+
+module _ {K E : Type 0} (sink : Ghosts K) (lines : Ghosts E) (out new : K) (err said : E) (number : ℕ) where
+  self_test_of_whole : PutsSelfLine sink out new number → said ≡ err → SelfTestEnds sink lines out new err said number 0
+  self_test_of_whole put quiet = record {
+    whole = λ zero. put;
+    prefix = λ line is. gets_all (sink.bytes out) (sink.bytes new) line (rw (same_line number put.line line put.is is) at put.put);
+    known = inl refl;
+    quiet = λ zero. quiet;
+    write = λ is. absurd (omega (arith, is));
+    memory = λ is. absurd (omega (arith, is));
+  }
+
+  self_test_of_stop : (stop : Stop) → SelfTestShows sink out new number stop → Says lines err said (stop_line stop) → SelfTestEnds sink lines out new err said number (status_of_stop stop)
+  self_test_of_stop (Script kind name line) shown says = absurd shown
+  self_test_of_stop (Input name fault) shown says = absurd shown
+  self_test_of_stop Read shown says = absurd shown
+  self_test_of_stop Write shown says = record {
+    whole = λ is. absurd (omega (arith, is));
+    prefix = shown.1;
+    known = inr (inl refl);
+    quiet = λ is. absurd (omega (arith, is));
+    write = λ is. (shown.0, says);
+    memory = λ is. absurd (omega (arith, is));
+  }
+  self_test_of_stop Memory shown says = record {
+    whole = λ is. absurd (omega (arith, is));
+    prefix = λ line is. rw shown (gets_none (sink.bytes out) line);
+    known = inr (inr refl);
+    quiet = λ is. absurd (omega (arith, is));
+    write = λ is. absurd (omega (arith, is));
+    memory = λ is. says;
+  }
+
+-- the line that names a cause leaves no fewer faults
+pub said_later : {E : Type 0} (lines : Ghosts E) (err said : E) (done : Result (Unit {0}) Stop) (status : ℕ) → Finishes lines err said done status → IsLater lines err said
+said_later lines err said (Ok u) status is = rw is.1 (omega arith)
+said_later lines err said (Err stop) status is = let says = is.1 in says.later
+
+-- the line of a stream that a digest holds
+pub self_line : {K : Type 0} (sink : Ghosts K) (world : World) (script : List ℕ) (out new : K) (frames : ℕ) (bytes line : List ℕ)
+    → PutsClip sink world script out new frames → sink.bytes out ≡ Some [] → sink.bytes new ≡ Some bytes → line ≡ digest_line frames bytes → IsLineOf world script line
+self_line sink world script out new frames bytes line puts none all is =
+    let put : Some bytes ≡ Some (stream puts.clip) = sym all ∙ puts.put ∙ ap (λ told. with_piece told (stream puts.clip)) none in
+    let same : bytes ≡ stream puts.clip = cc in
+    record { clip = puts.clip; means = puts.means; line_is = is ∙ ap (λ n. digest_line n bytes) puts.frames_are ∙ ap (digest_line (let clip = puts.clip in clip.info.frames)) same }
+
+-- ---- all commands
+
+module _ {F S K E : Type 0} (files : of_files.Ghosts F S) (sink : Ghosts K) (lines : Ghosts E) (f g : F) (out new : K) (err said : E) (words : List (List ℕ)) where
+  -- what every run leaves
+  abbrev Leaves : Type 0
+  Leaves = KeepsFiles files f g × IsLater sink out new × IsLater lines err said
+
+  not_one : (status : ℕ) → (status ≡ 0) ⊎ (2 ≤ status) × (status ≤ 6) → status ≡ 1 → ⊥
+  not_one status (inl zero) one = omega (arith, zero, one)
+  not_one status (inr more) one = omega (arith, more, one)
+
+  ends_of_render : (script : List ℕ) (options : RenderOptions) (status : ℕ) → command_in words ≡ Some (c.Render script options) → Headline files sink lines f g out new err said script status → Leaves
+      → Ends files sink lines f g out new err said words status
+  ends_of_render script options status asked ends leaves = record {
+    render = λ other is. (let same : script ≡ other = (let both : Some (c.Render script options) ≡ Some (c.Render other is.options) = sym asked ∙ is.asked in cc) in
+        subst (λ s. Headline files sink lines f g out new err said s status) same ends);
+    info = λ other is. (let both : Some (c.Render script options) ≡ Some (c.Info other) = sym asked ∙ is in absurd (cc));
+    self_test = λ number is. (let both : Some (c.Render script options) ≡ Some (c.SelfTest number) = sym asked ∙ is in absurd (cc));
+    refused = λ none. (let both : Some (c.Render script options) ≡ None = sym asked ∙ none in absurd (cc));
+    usage = λ one. absurd (not_one status (let causes = ends.causes in causes.known) one);
+    keeps = leaves.0;
+    later = leaves.1;
+    later_lines = leaves.2;
+  }
+
+  ends_of_info : (script : List ℕ) (status : ℕ) → command_in words ≡ Some (c.Info script) → InfoEnds files sink lines f g out new err said script status → Leaves
+      → Ends files sink lines f g out new err said words status
+  ends_of_info script status asked ends leaves = record {
+    render = λ other is. (let both : Some (c.Info script) ≡ Some (c.Render other is.options) = sym asked ∙ is.asked in absurd (cc));
+    info = λ other is. (let same : script ≡ other = (let both : Some (c.Info script) ≡ Some (c.Info other) = sym asked ∙ is in cc) in
+        subst (λ s. InfoEnds files sink lines f g out new err said s status) same ends);
+    self_test = λ number is. (let both : Some (c.Info script) ≡ Some (c.SelfTest number) = sym asked ∙ is in absurd (cc));
+    refused = λ none. (let both : Some (c.Info script) ≡ None = sym asked ∙ none in absurd (cc));
+    usage = λ one. absurd (not_one status (let causes = ends.causes in causes.known) one);
+    keeps = leaves.0;
+    later = leaves.1;
+    later_lines = leaves.2;
+  }
+
+  self_not_one : (status : ℕ) → (status ≡ 0) ⊎ ((status ≡ 5) ⊎ (status ≡ 6)) → status ≡ 1 → ⊥
+  self_not_one status (inl zero) one = omega (arith, zero, one)
+  self_not_one status (inr (inl five)) one = omega (arith, five, one)
+  self_not_one status (inr (inr six)) one = omega (arith, six, one)
+
+  ends_of_self_test : (number status : ℕ) → command_in words ≡ Some (c.SelfTest number) → SelfTestEnds sink lines out new err said number status → g ≡ f → Leaves
+      → Ends files sink lines f g out new err said words status
+  ends_of_self_test number status asked ends stay leaves = record {
+    render = λ other is. (let both : Some (c.SelfTest number) ≡ Some (c.Render other is.options) = sym asked ∙ is.asked in absurd (cc));
+    info = λ other is. (let both : Some (c.SelfTest number) ≡ Some (c.Info other) = sym asked ∙ is in absurd (cc));
+    self_test = λ other is. (let same : number ≡ other = (let both : Some (c.SelfTest number) ≡ Some (c.SelfTest other) = sym asked ∙ is in cc) in
+        (subst (λ n. SelfTestEnds sink lines out new err said n status) same ends, stay));
+    refused = λ none. (let both : Some (c.SelfTest number) ≡ None = sym asked ∙ none in absurd (cc));
+    usage = λ one. absurd (self_not_one status ends.known one);
+    keeps = leaves.0;
+    later = leaves.1;
+    later_lines = leaves.2;
+  }
+
+  -- by what was done and what was said of it
+  pub ends_of : (command : Command) (done : Result (Unit {0}) Stop) (status : ℕ) → command_in words ≡ Some command → Does files sink f g out new command done
+      → Finishes lines err said done status → Leaves → Ends files sink lines f g out new err said words status
+  ends_of (c.Render script options) (Ok u) status asked done said_so leaves =
+      ends_of_render script options status asked (subst (λ n. Headline files sink lines f g out new err said script n) (sym said_so.0)
+      (headline_of_whole files sink lines f g out new err said script done.0 done.1 said_so.1)) leaves
+  ends_of (c.Render script options) (Err stop) status asked done said_so leaves =
+      ends_of_render script options status asked (subst (λ n. Headline files sink lines f g out new err said script n) (sym said_so.0)
+      (headline_of_stop files sink lines f g out new err said script stop done said_so.1)) leaves
+  ends_of (c.Info script) (Ok u) status asked done said_so leaves =
+      ends_of_info script status asked (subst (λ n. InfoEnds files sink lines f g out new err said script n) (sym said_so.0)
+      (info_of_whole files sink lines f g out new err said script done.0 done.1 said_so.1)) leaves
+  ends_of (c.Info script) (Err stop) status asked done said_so leaves =
+      ends_of_info script status asked (subst (λ n. InfoEnds files sink lines f g out new err said script n) (sym said_so.0)
+      (info_of_stop files sink lines f g out new err said script stop done said_so.1)) leaves
+  ends_of (c.SelfTest number) (Ok u) status asked done said_so leaves =
+      ends_of_self_test number status asked (subst (λ n. SelfTestEnds sink lines out new err said number n) (sym said_so.0)
+      (self_test_of_whole sink lines out new err said number done.0 said_so.1)) done.1 leaves
+  ends_of (c.SelfTest number) (Err stop) status asked done said_so leaves =
+      ends_of_self_test number status asked (subst (λ n. SelfTestEnds sink lines out new err said number n) (sym said_so.0)
+      (self_test_of_stop sink lines out new err said number stop done.0 said_so.1)) done.1 leaves
+
+module _ {F S K E : Type 0} (files : of_files.Ghosts F S) (sink : Ghosts K) (lines : Ghosts E) (f : F) (out : K) (err said : E) (words : List (List ℕ)) where
+  -- what is left untouched
+  untouched : KeepsFiles files f f
+  untouched = record { world = refl; given = refl; later = omega arith }
+
+  -- memory ran out before anything was done
+  memory_done : (command : Command) → Does files sink f f out out command (Err Memory)
+  memory_done (c.Render script options) = inl refl
+  memory_done (c.Info script) = refl
+  memory_done (c.SelfTest number) = (refl, refl)
+
+  pub ends_of_memory : (command : Option Command) → command_in words ≡ command → (status : ℕ) → Finishes lines err said (Err Memory) status
+      → Ends files sink lines f f out out err said words status
+  ends_of_memory None none status said_so = record {
+    render = λ other is. (let both : None ≡ Some (c.Render other is.options) = sym none ∙ is.asked in absurd (cc));
+    info = λ other is. (let both : None ≡ Some (c.Info other) = sym none ∙ is in absurd (cc));
+    self_test = λ number is. (let both : None ≡ Some (c.SelfTest number) = sym none ∙ is in absurd (cc));
+    refused = λ is. record { line = inr said_so; files_stay = refl; out_stays = refl };
+    usage = λ one. none;
+    keeps = untouched;
+    later = omega arith;
+    later_lines = (let says = said_so.1 in says.later);
+  }
+  ends_of_memory (Some command) asked status said_so =
+      ends_of files sink lines f f out out err said words command (Err Memory) status asked (memory_done command) said_so
+      (untouched, omega arith, (let says = said_so.1 in says.later))
+
+  pub ends_of_usage : command_in words ≡ None → Says lines err said usage_line → Ends files sink lines f f out out err said words 1
+  ends_of_usage none says = record {
+    render = λ other is. (let both : None ≡ Some (c.Render other is.options) = sym none ∙ is.asked in absurd (cc));
+    info = λ other is. (let both : None ≡ Some (c.Info other) = sym none ∙ is in absurd (cc));
+    self_test = λ number is. (let both : None ≡ Some (c.SelfTest number) = sym none ∙ is in absurd (cc));
+    refused = λ is. record { line = inl (refl, says); files_stay = refl; out_stays = refl };
+    usage = λ one. none;
+    keeps = untouched;
+    later = omega arith;
+    later_lines = says.later;
+  }

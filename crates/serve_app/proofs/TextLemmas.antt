@@ -1,12 +1,12 @@
 -- What was put, of the clips of one kind or another.
-use Rattle.std.proofs.Common.{◌≡◌, ℕ, List, inl, inr, ◌++◌}
+use Rattle.std.proofs.Common.{◌≡◌, inl, inr}
 use Rattle.fv_io.specs.declared.sink.Sink.{Ghosts}
 use Rattle.fv_io.specs.Sink.{PutsPrefix}
 use Rattle.fv_io.proofs.CallerLemmas.{gets_none, gets_all, gets_more}
 use Rattle.fv_plane.specs.Clip.{Clip}
 use Rattle.y4m_stream.specs.Stream.{stream}
 use Rattle.clip_render.proofs.CallerLemmas.{text_of_part}
-use Rattle.serve_app.specs.Rendered.{PutsPart, PutsWholeFrames, PutsFront}
+use Rattle.serve_app.specs.Rendered.{PutsPart, PutsWholeFrames}
 
 module _ {K : Type 0} (sink : Ghosts K) (old new : K) (Its More : Clip → Type 0) (One Any : Type 0) (narrows : (clip : Clip) → More clip → Its clip) (widens : One → Any) where
   pub whole_frames_of : PutsWholeFrames sink old new Its One → PutsWholeFrames sink old new More Any

@@ -5,4 +5,7 @@ pub mod StopKinds
 pub mod Stop
 pub mod Playing
 pub mod Lines
+pub mod Info
+pub mod SelfTest
+pub mod Run
 pub mod Headline

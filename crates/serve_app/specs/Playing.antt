@@ -1,9 +1,10 @@
 -- A script that is evaluated, and its clip that is put: what each answer shows.
-use Rattle.std.specs.Prelude.{◌≡◌, ◌⊎◌, ◌≤◌, ℕ, List, slice_get, Some, Result, Ok, Err}
+use Rattle.std.specs.Prelude.{◌≡◌, ◌≤◌, ℕ, List, slice_get, Some, Result, Ok, Err}
 use Rattle.fv_io.specs.declared.source.Source as of_source
 use Rattle.fv_io.specs.declared.sink.Sink.{Ghosts}
 use Rattle.fv_io.specs.Faults.{HasRisen}
-use Rattle.fv_io.specs.Sink.{PutsPrefix, SinkFailed}
+use Rattle.fv_io.specs.Sink.{Puts, PutsPrefix, SinkFailed}
+use Rattle.fv_io.specs.World.{World}
 use Rattle.fv_plane.specs.Clip.{Clip}
 use Rattle.y4m_stream.specs.Stream.{stream}
 use Rattle.seq_source.specs.FrameSource.{FrameSource}
@@ -16,6 +17,8 @@ use Rattle.avs_meaning.specs.Meaning as m
 use Rattle.avs_meaning.specs.declared.fault.InputFault.TheVariants as i
 use Rattle.avs_eval.specs.Evaluates.{Names}
 use Rattle.avs_eval.specs.declared.evaluation.Opened.{Opened}
+use Rattle.serve_app.specs.Info.{IsInfoOf}
+use Rattle.serve_app.specs.Meaning.{MeansClip}
 use Rattle.serve_app.specs.declared.fault.InputFault.TheVariants.{NotThere, Y4m, Changed}
 use Rattle.serve_app.specs.declared.stop.Stop.{Stop}
 use Rattle.serve_app.specs.declared.stop.Stop.TheVariants as of_stop
@@ -61,3 +64,18 @@ pub record SomeFailed {S : Type 0} (source : of_source.Ghosts S) (sources : List
   pub it : FrameSource S
   pub there : slice_get sources number ≡ Some it
   pub failed : 1 ≤ source.faults it.source
+
+-- ---- what was put
+
+-- the stream of the clip that the script means in this world, of so many frames, was put
+pub record PutsClip {K : Type 0} (sink : Ghosts K) (world : World) (script : List ℕ) (old new : K) (frames : ℕ) : Type 0 where
+  pub clip : Clip
+  pub means : MeansClip world script clip
+  pub put : Puts sink old new (stream clip)
+  pub frames_are : frames ≡ clip.info.frames
+
+-- what is known of the clip that the script means in this world was put
+pub record PutsInfo {K : Type 0} (sink : Ghosts K) (world : World) (script : List ℕ) (old new : K) : Type 0 where
+  pub text : List ℕ
+  pub info : IsInfoOf world script text
+  pub put : Puts sink old new text

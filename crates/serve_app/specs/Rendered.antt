@@ -1,5 +1,5 @@
 -- What a render puts of a clip: its text, a prefix of it, or its head and whole frames.
-use Rattle.std.specs.Prelude.{◌≡◌, ◌⊎◌, ℕ, ◌<◌, List, All}
+use Rattle.std.specs.Prelude.{◌≡◌, ◌⊎◌, ℕ, ◌<◌, All}
 use Rattle.fv_io.specs.declared.sink.Sink.{Ghosts}
 use Rattle.fv_io.specs.Sink.{Puts, PutsPrefix}
 use Rattle.fv_plane.specs.Clip.{Clip}

@@ -1,11 +1,18 @@
--- The words after the program's name.
-use Rattle.std.specs.Prelude.{◌≡◌, ◌≢◌, ◌⊎◌, ℕ, List, [], ◌∷◌, codes, slice_index}
-
--- a word that is no option: one that doesn't begin with `-`, or `-` alone
-abbrev pub IsPlainWord : List ℕ → Type 0
-IsPlainWord word = (word ≡ codes "-") ⊎ (slice_index word 0 ≢ 45)
+-- What the words after the program's name ask for.
+use Rattle.std.specs.Prelude.{◌≡◌, ℕ, List, Some}
+use Rattle.command_line.specs.Command.{command_in}
+use Rattle.command_line.specs.declared.command.RenderOptions.{RenderOptions}
+use Rattle.command_line.specs.declared.command.Command.TheVariants.{Render, Info, SelfTest}
 
 -- the words ask for a render of this script
 pub record IsRender (words : List (List ℕ)) (script : List ℕ) : Type 0 where
-  pub command : words ≡ codes "render" ∷ script ∷ []
-  pub plain : IsPlainWord script
+  pub options : RenderOptions
+  pub asked : command_in words ≡ Some (Render script options)
+
+-- the words ask what is known of the clip of this script
+abbrev pub IsInfo : List (List ℕ) → List ℕ → Type 0
+IsInfo words script = command_in words ≡ Some (Info script)
+
+-- the words ask for the self test of this number
+abbrev pub IsSelfTest : List (List ℕ) → ℕ → Type 0
+IsSelfTest words number = command_in words ≡ Some (SelfTest number)

@@ -1,18 +1,20 @@
-//! The program as a function over files and sinks: `run_plain` renders the clip of a script.
+//! The program as a function over files and sinks: `run_plain` does what the words ask for.
 //!
-//! Its contract, the headline, says what each status means: what was written, and why.
+//! Its contract says what each status means: what was written, and why. For a render that is the headline.
 #![tactic(auto)]
 
 mod fault;
+mod info;
 pub mod laws;
 mod play;
 mod render;
 mod run;
 mod say;
 mod stop;
+mod test_run;
 #[cfg(test)]
 mod tests;
-mod words;
 
 pub use fault::InputFault;
 pub use run::{Ending, run_plain};
+pub use self_test::workload;

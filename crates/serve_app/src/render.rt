@@ -1,13 +1,11 @@
 // The clip of a script, rendered over files.
-ghost use Rattle.std.specs.Prelude.{◌≡◌, ◌≤◌, OnOk, IfErr};
+ghost use Rattle.std.specs.Prelude.{◌≡◌, ◌≤◌, IfOk, IfErr};
 ghost use Rattle.fv_io.specs.Faults.{HasRisen};
 ghost use Rattle.fv_io.specs.Files.{KeepsFiles, FilesFailed};
-ghost use Rattle.fv_io.specs.Sink.{Puts, IsLater};
+ghost use Rattle.fv_io.specs.Sink.{IsLater};
 ghost use Rattle.fv_io.specs.World.{InWorld};
-ghost use Rattle.fv_plane.specs.Clip.{Clip};
-ghost use Rattle.y4m_stream.specs.Stream.{stream};
 ghost use Rattle.avs_files.specs.Opened.{told_of};
-ghost use Rattle.serve_app.specs.Meaning.{MeansClip};
+ghost use Rattle.serve_app.specs.Playing.{PutsClip};
 ghost use Rattle.serve_app.specs.Stop.{RenderShows};
 
 use crate::play::play;
@@ -20,7 +18,7 @@ use std::marker::{Brand, PhantomData};
 // Renders over files of which this is known, closes what was opened, and gives the files back.
 fn render_in<H: HeldFiles, W: Known, K: Sink>(
     alloc: Global,
-    answer: &mut Result<(), Stop>,
+    answer: &mut Result<u32, Stop>,
     files: H,
     of: PhantomData<W>,
     out: &mut K,
@@ -29,8 +27,8 @@ fn render_in<H: HeldFiles, W: Known, K: Sink>(
     requires world { H.world files ≡ told_of W.told W.world }
     requires borrow { H.borrow files ≡ W.borrow }
     requires given { H.given files ≡ W.given }
-    ensures whole { OnOk answer.new (InWorld (told_of W.told W.world) (λ world.
-        (clip : Clip) × MeansClip world script.now clip × Puts K.Sink out.old out.new (stream clip))) }
+    ensures whole { IfOk answer.new (λ frames. InWorld (told_of W.told W.world) (λ world.
+        PutsClip K.Sink world script.now out.old out.new frames)) }
     ensures stop { IfErr answer.new (RenderShows (HasRisen (H.faults files) (H.faults result)) K.Sink
         (told_of W.told W.world) script.now out.old out.new) }
     ensures world { H.world result ≡ told_of W.told W.world }
@@ -56,13 +54,13 @@ fn render_in<H: HeldFiles, W: Known, K: Sink>(
 #[tactic(auto, using(crate::proofs::PickLemmas::picked))]
 fn render_held<H: HeldFiles, K: Sink>(
     alloc: Global,
-    answer: &mut Result<(), Stop>,
+    answer: &mut Result<u32, Stop>,
     files: H,
     out: &mut K,
     script: &Text,
 ) -> H
-    ensures whole { OnOk answer.new (InWorld (H.world files) (λ world.
-        (clip : Clip) × MeansClip world script.now clip × Puts K.Sink out.old out.new (stream clip))) }
+    ensures whole { IfOk answer.new (λ frames. InWorld (H.world files) (λ world.
+        PutsClip K.Sink world script.now out.old out.new frames)) }
     ensures stop { IfErr answer.new (RenderShows (HasRisen (H.faults files) (H.faults result)) K.Sink
         (H.world files) script.now out.old out.new) }
     ensures world { H.world result ≡ H.world files }
@@ -74,16 +72,16 @@ fn render_held<H: HeldFiles, K: Sink>(
     render_in::<H, Brand, K>(alloc, answer, files, PhantomData, out, script)
 }
 
-/// Renders the clip of a script: it evaluates the script, and puts the head and the frames of its clip. It closes every file
-/// that it opened.
+/// Renders the clip of a script: it evaluates the script, and puts the head and the frames of its clip. It answers the
+/// number of frames, and closes every file that it opened.
 pub(crate) fn render<F: Files, K: Sink>(
     alloc: Global,
     files: &mut F,
     out: &mut K,
     script: &Text,
-) -> Result<(), Stop>
-    ensures whole { OnOk result (InWorld (F.world files.old) (λ world.
-        (clip : Clip) × MeansClip world script.now clip × Puts K.Sink out.old out.new (stream clip))) }
+) -> Result<u32, Stop>
+    ensures whole { IfOk result (λ frames. InWorld (F.world files.old) (λ world.
+        PutsClip K.Sink world script.now out.old out.new frames)) }
     ensures stop { IfErr result (RenderShows (FilesFailed F.Files files.old files.new) K.Sink (F.world files.old)
         script.now out.old out.new) }
     ensures keeps { KeepsFiles F.Files files.old files.new }

@@ -163,15 +163,19 @@ fn inputs_are_streams(rt: HostRuntime) -> Result<(), Fail> {
 }
 
 #[test]
-fn words_ask_for_a_render(rt: HostRuntime) -> Result<(), Fail> {
+fn words_break_the_rules(rt: HostRuntime) -> Result<(), Fail> {
     let alloc = rt.alloc();
-    let rows: [&[&str]; 6] = [
+    let rows: [&[&str]; 10] = [
         &[],
         &["render"],
         &["render", "s.avs", "x"],
         &["Render", "s.avs"],
         &["render", "-x"],
-        &["info", "s.avs"],
+        &["render", "s.avs", "--report"],
+        &["render", "s.avs", "--cache", "0"],
+        &["render", "s.avs", "--cache=257"],
+        &["render", "s.avs", "--plain", "--plain"],
+        &["info", "s.avs", "--plain"],
     ];
     for words in rows {
         let mut files = script_and_clip(alloc, "s.avs", SCRIPT, 64, &[])?;
@@ -179,9 +183,60 @@ fn words_ask_for_a_render(rt: HostRuntime) -> Result<(), Fail> {
         ends(&rt, alloc, words, &mut files, (99, 999), (1, 0, USAGE))?;
         assert_eq!(rt; files.faults(), 0);
     }
-    let mut files = script_and_clip(alloc, "-", SCRIPT, 64, &[])?;
-    let words: &[&str] = &["render", "-"];
-    ends(&rt, alloc, words, &mut files, (99, 99), (0, 64, ""))?;
+    Ok(())
+}
+
+// A script may be named `-`, and the options change no byte.
+#[test]
+fn words_ask_for_a_render(rt: HostRuntime) -> Result<(), Fail> {
+    let alloc = rt.alloc();
+    let rows: [&[&str]; 2] = [
+        &["render", "-"],
+        &[
+            "render",
+            "--cache=1",
+            "--threads",
+            "16",
+            "--plain",
+            "--",
+            "-",
+        ],
+    ];
+    for words in rows {
+        let mut files = script_and_clip(alloc, "-", SCRIPT, 64, &[])?;
+        ends(&rt, alloc, words, &mut files, (99, 99), (0, 64, ""))?;
+    }
+    Ok(())
+}
+
+#[test]
+fn info_tells_of_a_clip(rt: HostRuntime) -> Result<(), Fail> {
+    let alloc = rt.alloc();
+    let words: &[&str] = &["info", "s.avs"];
+    for (script, text) in [
+        (
+            "BlankClip(length=1000000)",
+            "clip 640x480 YV12 24:1 frames 1000000\n0 BlankClip 1\nroot 0\nprefetch 1 1\n",
+        ),
+        (
+            "a = Y4MSource(\"m4.y4m\")\nb = a.Reverse\nMerge(b, a)",
+            "clip 1x1 Y8 25:1 frames 4\n0 Y4MSource 3\n1 Reverse 1 0\n2 Merge 1 1 0\nroot 2\nprefetch 1 1\n",
+        ),
+    ] {
+        let mut files = script_and_clip(alloc, "s.avs", script.as_bytes(), 64, &[])?;
+        let (status, out, err) = run(alloc, words, &mut files, (999, 99))?;
+        assert_eq!(rt; (status, err.bytes().len()), (0, 0), "at {script}");
+        assert!(rt; out.bytes() == text.as_bytes(), "at {script}");
+        assert_eq!(rt; files.given(), 0);
+    }
+    let long = b"BlankClip(length=1000000).Loop(2)";
+    let mut files = script_and_clip(alloc, "s.avs", long, 64, &[])?;
+    let line = "script fault: s.avs line 1: LengthLimit\n";
+    ends(&rt, alloc, words, &mut files, (99, 99), (2, 0, line))?;
+    let mut files = script_and_clip(alloc, "s.avs", SCRIPT, 64, &[])?;
+    let (status, out, err) = run(alloc, words, &mut files, (9, 99))?;
+    assert_eq!(rt; (status, out.bytes()), (5, b"clip 1x1 ".as_slice()));
+    assert_eq!(rt; err.bytes(), b"write fault\n".as_slice());
     Ok(())
 }
 

@@ -1,9 +1,8 @@
 -- The clip that is put is the script's.
-use Rattle.std.proofs.Common.{◌≡◌, ◌∙◌, ◌+◌, ◌++◌, ℕ, length, take, drop, inr, sym, ap, subst, rules}
-use Rattle.std.proofs.lemmas.Result.{on_ok_weaker, MatchResult-weaker}
-use Rattle.clip_frames.specs.Sources.{AreSources, KeepAll}
-use Rattle.serve_app.specs.Playing.{StreamShows}
-use Rattle.serve_app.proofs.PlayLemmas.{fit, all_frames, stream_stops, still_opened, some_failed, written}
+use Rattle.std.proofs.Common.{◌≡◌, ◌∙◌, ◌+◌, ◌++◌, length, take, drop, inr, sym, ap, subst, rules}
+use Rattle.std.proofs.lemmas.Result.{MatchResult-weaker}
+use Rattle.clip_frames.specs.Sources.{KeepAll}
+use Rattle.serve_app.proofs.PlayLemmas.{fit, all_frames, both_of, stream_stops, still_opened, some_failed, written}
 use Rattle.serve_app.proofs.play.play.Goals as goal
 use Rattle.serve_app.proofs.play.play.Given.{Over}
 use Rattle.serve_app.proofs.play.play.Goals.{After-put_opened}
@@ -39,10 +38,9 @@ invariant_of-host g c =
 pub returns-clause-whole : goal.returns-clause-whole
 returns-clause-whole g c =
     let was = c.evaluate.new.host in
-    on_ok_weaker c.put_opened.result
+    both_of _ _ _ c.put_opened.result c.put_opened.ensures.frames (rw c.as_mut_slice.ensures.value at c.put_opened.ensures.put)
     (all_frames g.H.Src.Source g.W.Known.told g.W.Known.world c.args.script.now c.in_ok-opened.opened.graph c.in_ok-opened.opened.root was.listed.items was.sources.items
     c.in_ok-opened.ensures.opened.sources was.opened c.in_ok-opened.ensures.told g.K.Sink c.args.out.now c.put_opened.new.out)
-    (rw c.as_mut_slice.ensures.value at c.put_opened.ensures.put)
 
 pub returns-clause-stop : goal.returns-clause-stop
 returns-clause-stop g c =
