@@ -1,0 +1,78 @@
+#!/usr/bin/env bash
+# The words of the command line, by the rules of docs/manual.md: what is accepted gives the same stream whatever the options,
+# and what is refused gives the usage line, status 1 and no stream.
+set -eu
+cd "$(dirname "$0")/.."
+[ -n "${AVSSERVE:-}" ] || ./build
+program=${AVSSERVE:-$PWD/bin/avsserve}
+room=$(mktemp -d)
+trap 'rm -rf "$room"' EXIT
+cp examples/tiny.y4m "$room"
+cd "$room"
+usage='usage: avsserve render SCRIPT [--cache C] [--threads T] [--report] [--plain] | info SCRIPT | selftest NUMBER'
+for script in s.avs -x.avs --plain - render; do
+    echo 'Y4MSource("tiny.y4m").Reverse' >"./$script"
+done
+"$program" render s.avs >wanted.y4m
+runs=1
+
+# accepts WORD ..: these words give the stream.
+accepts() {
+    local status=0
+    "$program" "$@" >out.y4m 2>err.txt || status=$?
+    if [ "$status" != 0 ] || ! cmp -s out.y4m wanted.y4m; then
+        echo "words: $*: status $status, $(cat err.txt); wanted the stream"
+        exit 1
+    fi
+    runs=$((runs + 1))
+}
+
+# refuses WORD ..: these words give the usage line.
+refuses() {
+    local status=0
+    "$program" "$@" >out.y4m 2>err.txt || status=$?
+    if [ "$status" != 1 ] || [ -s out.y4m ] || [ "$(cat err.txt)" != "$usage" ]; then
+        echo "words: $*: status $status, $(cat err.txt); wanted 1, the usage line"
+        exit 1
+    fi
+    runs=$((runs + 1))
+}
+
+accepts render --plain s.avs
+accepts render s.avs --cache 1
+accepts render s.avs --cache=256 --threads=16
+accepts render --threads 0000000001 --plain s.avs --cache 008
+accepts render s.avs --
+accepts render -- -x.avs
+accepts render --plain -- --plain
+accepts render -
+accepts render render
+
+refuses
+refuses render
+refuses Render s.avs
+refuses -- render s.avs
+refuses --help
+refuses --version
+refuses help
+refuses render --help
+refuses render s.avs s.avs
+refuses render -x.avs
+refuses render s.avs -- --plain
+for option in --cach=8 --Cache=8 -c --cache --cache= --cache=0 --cache=257 --cache=+8 --cache=-8 --cache=00000000008 \
+    --threads=0 --threads=17 --threads=two --plain=1 --plain= --report; do
+    refuses render s.avs "$option"
+    refuses render "$option" s.avs
+done
+refuses render s.avs --cache -8
+refuses render s.avs --cache --plain
+refuses render s.avs --cache 8 --cache 8
+refuses render s.avs --plain --plain
+refuses info
+refuses info s.avs --plain
+refuses info s.avs --cache 8
+refuses selftest
+refuses selftest x
+refuses selftest 4294967296
+refuses selftest 1 2
+echo "words: $runs runs ended as they should"
