@@ -1,6 +1,12 @@
 -- The text that is put is that of the script's clip.
-use Rattle.serve_app.proofs.PlayLemmas.{has_one, info_cut}
+use Rattle.serve_app.proofs.PlayLemmas.{has_one, info_put, info_cut}
 use Rattle.serve_app.proofs.play.tell.Goals as goal
+
+pub returns-in-Ok-clause-whole : goal.returns-in-Ok-clause-whole
+returns-in-Ok-clause-whole g c =
+    let was = c.evaluate.new.host in
+    info_put g.H.Src.Source g.W.Known.told g.W.Known.world c.args.script.now c.in_ok-opened.opened.graph c.in_ok-opened.opened.root was.listed.items was.sources.items
+    c.in_ok-opened.ensures.opened.sources was.opened c.in_ok-opened.ensures.told g.K.Sink c.args.out.now c.put.new.self _ c.in_ok-text.ensures (rw c.deref.ensures.value at c.in-Ok.ensures.put)
 
 pub returns-in-Ok-clause-clip : goal.returns-in-Ok-clause-clip
 returns-in-Ok-clause-clip g c =
