@@ -1,9 +1,11 @@
 -- What callers see of a source of frames.
-use Rattle.std.specs.Prelude.{◌≡◌, ◌⊎◌, ℕ, ◌+◌, ◌≤◌, List, length, Option, Some, slice_index}
+use Rattle.std.specs.Prelude.{◌≡◌, ◌⊎◌, ℕ, ◌+◌, ◌≤◌, nat_le, Bool, if◌then◌else◌, List, length, drop, map, Option, Some, None, slice_get, slice_index}
+use Rattle.std.specs.List.{list_all}
 use Rattle.fv_io.specs.declared.source.Source.{Ghosts}
 use Rattle.fv_io.specs.Faults.{risen}
+use Rattle.fv_plane.specs.Bytes.{picture_of}
 use Rattle.fv_plane.specs.Picture.{Picture}
-use Rattle.fv_plane.specs.Clip.{Clip, picture_at}
+use Rattle.fv_plane.specs.Clip.{Clip}
 use Rattle.fv_plane.specs.Format.{frame_bytes}
 use Rattle.y4m_stream.specs.Index.{Indexed, Indexes}
 
@@ -28,9 +30,26 @@ pub record HasFrames {S : Type 0} (source : Ghosts S) (it : S) (index : Indexed)
   pub tells : source.bytes it ≡ Some told
   pub indexes : Indexes told index clip
 
+-- the frames of told bytes, at the offsets of an index
+abbrev pub frames_at : Indexed → List ℕ → List Picture
+frames_at index bytes = map (λ offset. picture_of index.info.shape (drop offset bytes)) index.offsets
+
+-- the bytes have all of each frame
+abbrev pub has_each : Indexed → List ℕ → Bool
+has_each index bytes = list_all (λ offset. nat_le (offset + frame_bytes index.info.shape) (length bytes)) index.offsets
+
+-- the frames of bytes that are told and have all of them
+abbrev pub frames_told : Indexed → Option (List ℕ) → Option (List Picture)
+frames_told index None = None
+frames_told index (Some bytes) = if has_each index bytes then Some (frames_at index bytes) else None
+
+-- the frames that a source tells
+abbrev pub frames_of : {S : Type 0} → Ghosts S → FrameSource S → Option (List Picture)
+frames_of source it = frames_told it.index (source.bytes it.source)
+
 -- a call reads frame n up to its end, where the source's next read begins
 pub record ReadsFrame {S : Type 0} (source : Ghosts S) (old new : S) (index : Indexed) (n : ℕ) (frame : Picture) (end : ℕ) : Type 0 where
-  pub picture : (clip : Clip) → HasFrames source old index clip → frame ≡ picture_at clip n
+  pub picture : (told : List ℕ) → source.bytes old ≡ Some told → slice_get (frames_at index told) n ≡ Some frame
   pub shape : frame.shape ≡ index.info.shape
   pub whole : (told : List ℕ) → source.bytes old ≡ Some told → end_of index n ≤ length told
   pub end_is : end ≡ end_of index n

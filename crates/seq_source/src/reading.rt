@@ -129,6 +129,7 @@ pub(crate) fn read_indexed<S: Source>(
     requires is_at { ForSome known (IsAt S.Source source.old) }
     requires inside { n < index.now.info.frames }
     ensures read { IfOk result (λ r. ReadsFrame S.Source source.old source.new index.now n r.0 r.1) }
+    ensures count { length index.now.offsets ≡ index.now.info.frames }
     ensures fault { IfErr result (FaultShows S.Source source.old source.new n (end_of index.now n)) }
     ensures goes_on { IfSome known (λ place. place ≤ slice_index index.now.offsets n →
         S.rewinds source.new ≡ S.rewinds source.old) }

@@ -1,5 +1,6 @@
 -- What a core stands for: the book of its sources, where it is told, and a count of faults for each source.
 use Rattle.std.specs.Prelude.{◌≡◌, ℕ, ◌+◌, ◌<◌, ◌≤◌, true, List, [], Option, Some, None, slice_get, slice_index_or}
+use Rattle.fv_io.specs.Faults.{HasRisen}
 use Rattle.fv_plane.specs.Picture.{Picture}
 use Rattle.fv_plane.specs.declared.key.Key.{Key}
 use Rattle.clip_term.specs.ClipTerm.{Act, source, plain, time, space, joined, soft}
@@ -57,9 +58,9 @@ module _ {I : Type 0} (feed : I → Option (List Picture)) (faults : I → ℕ) 
   AnswerFits plan (Busy v) = Unit {0}
   AnswerFits plan (Refused why) = Unit {0}
 
-  -- the source of the node is in the table, with more faults than its number
+  -- the source of the node is in the table, and its count of faults rose above its number
   abbrev pub ExceedsAct : Act → I → Type 0
-  ExceedsAct (source name number info) x = slice_index_or numbers number 0 < faults x
+  ExceedsAct (source name number info) x = HasRisen (slice_index_or numbers number 0) (faults x)
   ExceedsAct (plain info colour) x = Unit {0}
   ExceedsAct (time op) x = Unit {0}
   ExceedsAct (space op) x = Unit {0}
