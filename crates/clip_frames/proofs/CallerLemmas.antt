@@ -1,70 +1,86 @@
--- What other crates may cite: a graph and its sources that grow together, and the pictures that calls leave.
-pub use Rattle.clip_frames.proofs.SourceLemmas.{kept_as_they_are, kept_both, still_sources, still_book, shows_later}
-use Rattle.std.proofs.Common.{Result, Ok, Err, ◌≡◌, ℕ, List, [], ◌∷◌, ◌++◌, Some, None, refl, sym, ap, ◌∙◌}
-use Rattle.std.proofs.lemmas.List.{map-append, append-nil}
-use Rattle.std.proofs.lemmas.List.Elements.{filter_map-append}
-use Rattle.fv_io.specs.declared.source.Source.{Ghosts}
+-- What other crates may cite: frames that are collected as `input_at` names them, and the source that a node reads.
+use Rattle.std.proofs.Common.{◌≡◌, ℕ, zero, suc, ◌+◌, ◌<◌, ◌≤◌, List, [], ◌∷◌, ◌++◌, length, map, take, Some, None, refl, sym, ap, ◌∙◌, subst, arith}
+use Rattle.std.specs.Prelude.{if◌then◌else◌}
+use Rattle.std.specs.List.{slice_get, cons_option}
+use Rattle.std.proofs.lemmas.Option.{slice_get_within, get_or_from_slice_get}
+use Rattle.std.proofs.lemmas.List.{map-append, map_more, take_all}
+use Rattle.std.proofs.lemmas.List.Sums.{sum_by-cons}
 use Rattle.fv_plane.specs.declared.format.Info.{Info}
+use Rattle.fv_plane.specs.declared.format.Shape.{Shape}
+use Rattle.fv_plane.specs.declared.key.Key.{Key}
 use Rattle.fv_plane.specs.Picture.{Picture}
 use Rattle.seq_source.specs.FrameSource.{FrameSource}
 use Rattle.clip_term.specs.ClipTerm.{Act, source, plain, time, space, joined, soft}
-use Rattle.clip_graph.specs.declared.graph.GraphFault.{GraphFault}
-use Rattle.clip_graph.specs.declared.graph.GraphFault.TheVariants.{NodeLimit, DepthLimit, Memory}
-use Rattle.clip_graph.specs.Plan.{Application, IsCounted}
-use Rattle.clip_graph.specs.Added.{Added}
-use Rattle.clip_reference.specs.Ready.{IsFilter}
-use Rattle.clip_frames.specs.Sources.{source_info, source_infos, AreSources, IsBook}
-use Rattle.clip_frames.specs.Faults.{HasChanged}
+use Rattle.clip_graph.specs.Plan.{Application, application_at, is_source, sources_in, IsPlan}
+use Rattle.clip_graph.specs.Unfolding.{IsKeyBelow, input_keys}
+use Rattle.clip_graph.proofs.UnfoldingLemmas.{inputs_are_keys}
+use Rattle.clip_frames.specs.Asked.{AreOfKeys}
+use Rattle.clip_frames.specs.Sources.{source_info, source_infos, AreSources}
 
--- the sources of a plan with one more application
-pub infos_with : (plan : List Application) (application : Application) → source_infos (plan ++ application ∷ []) ≡ source_infos plan ++ source_infos (application ∷ [])
-infos_with plan application = filter_map-append (λ (a : Application). source_info a.act) plan (application ∷ [])
+-- FRAMES
 
--- an application that is no source
-pub with_filter : (plan : List Application) (application : Application) → source_info application.act ≡ None → source_infos (plan ++ application ∷ []) ≡ source_infos plan
-with_filter plan application none = infos_with plan application ∙ rw none (append-nil (source_infos plan))
+-- what is named is a frame of an earlier node
+pub input_below : (plan : List Application) (key : Key) (i : ℕ) (input : Key) → IsPlan plan → key.node < length plan → Some input ≡ slice_get (input_keys plan key) i → IsKeyBelow plan key.node input
+input_below plan key i input is within found =
+    let keys = input_keys plan key in
+    subst (λ (k : Key). IsKeyBelow plan key.node k) (get_or_from_slice_get keys i input input (sym found)) (inputs_are_keys plan key is within i input (slice_get_within keys i input (sym found)))
 
--- a source, which is opened for it
-pub with_source : {S : Type 0} (plan : List Application) (application : Application) (sources : List (FrameSource S)) (it : FrameSource S) → source_info application.act ≡ Some it.index.info
-    → AreSources plan sources → AreSources (plan ++ application ∷ []) (sources ++ it ∷ [])
-with_source {S} plan application sources it same are =
-    map-append (λ (s : FrameSource S). s.index.info) sources (it ∷ [])
-    ∙ ap (λ (infos : List Info). infos ++ it.index.info ∷ []) are
-    ∙ sym (infos_with plan application ∙ rw same refl)
+-- one frame more
+pub of_keys_more : (plan : List Application) (keys : List Key) (i : ℕ) (key : Key) (old new : List Picture) (frame : Picture) → Some key ≡ slice_get keys i → new ≡ old ++ frame ∷ []
+    → frame.shape ≡ (application_at plan key.node).info.shape → AreOfKeys plan (take i keys) old → AreOfKeys plan (take (i + 1) keys) new
+of_keys_more plan keys i key old new frame found put is before =
+    let shape : Picture → Shape = λ p. p.shape in
+    let wanted : Key → Shape = λ k. (application_at plan k.node).info.shape in
+    ap (map shape) put ∙ map-append shape old (frame ∷ []) ∙ ap (λ l. l ++ frame.shape ∷ []) before
+    ∙ ap (λ s. map wanted (take i keys) ++ s ∷ []) (is ∙ ap wanted (sym (get_or_from_slice_get keys i key key (sym found))))
+    ∙ sym (map_more wanted keys i key (slice_get_within keys i key (sym found)))
 
--- a plan that grew by a source
-pub source_grown : {S : Type 0} (old new : List Application) (application : Application) (sources grown : List (FrameSource S)) (it : FrameSource S) → new ≡ old ++ application ∷ [] → grown ≡ sources ++ it ∷ []
-    → source_info application.act ≡ Some it.index.info → AreSources old sources → AreSources new grown
-source_grown old new application sources grown it put listed same are = rw (put, listed) (with_source old application sources it same are)
+none_past : {X : Type 0} (xs : List X) (i : ℕ) → None ≡ slice_get xs i → length xs ≤ i
+none_past [] i found = omega arith
+none_past (x ∷ xs) zero found = absurd (let none : ⊥ = cc in none)
+none_past (x ∷ xs) (suc i) found = let rest = none_past xs i found in omega arith
 
-no_source : (act : Act) → IsFilter act → source_info act ≡ None
-no_source (source name number info) filter = absurd filter
-no_source (plain info colour) filter = absurd filter
-no_source (time op) filter = refl
-no_source (space op) filter = refl
-no_source (joined op) filter = refl
-no_source (soft op) filter = refl
+-- and all of them
+pub of_keys_all : (plan : List Application) (keys : List Key) (i : ℕ) (frames : List Picture) → None ≡ slice_get keys i → AreOfKeys plan (take i keys) frames → AreOfKeys plan keys frames
+of_keys_all plan keys i frames found are = are ∙ ap (map (λ (k : Key). (application_at plan k.node).info.shape)) (take_all i keys (none_past keys i found))
 
--- a filter is not counted as a source
-pub filter_counted : (act : Act) (before mode : ℕ) → IsFilter act → IsCounted act before mode
-filter_counted (source name number info) before mode filter = absurd filter
-filter_counted (plain info colour) before mode filter = absurd filter
-filter_counted (time op) before mode filter = tt
-filter_counted (space op) before mode filter = tt
-filter_counted (joined op) before mode filter = tt
-filter_counted (soft op) before mode filter = tt
+-- SOURCES
 
--- a plan that grew by a filter
-pub filter_put : (old new : List Application) (application : Application) → new ≡ old ++ application ∷ [] → IsFilter application.act → source_infos new ≡ source_infos old
-filter_put old new application put filter = ap source_infos put ∙ with_filter old application (no_source application.act filter)
+-- the act that stands first
+with_first : (act : Act) (infos : List Info) (k : ℕ) (info : Info) → slice_get infos k ≡ Some info
+    → slice_get (cons_option (source_info act) infos) ((if is_source act then 1 else 0) + k) ≡ Some info
+with_first (source name number told) infos k info found = let more : 1 + k ≡ suc k = omega arith in rw more found
+with_first (plain told colour) infos k info found = let same : 0 + k ≡ k = omega arith in rw same found
+with_first (time op) infos k info found = let same : 0 + k ≡ k = omega arith in rw same found
+with_first (space op) infos k info found = let same : 0 + k ≡ k = omega arith in rw same found
+with_first (joined op) infos k info found = let same : 0 + k ≡ k = omega arith in rw same found
+with_first (soft op) infos k info found = let same : 0 + k ≡ k = omega arith in rw same found
 
--- a filter that is added, or not, leaves the sources
-pub filter_grown : (old new : List Application) (application : Application) (answer : Result ℕ GraphFault) → IsFilter application.act → Added old application answer new → source_infos new ≡ source_infos old
-filter_grown old new application (Ok n) filter added = filter_put old new application added.3 filter
-filter_grown old new application (Err NodeLimit) filter added = ap source_infos added.1
-filter_grown old new application (Err DepthLimit) filter added = ap source_infos added.2
-filter_grown old new application (Err Memory) filter added = ap source_infos added
+-- the info of a source, by the number of those before it
+info_found : (plan : List Application) (i : ℕ) (name : List ℕ) (number : ℕ) (info : Info) → i < length plan → (application_at plan i).act ≡ source name number info
+    → slice_get (source_infos plan) (sources_in (take i plan)) ≡ Some info
+info_found [] i name number info within same = absurd (omega arith)
+info_found (a ∷ plan) zero name number info within same = rw same refl
+info_found (a ∷ plan) (suc i) name number info within same =
+    let found = info_found plan i name number info (omega arith) same in
+    rw (sum_by-cons (λ (b : Application). if is_source b.act then 1 else 0) a (take i plan)) (with_first a.act (source_infos plan) (sources_in (take i plan)) info found)
 
--- over bytes that are told and have the clips, no source has changed
-pub none_changed : {S : Type 0} (source_of : Ghosts S) (sources : List (FrameSource S)) (book : List (List Picture)) (number frame want got : ℕ) → IsBook source_of sources book → HasChanged source_of sources number frame want got → ⊥
-none_changed source_of sources book number frame want got is changed = let entry = is.each number changed.it changed.there in changed.other entry.clip entry.has
+-- the source of a plan's place
+pub record HasSource {S : Type 0} (sources : List (FrameSource S)) (number : ℕ) (info : Info) : Type 0 where
+  pub it : FrameSource S
+  pub there : slice_get sources number ≡ Some it
+  pub info_is : it.index.info ≡ info
+
+mapped : {S : Type 0} (sources : List (FrameSource S)) (number : ℕ) (info : Info) → slice_get (map (λ (it : FrameSource S). it.index.info) sources) number ≡ Some info → HasSource sources number info
+mapped [] number info found = absurd (let none : ⊥ = cc in none)
+mapped (it ∷ rest) zero info found = record { it = it; there = refl; info_is = cc }
+mapped (it ∷ rest) (suc number) info found = let later = mapped rest number info found in record { it = later.it; there = later.there; info_is = later.info_is }
+
+counted_as : (plan : List Application) (i : ℕ) (name : List ℕ) (number : ℕ) (info : Info) → IsPlan plan → i < length plan → (application_at plan i).act ≡ source name number info → number ≡ sources_in (take i plan)
+counted_as plan i name number info is within same = let counted = (is.each i within).counted in let both = rw same at counted in both.0
+
+-- a node that is a source has its own among those of the plan
+pub has_source : {S : Type 0} (plan : List Application) (sources : List (FrameSource S)) (i : ℕ) (name : List ℕ) (number : ℕ) (info : Info) → IsPlan plan → i < length plan
+    → (application_at plan i).act ≡ source name number info → AreSources plan sources → HasSource sources number info
+has_source plan sources i name number info is within same are =
+    mapped sources number info (rw (are, counted_as plan i name number info is within same) (info_found plan i name number info within same))

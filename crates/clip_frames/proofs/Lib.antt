@@ -1,4 +1,4 @@
-pub mod SourceLemmas
-pub mod NodeLemmas
-pub mod MakeLemmas
 pub mod CallerLemmas
+pub mod NodeLemmas
+pub mod InputLemmas
+pub mod MakeLemmas

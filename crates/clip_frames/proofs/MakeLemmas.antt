@@ -1,45 +1,91 @@
--- What each group of filters makes of the frames that it asks.
-use Rattle.std.proofs.Common.{◌≡◌, ℕ, List, [], ◌∷◌, length, map, get_or, None, Ok, sym, ap, ◌∙◌, subst, arith}
-use Rattle.std.specs.Prelude.{IsTrue}
+-- What a node makes of the frames that a frame of it is made of.
+use Rattle.std.proofs.Common.{◌≡◌, ℕ, ◌+◌, ◌-◌, ◌*◌, ◌<◌, List, [], ◌∷◌, length, map, get_or, None, Ok, Err, refl, sym, ap, ◌∙◌, subst, arith}
+use Rattle.std.specs.Prelude.{IsTrue, Result}
+use Rattle.std.specs.Result.{IfOk}
 use Rattle.std.specs.List.{range_with_len}
 use Rattle.std.proofs.lemmas.List.{length-map, get_or-map}
+use Rattle.std.proofs.lemmas.List.Elements.{All-nil, All-cons}
 use Rattle.std.proofs.lemmas.List.FromFn.{fill_by_all}
 use Rattle.std.proofs.lemmas.Simd.{map-map}
+use Rattle.fv_plane.specs.declared.format.Colour.{Colour}
 use Rattle.fv_plane.specs.declared.format.Info.{Info}
 use Rattle.fv_plane.specs.declared.format.Shape.{Shape}
+use Rattle.fv_plane.specs.declared.key.Key.{Key}
 use Rattle.fv_plane.specs.Format.{IsLegal}
-use Rattle.fv_plane.specs.Picture.{Picture, IsPicture}
+use Rattle.fv_plane.specs.Picture.{Picture, IsPicture, blank}
 use Rattle.fv_plane.specs.Look.{look_in, picture_from}
+use Rattle.fv_plane.specs.Refusals.{first_fault}
 use Rattle.clip_term.specs.declared.op.Origin.{Origin}
 use Rattle.clip_term.specs.declared.op.TimeOp.{TimeOp}
 use Rattle.clip_term.specs.declared.op.SpaceOp.{SpaceOp}
 use Rattle.clip_term.specs.declared.op.JoinOp.{JoinOp}
-use Rattle.clip_term.specs.Refusals.{info_at, no_info, limits}
+use Rattle.clip_term.specs.declared.op.SoftOp.{SoftOp}
+use Rattle.clip_term.specs.declared.op.SoftOp.TheVariants as soft_op
+use Rattle.clip_term.specs.Refusals.{info_at, no_info, nat_of, rate_of, limits}
+use Rattle.clip_term.specs.Blank.{colour_at, plain_refusals}
 use Rattle.clip_term.specs.Time.{time_refusals, time_length, time_rate, source_number, from_input, in_range}
 use Rattle.clip_term.specs.Space.{space_refusals, space_shape, space_at, space_picture}
-use Rattle.clip_term.specs.ClipTerm.{Act, time, space, joined}
-use Rattle.clip_term.specs.Terms.{AreLawful, IsSound, asked, check, make, join_inputs}
+use Rattle.clip_term.specs.Soft.{soft_at}
+use Rattle.clip_term.specs.ClipTerm.{Act, plain, time, space, joined, soft}
+use Rattle.clip_term.specs.Terms.{AreLawful, IsSound, asked, check, make, join_inputs, no_picture}
 use Rattle.clip_term.proofs.AskedLemmas.{asks_in_range}
 use Rattle.clip_term.proofs.LawfulLemmas.{checks_lawful}
 use Rattle.clip_term.proofs.PassedLemmas.{passed, limits_shape}
 use Rattle.clip_term.proofs.TimeLocal.{time_local}
-use Rattle.clip_reference.specs.Ready.{IsReady, IsFilter}
-use Rattle.clip_reference.proofs.ListedLemmas.{listed}
-use Rattle.clip_reference.proofs.ReadyLemmas.{ready}
-use Rattle.fv_plane.specs.Refusals.{first_fault}
+use Rattle.clip_graph.specs.Plan.{Application, application_at, infos_at, IsPlan}
+use Rattle.clip_graph.specs.Unfolding.{input_keys, key_made}
+use Rattle.clip_reference.proofs.ListedLemmas.{listed, blank_listed}
 use Rattle.flt_space.proofs.CallerLemmas.{not_refused, shape_made}
 use Rattle.flt_merge.specs.Joined.{CanJoin, join_picture}
 use Rattle.flt_merge.proofs.CallerLemmas.{can_join, joined_is}
-use Rattle.clip_frames.specs.Asked.{AreOfShapes}
+use Rattle.flt_soft.specs.Pictures.{CanSoften, HaveShape, shape_of, soft_picture}
+use Rattle.flt_soft.proofs.CallerLemmas as of_soft
+use Rattle.flt_soft.proofs.PictureLemmas.{some_asked}
+use Rattle.clip_frames.specs.Asked.{AreOfKeys}
+use Rattle.clip_frames.proofs.NodeLemmas.{is_node, asked_shapes}
+
+-- a picture for each frame that is asked, of the shape of its clip
+abbrev pub AreOfShapes : Act → List Info → ℕ → List Picture → Type 0
+AreOfShapes act infos n pictures = map (λ (p : Picture). p.shape) pictures ≡ map (λ (o : Origin). (info_at infos o.input).shape) (asked act infos n)
 
 -- as many pictures as are asked
 pub as_many : (act : Act) (infos : List Info) (n : ℕ) (pictures : List Picture) → AreOfShapes act infos n pictures → length pictures ≡ length (asked act infos n)
 as_many act infos n pictures shapes =
     sym (length-map pictures (λ (p : Picture). p.shape)) ∙ ap length shapes ∙ length-map (asked act infos n) (λ (o : Origin). (info_at infos o.input).shape)
 
-pub is_ready : (act : Act) (infos : List Info) (info : Info) (n : ℕ) (pictures : List Picture) → IsFilter act → IsSound act (length infos) → check act infos ≡ Ok info → AreOfShapes act infos n pictures
-    → IsReady act infos (length pictures)
-is_ready act infos info n pictures filter sound told shapes = ready act infos info n (length pictures) filter sound told (as_many act infos n pictures shapes)
+-- what is known where a node makes a frame of these pictures
+pub record CanMake (plan : List Application) (key : Key) (act : Act) (pictures : List Picture) : Type 0 where
+  pub sound : IsSound act (length (infos_at plan key.node))
+  pub lawful : AreLawful (infos_at plan key.node)
+  pub told : check act (infos_at plan key.node) ≡ Ok (application_at plan key.node).info
+  pub shapes : AreOfShapes act (infos_at plan key.node) key.n pictures
+
+pub can_make : (plan : List Application) (key : Key) (act : Act) (pictures : List Picture) → IsPlan plan → key.node < length plan → AreOfKeys plan (input_keys plan key) pictures → act ≡ (application_at plan key.node).act
+    → CanMake plan key act pictures
+can_make plan key act pictures is within shapes act_is =
+    let at = is_node plan key.node is within in
+    rw act_is (record { sound = at.sound; lawful = at.lawful; told = at.told; shapes = shapes ∙ asked_shapes plan key.node key.n is within })
+
+-- a filter of the group Time, or of the group Space, has a frame
+pub some_shown : (plan : List Application) (key : Key) (op : TimeOp) (pictures : List Picture) → CanMake plan key (time op) pictures → 0 < length pictures
+some_shown plan key op pictures can = omega (arith, as_many (time op) (infos_at plan key.node) key.n pictures can.shapes)
+
+pub some_given : (plan : List Application) (key : Key) (op : SpaceOp) (pictures : List Picture) → CanMake plan key (space op) pictures → 0 < length pictures
+some_given plan key op pictures can = omega (arith, as_many (space op) (infos_at plan key.node) key.n pictures can.shapes)
+
+-- what is made is what the definition has
+pub record Makes {E : Type 0} (plan : List Application) (key : Key) (pictures : List Picture) (answer : Result Picture E) : Type 0 where
+  pub made : IfOk answer (λ (p : Picture). (book : List (List Picture)) → p ≡ key_made book plan key pictures)
+  pub shape : IfOk answer (λ (p : Picture). p.shape ≡ (application_at plan key.node).info.shape)
+
+pub makes : {E : Type 0} (plan : List Application) (key : Key) (act : Act) (pictures : List Picture) (answer : Result Picture E) (picture : Picture) → act ≡ (application_at plan key.node).act → IfOk answer (λ (p : Picture). p ≡ picture)
+    → ((book : List (List Picture)) → picture ≡ make book act (infos_at plan key.node) (application_at plan key.node).info key.n pictures) → Makes plan key pictures answer
+unfolding picture_from
+makes plan key act pictures (Ok p) picture act_is is same =
+    let all : (book : List (List Picture)) → p ≡ key_made book plan key pictures
+    = λ book. is ∙ same book ∙ ap (λ a. make book a (infos_at plan key.node) (application_at plan key.node).info key.n pictures) act_is in
+    record { made = all; shape = ap (λ (q : Picture). q.shape) (all []) }
+makes plan key act pictures (Err fault) picture act_is is same = record { made = tt; shape = tt }
 
 pub is_legal : (act : Act) (infos : List Info) (info : Info) → IsSound act (length infos) → AreLawful infos → check act infos ≡ Ok info → IsLegal info.shape
 is_legal act infos info sound lawful told = (checks_lawful act infos info sound lawful told).shape
@@ -104,3 +150,53 @@ join_ready op infos info n pictures sound lawful told shapes =
 pub join_made : (op : JoinOp) (infos : List Info) (info : Info) (n : ℕ) (pictures : List Picture) → check (joined op) infos ≡ Ok info → AreOfShapes (joined op) infos n pictures
     → (book : List (List Picture)) → join_picture op pictures ≡ make book (joined op) infos info n pictures
 join_made op infos info n pictures told shapes book = joined_is op infos info pictures told (shapes ∙ each_shape infos n) book n
+
+-- SOFT
+
+alike : {A : Type 0} (shape : Shape) (xs : List A) (pictures : List Picture) → map (λ (p : Picture). p.shape) pictures ≡ map (λ (x : A). shape) xs → HaveShape shape pictures
+alike {A} shape [] [] same = All-nil (λ (p : Picture). p.shape ≡ shape)
+alike {A} shape [] (p ∷ pictures) same = absurd (let none : ⊥ = cc in none)
+alike {A} shape (x ∷ xs) [] same = absurd (let none : ⊥ = cc in none)
+alike {A} shape (x ∷ xs) (p ∷ pictures) same =
+    let here : p.shape ≡ shape = cc in
+    let rest : map (λ (q : Picture). q.shape) pictures ≡ map (λ (y : A). shape) xs = cc in
+    All-cons (λ (q : Picture). q.shape ≡ shape) p pictures here (alike shape xs pictures rest)
+
+-- the frames that are asked have the shape of the clip
+soft_alike : (op : SoftOp) (infos : List Info) (n : ℕ) (pictures : List Picture) → AreOfShapes (soft op) infos n pictures → HaveShape (info_at infos 0).shape pictures
+soft_alike (soft_op.TemporalSoften radius luma chroma) infos n pictures shapes =
+    let count = 2 * nat_of radius + 1 in
+    alike (info_at infos 0).shape (range_with_len 0 count) pictures
+    (shapes ∙ map-map (λ (o : Origin). (info_at infos o.input).shape) (λ k. in_range infos (from_input 0 (n + k - nat_of radius))) (range_with_len 0 count))
+soft_alike (soft_op.GeneralConvolution bias matrix) infos n pictures shapes = alike {A = ℕ} (info_at infos 0).shape (0 ∷ []) pictures shapes
+
+some_pictures : (op : SoftOp) (infos : List Info) (n : ℕ) (pictures : List Picture) → AreOfShapes (soft op) infos n pictures → 0 < length pictures
+some_pictures op infos n pictures shapes = omega (arith, as_many (soft op) infos n pictures shapes, of_soft.length-soft_asked op infos n, some_asked op)
+
+pub soft_ready : (op : SoftOp) (infos : List Info) (info : Info) (n : ℕ) (pictures : List Picture) → IsSound (soft op) (length infos) → check (soft op) infos ≡ Ok info → AreOfShapes (soft op) infos n pictures → CanSoften op pictures
+soft_ready op infos info n pictures sound told shapes = record {
+  accepted = of_soft.not_refused op infos info told;
+  lists = sound.1;
+  asked = as_many (soft op) infos n pictures shapes ∙ of_soft.length-soft_asked op infos n;
+  alike = of_soft.alike_by (info_at infos 0).shape pictures (some_pictures op infos n pictures shapes) (soft_alike op infos n pictures shapes);
+}
+
+pub soft_made : (op : SoftOp) (infos : List Info) (info : Info) (n : ℕ) (pictures : List Picture) → check (soft op) infos ≡ Ok info → AreOfShapes (soft op) infos n pictures
+    → (book : List (List Picture)) → soft_picture op pictures ≡ make book (soft op) infos info n pictures
+soft_made op infos info n pictures told shapes book =
+    ap (λ s. picture_from s (soft_at op s (map look_in pictures))) (soft_alike op infos n pictures shapes 0 no_picture (some_pictures op infos n pictures shapes))
+    ∙ ap (λ s. picture_from s (soft_at op (info_at infos 0).shape (map look_in pictures))) (of_soft.shape_made op infos info told)
+
+-- ONE COLOUR
+
+plain_shape : (info : Info) (colour : Colour) (infos : List Info) (told : Info) → check (plain info colour) infos ≡ Ok told → info.shape ≡ told.shape
+plain_shape info colour infos told is =
+    let rest = limits info info.frames (rate_of info) info.shape in
+    limits_shape info info.frames (rate_of info) info.shape told (passed (plain_refusals info) rest told is).1
+
+pub plain_legal : (info : Info) (colour : Colour) (infos : List Info) (told : Info) → IsSound (plain info colour) (length infos) → AreLawful infos → check (plain info colour) infos ≡ Ok told → IsLegal info.shape
+plain_legal info colour infos told sound lawful is = subst (λ (s : Shape). IsLegal s) (sym (plain_shape info colour infos told is)) (is_legal (plain info colour) infos told sound lawful is)
+
+pub plain_made : (info : Info) (colour : Colour) (infos : List Info) (told : Info) (n : ℕ) (pictures : List Picture) → check (plain info colour) infos ≡ Ok told
+    → (book : List (List Picture)) → blank info.shape colour ≡ make book (plain info colour) infos told n pictures
+plain_made info colour infos told n pictures is book = blank_listed info.shape colour ∙ ap (λ s. picture_from s (colour_at colour info.shape)) (plain_shape info colour infos told is)

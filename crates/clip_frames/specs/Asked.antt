@@ -1,17 +1,30 @@
--- The frames that a filter asks.
-use Rattle.std.specs.Prelude.{◌≡◌, ℕ, List, map}
+-- The frames that a frame is made of.
+use Rattle.std.specs.Prelude.{◌≡◌, ℕ, ◌<◌, List, length, map, slice_index_or}
+use Rattle.std.specs.Result.{IsOkAnd}
 use Rattle.fv_plane.specs.declared.format.Info.{Info}
-use Rattle.fv_plane.specs.declared.format.Shape.{Shape}
+use Rattle.fv_plane.specs.declared.key.Key.{Key}
 use Rattle.fv_plane.specs.Picture.{Picture}
 use Rattle.clip_term.specs.declared.op.Origin.{Origin}
-use Rattle.clip_term.specs.Refusals.{info_at}
+use Rattle.clip_term.specs.Time.{from_input, in_range}
 use Rattle.clip_term.specs.ClipTerm.{Act}
-use Rattle.clip_term.specs.Terms.{asked}
+use Rattle.clip_term.specs.Terms.{AreLawful, IsSound, check}
+use Rattle.clip_graph.specs.Plan.{Application, application_at, infos_among}
 
--- the shapes of the frames that are asked for frame n
-abbrev pub asked_shapes : Act → List Info → ℕ → List Shape
-asked_shapes act infos n = map (λ (o : Origin). (info_at infos o.input).shape) (asked act infos n)
+-- the frames have the shapes of their keys' nodes
+abbrev pub AreOfKeys : List Application → List Key → List Picture → Type 0
+AreOfKeys plan keys frames =
+    map (λ (p : Picture). p.shape) frames ≡ map (λ (k : Key). (application_at plan k.node).info.shape) keys
 
--- a picture for each frame that is asked, of the shape of its clip
-abbrev pub AreOfShapes : Act → List Info → ℕ → List Picture → Type 0
-AreOfShapes act infos n pictures = map (λ (p : Picture). p.shape) pictures ≡ asked_shapes act infos n
+-- a frame of one of these places
+abbrev pub key_among : List ℕ → Origin → Key
+key_among places origin = record { node = slice_index_or places origin.input 0; n = origin.number }
+
+-- the same, after its number was brought into those of the place
+abbrev pub key_in_range : List Application → List ℕ → ℕ → ℕ → Key
+key_in_range plan places input number = key_among places (in_range (infos_among plan places) (from_input input number))
+
+-- frame n of what is done to clips with these infos
+pub record IsShown (act : Act) (infos : List Info) (n : ℕ) : Type 0 where
+  pub sound : IsSound act (length infos)
+  pub lawful : AreLawful infos
+  pub shown : IsOkAnd (check act infos) (λ (info : Info). n < info.frames)

@@ -1,3 +1,2 @@
 pub mod Sources
-pub mod Faults
 pub mod Asked

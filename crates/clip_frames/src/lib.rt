@@ -1,14 +1,13 @@
-//! The frames of the clips that a graph describes, one at a time.
+//! Which frames a frame of a node is made of, and what the node makes of them.
 //!
-//! `frame_of` goes over the nodes by plain recursion, and reads each source of the graph from its `SeqSource`. Where the
-//! sources' bytes are told, the frame is the picture that the node's clip has. A fault names the source that failed.
+//! `input_at` names the frames one by one, and `make_frame` makes the frame of them. Neither asks for a frame itself,
+//! so a caller may keep frames, and make several at once. The frames of sources are the caller's.
 #![tactic(auto)]
 
-mod fault;
-mod frames;
+mod inputs;
 mod make;
 #[cfg(test)]
 mod tests;
 
-pub use fault::FrameFault;
-pub use frames::frame_of;
+pub use inputs::input_at;
+pub use make::make_frame;

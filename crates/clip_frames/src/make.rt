@@ -1,16 +1,16 @@
-// What a filter makes of the frames that it asks.
-ghost use Rattle.std.specs.Prelude.{◌≡◌, List, length, Ok, IfOk};
+// What a node makes of the frames that a frame of it is made of.
+ghost use Rattle.std.specs.Prelude.{◌≡◌, false, List, length, IfOk};
 ghost use Rattle.fv_plane.specs.Picture.{Picture, IsPicture};
-ghost use Rattle.clip_term.specs.ClipTerm.{act_of};
-ghost use Rattle.clip_term.specs.Terms.{AreLawful, IsSound, check, make};
-ghost use Rattle.clip_reference.specs.Ready.{IsFilter};
-ghost use Rattle.clip_frames.specs.Asked.{AreOfShapes};
+ghost use Rattle.clip_graph.specs.Plan.{application_at, is_source};
+ghost use Rattle.clip_graph.specs.Unfolding.{IsKeyBelow, input_keys, key_made};
+ghost use Rattle.clip_frames.specs.Asked.{AreOfKeys};
 
-use clip_reference::make::made;
+use clip_graph::Graph;
 use clip_term::Op;
 use flt_merge::make_join;
+use flt_soft::{Scratch, make_soft};
 use flt_space::make_space;
-use fv_plane::{Frame, Info};
+use fv_plane::{Frame, Key};
 use std::alloc::{AllocError, Global};
 
 // The frame that a filter of the group Time shows.
@@ -22,29 +22,29 @@ fn shown(frame: &Frame) -> Result<Frame, AllocError>
     frame.share()
 }
 
-/// The frame that a filter makes of the frames that it asks for its frame `n`. `infos` are those of its clips, and `info`
-/// is what its check answers. An `Err` is out of memory.
-pub(crate) fn make_frame(
+/// The frame that a node makes of the frames of `input_at`, in their order. The scratch serves filters of the group
+/// Soft; what it holds matters to no frame. An `Err` is out of memory.
+pub fn make_frame(
     alloc: Global,
-    op: &Op,
-    infos: &[Info],
-    info: Info,
-    n: u32,
+    graph: &Graph,
+    key: Key,
     frames: &[Frame],
+    scratch: &mut Scratch,
 ) -> Result<Frame, AllocError>
-    requires filter { IsFilter (act_of op.now) }
-    requires sound { IsSound (act_of op.now) (length infos.now) }
-    requires lawful { AreLawful infos.now }
-    requires told { check (act_of op.now) infos.now ≡ Ok info }
-    requires shapes { AreOfShapes (act_of op.now) infos.now n frames.now }
-    ensures { IfOk result (λ frame. (book : List (List Picture))
-        → frame ≡ make book (act_of op.now) infos.now info n frames.now) }
+    requires key { IsKeyBelow graph.now (length graph.now) key }
+    requires filter { is_source (application_at graph.now key.node).act ≡ false }
+    requires shapes { AreOfKeys graph.now (input_keys graph.now key) frames.now }
+    ensures made { IfOk result (λ frame. (book : List (List Picture))
+        → frame ≡ key_made book graph.now key frames.now) }
+    ensures shape { IfOk result (λ frame. frame.shape ≡ (application_at graph.now key.node).info.shape) }
 {
-    match op {
-        Op::Source { .. } | Op::Blank { .. } => unreachable!(),
+    prove!(key.node < graph.len());
+    match &graph.node(key.node).op {
+        Op::Source { .. } => unreachable!(),
+        Op::Blank { info, colour } => Frame::blank(alloc, info.shape, *colour),
         Op::Time(_) => shown(&frames[0]),
-        Op::Space(space) => make_space(alloc, space, &frames[0]),
-        Op::Join(join) => make_join(alloc, join, frames),
-        Op::Soft(_) => made(alloc, op, infos, info, frames),
+        Op::Space(op) => make_space(alloc, op, &frames[0]),
+        Op::Join(op) => make_join(alloc, op, frames),
+        Op::Soft(op) => make_soft(alloc, op, frames, scratch),
     }
 }

@@ -1,23 +1,17 @@
 // Clips of pseudo-random pictures in memory: as sources of a graph, and as a book.
 ghost use Rattle.std.specs.Prelude.{◌≡◌, ◌<◌, ◌≤◌, [], ◌∷◌, slice_index_or, IfOk};
 ghost use Rattle.fv_plane.specs.Clip.{IsClip};
-ghost use Rattle.fv_plane.specs.Format.{IsLegal};
 ghost use Rattle.fv_plane.specs.Info.{IsLawful};
 ghost use Rattle.fv_plane.specs.Picture.{IsPicture};
-ghost use Rattle.clip_frames.specs.Sources.{AreSources, source_infos};
 
 use super::terms::middle;
 use super::{add_source, apply};
 use clip_graph::Graph;
 use clip_reference::Book;
-use fv_io::{MemSink, MemSource};
 use fv_plane::{Field, Frame, Info, Par, PixelType, Shape, Tag};
-use seq_source::SeqSource;
 use std::alloc::{AllocError, Global};
 use std::process::Abort;
-use std::sync::Arc;
 use std::test::Fail;
-use y4m_stream::{print_head, write_frame};
 
 // A linear congruential generator (Numerical Recipes, "Random Numbers").
 #[derive(Drop)]
@@ -47,7 +41,7 @@ pub fn shape(kind: PixelType, width: u32, height: u32) -> Shape {
     }
 }
 
-fn info_of(rt: &impl Abort, shape: Shape, frames: u32) -> Info
+pub fn info_of(rt: &impl Abort, shape: Shape, frames: u32) -> Info
     requires some { 0 < frames }
     requires few { frames ≤ 10 }
     ensures { IsLawful result }
@@ -64,13 +58,29 @@ fn info_of(rt: &impl Abort, shape: Shape, frames: u32) -> Info
     }
 }
 
+// The frame of these bytes.
+pub fn frame(
+    rt: &impl Abort,
+    alloc: Global,
+    shape: Shape,
+    bytes: &[u8],
+) -> Result<Frame, AllocError>
+    ensures shape { IfOk result (λ frame. frame.shape ≡ shape) }
+    ensures whole { IfOk result IsPicture }
+{
+    assert!(rt; shape.is_legal(), "{shape:?}");
+    assert_eq!(rt; bytes.len() as u64, shape.bytes());
+    let frame = Frame::from_bytes(alloc, shape, bytes)?;
+    let _ = frame.shape();
+    Ok(frame)
+}
+
 fn random_frame(
     rt: &impl Abort,
     alloc: Global,
     random: &mut Random,
     shape: Shape,
 ) -> Result<Frame, AllocError>
-    requires { IsLegal shape }
     ensures shape { IfOk result (λ frame. frame.shape ≡ shape) }
     ensures whole { IfOk result IsPicture }
 {
@@ -78,10 +88,7 @@ fn random_frame(
     for _ in 0..shape.bytes() {
         bytes.push(random.sample())?;
     }
-    assert_eq!(rt; bytes.len() as u64, shape.bytes());
-    let frame = Frame::from_bytes(alloc, shape, &bytes)?;
-    let _ = frame.shape();
-    Ok(frame)
+    frame(rt, alloc, shape, &bytes)
 }
 
 fn random_frames(
@@ -100,24 +107,21 @@ fn random_frames(
     Ok(frames)
 }
 
-// The frames as a file in memory.
-fn stream(alloc: Global, info: Info, frames: &[Frame]) -> Result<MemSource, Fail>
-    ensures { IfOk result (λ source. source.place ≡ 0) }
-{
-    let mut bytes = print_head(alloc, &info)?;
+// The same frames.
+fn shared(alloc: Global, frames: &[Frame]) -> Result<Vec<Frame>, AllocError> {
+    let mut again = Vec::new(alloc);
     for frame in frames {
-        let mut sink = MemSink::new(alloc, 4_096)?;
-        write_frame(&mut sink, frame)?;
-        bytes.extend_from_slice(sink.bytes())?;
+        again.push(frame.share()?)?;
     }
-    Ok(MemSource::new(Arc::new(alloc, bytes)?, 4_096, Vec::new(alloc)))
+    Ok(again)
 }
 
 // Three clips of a graph, whose sources are its first.
 #[derive(Drop)]
 pub struct Clips {
-    // The frames of the sources.
+    // The frames of the sources, twice.
     pub book: Book,
+    pub sources: Vec<Vec<Frame>>,
     // The infos of the sources.
     pub first: Info,
     pub second: Info,
@@ -135,16 +139,14 @@ fn add_clip(
     random: &mut Random,
     info: Info,
     graph: &mut Graph,
-    sources: &mut Vec<SeqSource<MemSource>>,
+    sources: &mut Vec<Vec<Frame>>,
 ) -> Result<Vec<Frame>, Fail>
-    requires lawful { IsLawful info }
-    requires fit { AreSources graph.old sources.old.items }
-    ensures fit { AreSources graph.new sources.new.items }
-    ensures clip { IfOk result (λ frames. IsClip (record { info = info; pictures = frames.items })) }
+    requires { IsLawful info }
+    ensures { IfOk result (λ frames. IsClip (record { info = info; pictures = frames.items })) }
 {
     let frames = random_frames(rt, alloc, random, info)?;
-    let source = stream(alloc, info, &frames)?;
-    let node = add_source(alloc, graph, sources, source)?;
+    sources.push(shared(alloc, &frames)?)?;
+    let node = add_source(alloc, graph, info)?;
     assert!(rt; node < graph.len());
     assert_eq!(rt; graph.node(node).info, info);
     Ok(frames)
@@ -183,9 +185,7 @@ fn nodes_of(
     alloc: Global,
     graph: &mut Graph,
     middles: bool,
-) -> Result<[u32; 3], Fail>
-    ensures { source_infos graph.new ≡ source_infos graph.old }
-{
+) -> Result<[u32; 3], Fail> {
     if !middles {
         return Ok([0, 1, 2]);
     }
@@ -203,10 +203,7 @@ pub fn random_clips(
     shapes: [Shape; 3],
     middles: bool,
     graph: &mut Graph,
-    sources: &mut Vec<SeqSource<MemSource>>,
 ) -> Result<Clips, Fail>
-    requires fit { AreSources graph.old sources.old.items }
-    ensures fit { AreSources graph.new sources.new.items }
     ensures first { IfOk result (λ clips. IsClip (record { info = clips.first; pictures = slice_index_or clips.book 0 [] })) }
     ensures second { IfOk result (λ clips. IsClip (record { info = clips.second; pictures = slice_index_or clips.book 1 [] })) }
     ensures third { IfOk result (λ clips. IsClip (record { info = clips.third; pictures = slice_index_or clips.book 2 [] })) }
@@ -214,11 +211,13 @@ pub fn random_clips(
     let first = info_of(rt, outer(shapes[0], middles), 7);
     let second = info_of(rt, outer(shapes[1], middles), 5);
     let third = info_of(rt, outer(shapes[2], middles), 4);
-    let a = add_clip(rt, alloc, random, first, graph, sources)?;
-    let b = add_clip(rt, alloc, random, second, graph, sources)?;
-    let c = add_clip(rt, alloc, random, third, graph, sources)?;
+    let mut sources = Vec::new(alloc);
+    let a = add_clip(rt, alloc, random, first, graph, &mut sources)?;
+    let b = add_clip(rt, alloc, random, second, graph, &mut sources)?;
+    let c = add_clip(rt, alloc, random, third, graph, &mut sources)?;
     Ok(Clips {
         book: book_of(alloc, a, b, c)?,
+        sources,
         first,
         second,
         third,

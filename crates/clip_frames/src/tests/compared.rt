@@ -1,29 +1,26 @@
 // Frames as the filters make them, compared with the frames of their definitions, sample by sample.
-ghost use Rattle.std.specs.Prelude.{◌≡◌, [], slice_index_or, IfOk};
+ghost use Rattle.std.specs.Prelude.{[], slice_index_or, IfOk};
 ghost use Rattle.fv_plane.specs.Clip.{IsClip};
 ghost use Rattle.clip_term.specs.ClipTerm.{term_of};
 ghost use Rattle.clip_term.specs.Terms.{IsSoundTerm};
 ghost use Rattle.clip_reference.specs.Sources.{HasSources};
-ghost use Rattle.clip_frames.specs.Sources.{AreSources, source_infos};
 
-use super::apply;
 use super::clips::{Clips, Random, random_clips, shape};
 use super::ops::{Case, Group, takes};
 use super::terms::{clip, one, three, two};
-use crate::frame_of;
+use super::{apply, frame_of};
 use clip_check::info;
 use clip_graph::Graph;
 use clip_reference::reference_frame;
 use clip_term::{Op, Term};
-use fv_io::MemSource;
-use fv_plane::{Frame, PixelType, Shape};
-use seq_source::SeqSource;
+use flt_soft::Scratch;
+use fv_plane::{Frame, Key, PixelType, Shape};
 use std::alloc::{AllocError, Global};
 use std::process::Abort;
 use std::test::Fail;
 
 // Whether two frames are equal, row by row.
-fn are_equal(made: &Frame, want: &Frame) -> bool {
+pub fn are_equal(made: &Frame, want: &Frame) -> bool {
     let shape = want.shape();
     if made.shape() != shape {
         return false;
@@ -43,23 +40,21 @@ fn compare_frames(
     rt: &impl Abort,
     alloc: Global,
     graph: &Graph,
-    sources: &mut [SeqSource<MemSource>],
     node: u32,
     clips: &Clips,
     term: &Term,
     name: &str,
+    scratch: &mut Scratch,
 ) -> Result<(), Fail>
-    requires fit { AreSources graph.now sources.old }
     requires sound { IsSoundTerm (term_of term.now) }
     requires sources { HasSources clips.now.book (term_of term.now) }
-    ensures { AreSources graph.now sources.new }
 {
     let info = info(term)?;
     let shape = clips.first.shape;
     assert!(rt; node < graph.len());
     assert_eq!(rt; graph.node(node).info, info, "{name} of {shape:?}");
     for n in 0..info.frames {
-        let made = frame_of(alloc, graph, sources, node, n)?;
+        let made = frame_of(rt, alloc, graph, &clips.sources, Key { node, n }, scratch)?;
         let want = reference_frame(alloc, term, n, &clips.book)?;
         assert!(rt; are_equal(&made, &want), "{name} of {shape:?}, frame {n}");
     }
@@ -102,9 +97,7 @@ fn add(
     graph: &mut Graph,
     op: Op,
     inputs: &[u32],
-) -> Result<u32, Fail>
-    ensures { source_infos graph.new ≡ source_infos graph.old }
-{
+) -> Result<u32, Fail> {
     assert!(rt; takes(&op, inputs.len()));
     apply(rt, alloc, graph, op, inputs)
 }
@@ -114,17 +107,15 @@ fn compare(
     rt: &impl Abort,
     alloc: Global,
     graph: &mut Graph,
-    sources: &mut [SeqSource<MemSource>],
     clips: &Clips,
     case: Case,
     twin: Op,
     count: usize,
+    scratch: &mut Scratch,
 ) -> Result<bool, Fail>
-    requires fit { AreSources graph.old sources.old }
     requires first { IsClip (record { info = clips.now.first; pictures = slice_index_or clips.now.book 0 [] }) }
     requires second { IsClip (record { info = clips.now.second; pictures = slice_index_or clips.now.book 1 [] }) }
     requires third { IsClip (record { info = clips.now.third; pictures = slice_index_or clips.now.book 2 [] }) }
-    ensures { AreSources graph.new sources.new }
 {
     let Case { name, op } = case;
     let term = term_over(rt, alloc, clips, twin, count)?;
@@ -133,7 +124,7 @@ fn compare(
     }
     assert!(rt; count <= 3);
     let node = add(rt, alloc, graph, op, &clips.nodes[..count])?;
-    compare_frames(rt, alloc, graph, sources, node, clips, &term, name)?;
+    compare_frames(rt, alloc, graph, node, clips, &term, name, scratch)?;
     Ok(true)
 }
 
@@ -147,14 +138,13 @@ fn compare_group(
     middles: bool,
 ) -> Result<Vec<&'static str>, Fail> {
     let mut graph = Graph::new(alloc);
-    let mut sources = Vec::new(alloc);
-    let clips = random_clips(rt, alloc, random, shapes, middles, &mut graph, &mut sources)?;
-    let sources = sources.as_mut_slice();
+    let mut scratch = Scratch::new(alloc);
+    let clips = random_clips(rt, alloc, random, shapes, middles, &mut graph)?;
     let count = group.clips();
     let mut names = Vec::new(alloc);
     for (case, twin) in group.cases(alloc)?.into_iter().zip(group.cases(alloc)?) {
         let name = case.name;
-        if !compare(rt, alloc, &mut graph, sources, &clips, case, twin.op, count)? {
+        if !compare(rt, alloc, &mut graph, &clips, case, twin.op, count, &mut scratch)? {
             names.push(name)?;
         }
     }
@@ -202,6 +192,7 @@ fn makes_each_sample_of_one_clip(rt: HostRuntime) -> Result<(), Fail> {
             (Group::Times, 0),
             (Group::Sizes, sizes),
             (Group::Samples, samples),
+            (Group::Softs, 0),
         ] {
             compare_groups(&rt, alloc, &mut random, group, shapes, refused)?;
         }

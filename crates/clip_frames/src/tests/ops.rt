@@ -1,10 +1,10 @@
 // The ops that are compared, by the number of their clips.
-ghost use Rattle.std.specs.Prelude.{◌&&◌, IsTrue};
+ghost use Rattle.std.specs.Prelude.{◌≡◌, ◌&&◌, IsTrue};
 ghost use Rattle.clip_term.specs.ClipTerm.{act_of};
-ghost use Rattle.clip_term.specs.Terms.{IsSound, time_inputs, time_lists};
+ghost use Rattle.clip_term.specs.Terms.{IsSound, is_matrix, time_inputs, time_lists};
 ghost use Rattle.clip_reference.specs.Ready.{IsFilter};
 
-use clip_term::{Channels, JoinOp, Numbers, Op, SpaceOp, TimeOp, TrimBound};
+use clip_term::{Channels, JoinOp, Matrix, Numbers, Op, SoftOp, SpaceOp, TimeOp, TrimBound};
 use std::alloc::{AllocError, Global};
 
 // An op, and its name in failures.
@@ -23,6 +23,8 @@ pub enum Group {
     Sizes,
     // The other ops of the group Space.
     Samples,
+    // Ops of the group Soft.
+    Softs,
     // Ops over two clips.
     Pairs,
     // Ops over three clips.
@@ -35,6 +37,7 @@ impl Group {
             Group::Times => time_cases(alloc),
             Group::Sizes => size_cases(alloc),
             Group::Samples => sample_cases(alloc),
+            Group::Softs => soft_cases(alloc),
             Group::Pairs => pair_cases(alloc),
             Group::Triples => triple_cases(alloc),
         }
@@ -43,7 +46,7 @@ impl Group {
     // The number of clips of each op.
     pub fn clips(self) -> usize {
         match self {
-            Group::Times | Group::Sizes | Group::Samples => 1,
+            Group::Times | Group::Sizes | Group::Samples | Group::Softs => 1,
             Group::Pairs => 2,
             Group::Triples => 3,
         }
@@ -84,7 +87,14 @@ fn time_takes(op: &TimeOp, count: usize) -> bool
     }
 }
 
-// Whether the op is of the groups Time, Space and Join, and is for so many clips.
+fn is_matrix(entries: &[i32]) -> bool
+    ensures { result ≡ is_matrix entries.now }
+{
+    let count = entries.len();
+    (count == 9 || count == 25) && entries.iter().all(|entry| *entry >= -1024 && *entry <= 1024)
+}
+
+// Whether the op is a filter for so many clips.
 pub fn takes(op: &Op, count: usize) -> bool
     ensures filter { IsTrue result → IsFilter (act_of op.now) }
     ensures sound { IsTrue result → IsSound (act_of op.now) count }
@@ -95,7 +105,11 @@ pub fn takes(op: &Op, count: usize) -> bool
         Op::Join(JoinOp::StackHorizontal | JoinOp::StackVertical) => count >= 2,
         Op::Join(JoinOp::YToUV) => count == 3,
         Op::Join(_) => count == 2,
-        Op::Source { .. } | Op::Blank { .. } | Op::Soft(_) => false,
+        Op::Soft(SoftOp::TemporalSoften { .. }) => count == 1,
+        Op::Soft(SoftOp::GeneralConvolution { matrix, .. }) => {
+            count == 1 && is_matrix(matrix.entries.as_slice())
+        }
+        Op::Source { .. } | Op::Blank { .. } => false,
     }
 }
 
@@ -247,6 +261,42 @@ fn sample_cases(alloc: Global) -> Result<Vec<Case>, AllocError> {
         space("UToY8", SpaceOp::UToY8),
         space("VToY8", SpaceOp::VToY8),
         space("ConvertToY8", SpaceOp::ConvertToY8),
+    ]?)
+}
+
+fn soften(name: &'static str, radius: i32, luma: i32, chroma: i32) -> Case {
+    Case {
+        name,
+        op: Op::Soft(SoftOp::TemporalSoften {
+            radius,
+            luma,
+            chroma,
+        }),
+    }
+}
+
+fn convolve(name: &'static str, bias: i32, entries: Numbers) -> Case {
+    let matrix = Matrix { entries };
+    Case {
+        name,
+        op: Op::Soft(SoftOp::GeneralConvolution { bias, matrix }),
+    }
+}
+
+fn soft_cases(alloc: Global) -> Result<Vec<Case>, AllocError> {
+    let nine = numbers(alloc, &[1, 2, -3, 4, 5, 6, 7, -8, 9])?;
+    let all = numbers(
+        alloc,
+        &[
+            1, 0, 2, 0, 0, 0, -3, 0, 0, 4, 0, 0, 9, 0, 0, 0, 5, 0, 0, -6, 0, 0, 7, 0, 1,
+        ],
+    )?;
+    Ok(vec![in alloc;
+        soften("TemporalSoften(1, 60, 0)", 1, 60, 0),
+        soften("TemporalSoften(2, 0, 90)", 2, 0, 90),
+        soften("TemporalSoften(4, 255, 40)", 4, 255, 40),
+        convolve("GeneralConvolution(3, 3 by 3)", 3, nine),
+        convolve("GeneralConvolution(-7, 5 by 5)", -7, all),
     ]?)
 }
 

@@ -1,9 +1,19 @@
--- A filter adds no source.
-use Rattle.std.proofs.Common.{◌∙◌, sym, ap}
-use Rattle.clip_term.specs.ClipTerm.{act_of}
+-- A filter is added with the info that its check told.
+use Rattle.std.proofs.Common.{◌∙◌, ℕ, sym, ap}
+use Rattle.clip_term.specs.ClipTerm.{Act, source, plain, time, space, joined, soft, act_of}
 use Rattle.clip_term.specs.Terms.{check}
-use Rattle.clip_frames.proofs.CallerLemmas.{filter_counted, filter_put}
+use Rattle.clip_graph.specs.Plan.{IsCounted}
+use Rattle.clip_reference.specs.Ready.{IsFilter}
 use Rattle.clip_frames.proofs.tests.apply.Goals as goal
+
+-- it is not counted as a source
+filter_counted : (act : Act) (before mode : ℕ) → IsFilter act → IsCounted act before mode
+filter_counted (source name number info) before mode filter = absurd filter
+filter_counted (plain info colour) before mode filter = absurd filter
+filter_counted (time op) before mode filter = tt
+filter_counted (space op) before mode filter = tt
+filter_counted (joined op) before mode filter = tt
+filter_counted (soft op) before mode filter = tt
 
 pub add-requires-clause-told : goal.add-requires-clause-told
 add-requires-clause-told g c =
@@ -11,6 +21,3 @@ add-requires-clause-told g c =
 
 pub add-requires-clause-counted : goal.add-requires-clause-counted
 add-requires-clause-counted g c = filter_counted (act_of c.args.op) _ 1 c.requires.filter
-
-pub returns : goal.returns
-returns g c = filter_put c.args.graph.now c.add.new.self _ c.in_ok-add.ensures.3 c.requires.filter
