@@ -30,7 +30,7 @@ produced_more produce keys (j ∷ js) k =
     (sym (append_assoc (produce keys j).events rest.events (produce rest.keys k).events))
 
 -- where each of the keys is produced whole, so are all
-each_whole : (plan : List Application) (produce : List Key → Key → Serial) (i : ℕ)
+pub each_whole : (plan : List Application) (produce : List Key → Key → Serial) (i : ℕ)
     → ((keys : List Key) (k : Key) → k.node < i → Production plan 0 k (produce keys k).events)
     → (keys : List Key) (ks : List Key) → All (IsKeyBelow plan i) ks → Productions plan 0 ks (each_produced produce keys ks).events
 each_whole plan produce i whole keys [] below = done
@@ -38,7 +38,7 @@ each_whole plan produce i whole keys (k ∷ ks) below =
     more (whole keys k (All-head (IsKeyBelow plan i) k ks below).node)
     (each_whole plan produce i whole (produce keys k).keys ks (All-tail (IsKeyBelow plan i) k ks below))
 
-whole_within : (plan : List Application) → IsPlan plan → (capacity most : ℕ) (keys : List Key) (k : Key) → k.node < most → k.node < length plan
+pub whole_within : (plan : List Application) → IsPlan plan → (capacity most : ℕ) (keys : List Key) (k : Key) → k.node < most → k.node < length plan
     → Production plan 0 k (serial_production_within most plan capacity keys k).events
 whole_within plan is capacity zero keys k less there = absurd (omega arith)
 whole_within plan is capacity (suc most) keys k less there = ⊎_elim

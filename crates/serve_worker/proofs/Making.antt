@@ -1,0 +1,60 @@
+-- The frame that a node's instance makes is that of its key.
+use Rattle.std.proofs.Common.{◌≡◌, ℕ, ◌+◌, ◌<◌, ◌≤◌, ◌==◌, Bool, true, false, List, [], map, Some, None, Ok, sym, refl, ap, ◌∙◌, subst, arith, eq-eqb, slice_get, length}
+use Rattle.std.specs.Prelude.{slice_index_or}
+use Rattle.std.proofs.lemmas.Option.{get_or_from_slice_get}
+use Rattle.fv_io.specs.Faults.{HasRisen}
+use Rattle.fv_plane.specs.declared.format.Info.{Info}
+use Rattle.fv_plane.specs.declared.key.Key.{Key}
+use Rattle.fv_plane.specs.Look.{look_in, picture_from}
+use Rattle.fv_plane.specs.Picture.{Picture}
+use Rattle.clip_term.specs.ClipTerm.{Act, source, plain, time, space, joined, soft}
+use Rattle.clip_graph.specs.Plan.{Application, application_at, infos_at, is_source, sources_in, IsPlan, IsCounted}
+use Rattle.clip_graph.specs.Unfolding.{input_keys, key_made, key_picture}
+use Rattle.clip_graph.proofs.UnfoldingLemmas.{unfolds}
+use Rattle.clip_reference.proofs.ListedLemmas.{listed}
+use Rattle.inst_table.specs.Places.{shared_place}
+use Rattle.serve_events.specs.Keys.{mode_at, instance_in}
+use Rattle.serve_core.specs.Sources.{place_of, opened_at}
+use Rattle.serve_core.specs.Stands.{Book, IsRight, FitsAct}
+use Rattle.serve_worker.specs.Works.{IsMade}
+
+-- a source has mode 3
+
+counted_mode : (act : Act) (before mode : ℕ) → is_source act ≡ true → IsCounted act before mode → mode ≡ 3
+counted_mode (source name number info) before mode is counted = counted.1
+counted_mode (plain info colour) before mode is counted = absurd (cc)
+counted_mode (time op) before mode is counted = absurd (cc)
+counted_mode (space op) before mode is counted = absurd (cc)
+counted_mode (joined op) before mode is counted = absurd (cc)
+counted_mode (soft op) before mode is counted = absurd (cc)
+
+pub source_mode : (plan : List Application) (i : ℕ) → IsPlan plan → i < length plan → is_source (application_at plan i).act ≡ true → mode_at plan i ≡ 3
+source_mode plan i is less h = counted_mode (application_at plan i).act _ _ h (is.each i less).counted
+
+pub no_source : (plan : List Application) (i : ℕ) → IsPlan plan → i < length plan → mode_at plan i ≡ 1 → is_source (application_at plan i).act ≡ false
+no_source plan i is less one = pick (is_source (application_at plan i).act) refl
+  where
+    pick : (b : Bool) → is_source (application_at plan i).act ≡ b → is_source (application_at plan i).act ≡ false
+    pick false e = e
+    pick true e = let three = source_mode plan i is less e in absurd (omega arith)
+
+pub shared_for : (plan : List Application) (w i : ℕ) → mode_at plan i ≡ 3 → place_of plan w i ≡ shared_place i
+shared_for plan w i three = ap (λ mode. record { node = i; instance = instance_in mode w; shared = mode == 3 }) three
+
+-- the frame of a source
+
+pub source_right : (plan : List Application) (k : Key) (b : List (List Picture)) (name : List ℕ) (number : ℕ) (info : Info) (frame : Picture) → IsPlan plan → k.node < length plan
+    → (application_at plan k.node).act ≡ source name number info → (feed : List Picture) → IsMade plan k (Some feed) [] frame → feed ≡ slice_index_or b number [] → frame ≡ key_picture b plan k
+source_right plan k b name number info frame is less act feed made told =
+    let at : slice_get (slice_index_or b number []) k.n ≡ Some frame = ap (λ l. slice_get l k.n) (sym told) ∙ made.shown (ap is_source act) feed refl in
+    let none : Picture = record { shape = info.shape; planes = [] } in
+    let first : frame ≡ slice_index_or (slice_index_or b number []) k.n none = sym (get_or_from_slice_get (slice_index_or b number []) k.n frame none at) in
+    let law : key_made b plan k (map (key_picture b plan) (input_keys plan k)) ≡ key_picture b plan k = unfolds b plan k is less in
+    let law' : picture_from (application_at plan k.node).info.shape (look_in (slice_index_or (slice_index_or b number []) k.n none)) ≡ key_picture b plan k = rw act at law in
+    sym (listed frame made.whole) ∙ ap (λ s. picture_from s (look_in frame)) made.shape ∙ ap (λ p. picture_from (application_at plan k.node).info.shape (look_in p)) first ∙ law'
+
+-- the frame of a filter
+
+pub filter_right : (plan : List Application) (k : Key) (b : List (List Picture)) (inputs : List Picture) (frame : Picture) → IsPlan plan → k.node < length plan → frame ≡ key_made b plan k inputs
+    → inputs ≡ map (key_picture b plan) (input_keys plan k) → frame ≡ key_picture b plan k
+filter_right plan k b inputs frame is less made are = made ∙ ap (key_made b plan k) are ∙ unfolds b plan k is less

@@ -1,0 +1,53 @@
+-- What an instance is to contracts.
+use Rattle.std.specs.Prelude.{◌≡◌, ℕ, ◌<◌, List, Option, Some, None}
+use Rattle.fv_io.specs.declared.source.Source.{Ghosts}
+use Rattle.fv_io.specs.Source.{SourceFailed}
+use Rattle.fv_plane.specs.declared.format.Info.{Info}
+use Rattle.fv_plane.specs.declared.key.Key.{Key}
+use Rattle.fv_plane.specs.Picture.{Picture}
+use Rattle.y4m_stream.specs.Index.{Indexed, IsIndex}
+use Rattle.seq_source.specs.FrameSource.{FrameSource, frames_of, end_of}
+use Rattle.serve_events.specs.declared.event.Stop.{Stop}
+use Rattle.serve_events.specs.declared.event.Stop.TheVariants.{Read, Changed, Memory}
+use Rattle.serve_worker.specs.declared.instance.Instance.{Instance}
+use Rattle.serve_worker.specs.declared.instance.Instance.TheVariants.{Plain, Scratch, Source}
+
+-- the bytes end at `got`, before `want`, the offset just past a frame of this index
+pub record EndsInFrame (index : Indexed) (frame want got : ℕ) : Type 0 where
+  pub is_index : IsIndex index
+  pub inside : frame < index.info.frames
+  pub want_is : want ≡ end_of index frame
+  pub early : got < want
+
+module _ {S : Type 0} (source : Ghosts S) where
+  abbrev pub feed_of : Instance S → Option (List Picture)
+  feed_of Plain = None
+  feed_of (Scratch width) = None
+  feed_of (Source it) = frames_of source it
+
+  abbrev pub faults_of : Instance S → ℕ
+  faults_of Plain = 0
+  faults_of (Scratch width) = 0
+  faults_of (Source it) = source.faults it.source
+
+abbrev pub holds_of : {S : Type 0} → Instance S → Option Info
+holds_of Plain = None
+holds_of (Scratch width) = None
+holds_of (Source it) = Some it.index.info
+
+abbrev pub Ends : {S : Type 0} → Instance S → ℕ → ℕ → ℕ → Type 0
+Ends Plain frame want got = ⊥
+Ends (Scratch width) frame want got = ⊥
+Ends (Source it) frame want got = EndsInFrame it.index frame want got
+
+-- why a source gave no frame of a key, by what it was before and after
+module _ {S : Type 0} (source : Ghosts S) where
+  pub record ReadEndsEarly (k : Key) (j frame want got : ℕ) (old new : FrameSource S) : Type 0 where
+    pub node_is : j ≡ k.node
+    pub untold : (frames : List Picture) → frames_of source old ≡ Some frames → ⊥
+    pub ended : EndsInFrame new.index frame want got
+
+  abbrev pub ReadStops : Key → FrameSource S → FrameSource S → Stop → Type 0
+  ReadStops k old new (Read j) = (j ≡ k.node) × SourceFailed source old.source new.source
+  ReadStops k old new (Changed j frame want got) = ReadEndsEarly k j frame want got old new
+  ReadStops k old new Memory = Unit {0}

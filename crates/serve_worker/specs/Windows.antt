@@ -1,0 +1,106 @@
+-- One worker over the outputs of a window.
+use Rattle.std.specs.Prelude.{◌≡◌, ◌⊎◌, ℕ, ◌+◌, ◌<◌, ◌≤◌, Bool, true, false, List, [], ◌∷◌, ◌++◌, length, slice_get, slice_set, Option, Some, None}
+use Rattle.std.specs.Map.{keys_of}
+use Rattle.fv_plane.specs.declared.format.Info.{Info}
+use Rattle.fv_plane.specs.Picture.{Picture}
+use Rattle.clip_graph.specs.Plan.{Application, application_at}
+use Rattle.serve_events.specs.declared.event.Event.{Event}
+use Rattle.serve_events.specs.declared.event.Event.TheVariants.{Take}
+use Rattle.serve_events.specs.declared.event.Stop.{Stop}
+use Rattle.serve_events.specs.Keys.{frame_key}
+use Rattle.serve_events.specs.SerialRun.{Serial, serial_production, serial_delivery, serial_window}
+use Rattle.serve_events.specs.Work.{CutShort, CutWork}
+use Rattle.serve_core.specs.Calls.{next_output}
+use Rattle.serve_core.specs.CoreValue.{CoreValue}
+use Rattle.serve_core.specs.Stands.{StopFits}
+use Rattle.serve_worker.specs.Alone.{AllFree, held_in}
+use Rattle.serve_worker.specs.Made.{Keeps, StopIs, EndShows}
+
+-- between two outputs no claim is open, and the outputs are frames of the root
+pub record Ready {I : Type 0} (plan : List Application) (c : CoreValue I) : Type 0 where
+  pub root : c.fixed.root < length plan
+  pub numbers : c.fixed.first + c.fixed.count ≤ (application_at plan c.fixed.root).info.frames
+  pub claims : c.claims ≡ []
+  pub unfailed : slice_get c.failed 0 ≡ Some false
+
+-- a window that has begun, and has no event yet
+pub record Fresh {I : Type 0} (plan : List Application) (c : CoreValue I) : Type 0 where
+  pub ready : Ready plan c
+  pub untaken : c.outputs.taken ≡ []
+  pub undelivered : (j : ℕ) → j < c.fixed.count → slice_get c.outputs.frames j ≡ Some None
+
+module _ {I : Type 0} (holds : I → Option Info) (feed : I → Option (List Picture)) (faults : I → ℕ)
+    (ends : I → ℕ → ℕ → ℕ → Type 0) (plan : List Application) (c : CoreValue I) where
+  -- the next output as the serial run has it
+  abbrev pub delivery : Serial
+  delivery = serial_delivery (next_output c)
+      (serial_production plan c.fixed.capacity (keys_of c.cache) (frame_key c.fixed.root (next_output c)))
+
+  -- the next output was delivered
+  pub record Step (x : Picture) (d : CoreValue I) : Type 0 where
+    pub some : length c.outputs.taken < c.fixed.count
+    pub journal : d.journal ≡ c.journal ++ delivery.events
+    pub keys : keys_of d.cache ≡ delivery.keys
+    pub claims : d.claims ≡ c.claims
+    pub fixed : d.fixed ≡ c.fixed
+    pub failed : d.failed ≡ c.failed
+    pub stop : d.stop ≡ c.stop
+    pub free : AllFree d.table
+    pub held : held_in holds d.table ≡ held_in holds c.table
+    pub taken : d.outputs.taken ≡ c.outputs.taken ++ 0 ∷ []
+    pub frames : d.outputs.frames ≡ slice_set c.outputs.frames (length c.outputs.taken) (Some x)
+    pub right : Keeps holds feed faults ends plan c d (λ book numbers. Unit {0})
+
+  -- whether there was a next output
+  abbrev pub Stepped : Bool → CoreValue I → Type 0
+  Stepped true d = (x : Picture) × Step x d
+  Stepped false d = (length c.outputs.taken ≡ c.fixed.count) × (d ≡ c)
+
+  -- the next output was not taken, or it was taken and cut short
+  abbrev pub CutOutput : List Event → Type 0
+  CutOutput es = (es ≡ []) ⊎ ((fs : List Event) × (es ≡ Take 0 (next_output c) ∷ fs)
+      × CutShort plan 0 (frame_key c.fixed.root (next_output c)) fs)
+
+  pub record StepCut (why : Stop) (d : CoreValue I) : Type 0 where
+    pub events : List Event
+    pub cut : CutOutput events
+    pub journal : d.journal ≡ c.journal ++ events
+    pub claims : d.claims ≡ c.claims
+    pub fixed : d.fixed ≡ c.fixed
+    pub failed : d.failed ≡ c.failed
+    pub stop : d.stop ≡ c.stop
+    pub free : AllFree d.table
+    pub held : held_in holds d.table ≡ held_in holds c.table
+    pub stops : StopIs holds feed faults ends plan c why d
+
+  -- the events that the serial run has for so many outputs of the window, and the keys after them
+  abbrev pub served : ℕ → Serial
+  served count = serial_window plan c.fixed.root c.fixed.capacity (keys_of c.cache) c.fixed.first count
+
+  -- so many outputs were delivered, by exactly the events of the serial run
+  pub record Served (count : ℕ) (d : CoreValue I) : Type 0 where
+    pub journal : d.journal ≡ c.journal ++ (served count).events
+    pub keys : keys_of d.cache ≡ (served count).keys
+    pub claims : d.claims ≡ []
+    pub fixed : d.fixed ≡ c.fixed
+    pub failed : d.failed ≡ c.failed
+    pub stop : d.stop ≡ c.stop
+    pub free : AllFree d.table
+    pub held : held_in holds d.table ≡ held_in holds c.table
+    pub taken : length d.outputs.taken ≡ count
+    pub delivered : (j : ℕ) → j < count → (x : Picture) × (slice_get d.outputs.frames j ≡ Some (Some x))
+    pub undelivered : (j : ℕ) → count ≤ j → j < c.fixed.count → slice_get d.outputs.frames j ≡ Some None
+    pub right : Keeps holds feed faults ends plan c d (λ book numbers. Unit {0})
+
+  -- the window was cut short by a stop
+  pub record WindowCut (why : Stop) (d : CoreValue I) : Type 0 where
+    pub events : List Event
+    pub cut : CutWork plan c.fixed.root 0 events
+    pub journal : d.journal ≡ c.journal ++ events
+    pub claims : d.claims ≡ []
+    pub fixed : d.fixed ≡ c.fixed
+    pub stop : d.stop ≡ Some why
+    pub free : AllFree d.table
+    pub held : held_in holds d.table ≡ held_in holds c.table
+    pub ended : EndShows ends d.table why
+    pub right : Keeps holds feed faults ends plan c d (λ book numbers. StopFits feed faults book numbers plan d.table why)

@@ -1,0 +1,38 @@
+// The frame of a filter.
+ghost use Rattle.std.specs.Prelude.{◌≡◌, false, List, Option, IfOk, IfErr};
+ghost use Rattle.fv_plane.specs.Picture.{Picture};
+ghost use Rattle.clip_graph.specs.Plan.{application_at, is_source};
+ghost use Rattle.clip_graph.specs.Unfolding.{input_keys};
+ghost use Rattle.clip_frames.specs.Asked.{AreOfKeys};
+ghost use Rattle.serve_events.specs.Keys.{IsKey};
+ghost use Rattle.serve_worker.specs.Works.{IsMade};
+
+use clip_frames::make_frame;
+use clip_graph::Graph;
+use flt_soft::Scratch;
+use fv_plane::{Frame, Key};
+use serve_events::Stop;
+use std::alloc::{AllocError, Global};
+
+/// The frame that a filter makes of the frames of its inputs.
+pub(crate) fn filtered(
+    alloc: Global,
+    graph: &Graph,
+    key: Key,
+    inputs: &[Frame],
+    scratch: &mut Scratch,
+) -> Result<Frame, Stop>
+    requires key { IsKey graph.now key }
+    requires filter { is_source (application_at graph.now key.node).act ≡ false }
+    requires shapes { AreOfKeys graph.now (input_keys graph.now key) inputs.now }
+    ensures made { IfOk result (λ frame. (own : Option (List Picture)) → IsMade graph.now key own inputs.now frame) }
+    ensures stop { IfErr result (λ stop. stop ≡ Stop.Memory) }
+{
+    match make_frame(alloc, graph, key, inputs, scratch) {
+        Ok(frame) => {
+            frame.shape();
+            Ok(frame)
+        }
+        Err(AllocError) => Err(Stop::Memory),
+    }
+}

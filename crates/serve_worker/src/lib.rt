@@ -1,0 +1,16 @@
+//! One worker of a render: it takes outputs, makes the frames that they are made of, and delivers them.
+//!
+//! A worker that is alone makes exactly the events of the serial run, or events that a stop cut short
+//! (`serve_events/specs`). `furnish` makes the instances that the nodes of a graph need.
+#![tactic(auto)]
+
+mod alone;
+mod filtered;
+mod instance;
+mod produce;
+mod works;
+
+pub use alone::{Worker, run_alone};
+pub use clip_frames::input_at;
+pub use instance::Instance;
+pub use works::Works;
