@@ -1,0 +1,4 @@
+pub mod SeenLemmas
+pub mod GotLemmas
+pub mod StepLemmas
+pub mod CallerLemmas
