@@ -1,31 +1,17 @@
 -- Frames of the inputs, one by one.
-use Rattle.std.proofs.Common.{◌≡◌, ℕ, zero, suc, ◌+◌, ◌-◌, ◌*◌, ◌<◌, ◌≤◌, List, [], ◌∷◌, length, map, drop, Some, None, true, false, refl, sym, ap, ◌∙◌, arith, eqb-true}
-use Rattle.std.specs.Prelude.{◌&&◌, ◌==◌, nat_lt, IsTrue}
+use Rattle.std.proofs.Common.{◌≡◌, ℕ, ◌+◌, ◌-◌, ◌*◌, ◌<◌, ◌≤◌, List, [], ◌∷◌, length, map, Some, None, sym, ap, ◌∙◌, arith}
 use Rattle.std.specs.List.{range_with_len, slice_get}
-use Rattle.std.proofs.lemmas.Bool.Decides.{nat_tests}
 use Rattle.std.proofs.lemmas.Option.{slice_get-get_or, slice_get_past}
 use Rattle.std.proofs.lemmas.List.{length-map}
 use Rattle.std.proofs.lemmas.Simd.{map-map}
 use Rattle.std.proofs.lemmas.List.FromFn.{length-map-range_with_len, get_or-map-range_with_len}
 use Rattle.fv_plane.specs.declared.format.Info.{Info}
-use Rattle.clip_term.specs.declared.op.TimeOp.{TimeOp}
-use Rattle.clip_term.specs.declared.op.TimeOp.TheVariants as op
 use Rattle.clip_term.specs.Refusals.{info_at}
-use Rattle.clip_term.specs.Time.{from_input, in_range, spliced}
-use Rattle.clip_term.specs.Terms.{time_inputs, time_lists}
-use Rattle.clip_term.proofs.PassedLemmas.{both}
+use Rattle.clip_term.specs.Time.{from_input, in_range}
 use Rattle.clip_graph.specs.Plan.{Application, application_at, infos_among}
 use Rattle.clip_frames.specs.Asked.{key_among, key_in_range}
 
 -- LISTS
-
-pub alone : {X : Type 0} (x : X) (i : ℕ) → i ≤ 0 → Some x ≡ slice_get (x ∷ []) i
-alone x zero few = refl
-alone x (suc i) few = absurd (omega arith)
-
-pub no_more : {X : Type 0} (x : X) (i : ℕ) → 0 < i → None ≡ slice_get (x ∷ []) i
-no_more x zero some = absurd (omega arith)
-no_more x (suc i) some = refl
 
 pub listed_at : {X : Type 0} (f : ℕ → X) (count i : ℕ) → i < count → slice_get (map f (range_with_len 0 count)) i ≡ Some (f i)
 listed_at f count i there =

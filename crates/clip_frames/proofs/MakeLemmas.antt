@@ -1,5 +1,5 @@
 -- What a node makes of the frames that a frame of it is made of.
-use Rattle.std.proofs.Common.{◌≡◌, ℕ, ◌+◌, ◌-◌, ◌*◌, ◌<◌, List, [], ◌∷◌, length, map, get_or, None, Ok, Err, refl, sym, ap, ◌∙◌, subst, arith}
+use Rattle.std.proofs.Common.{◌≡◌, ℕ, ◌+◌, ◌-◌, ◌*◌, ◌<◌, List, [], ◌∷◌, length, map, get_or, None, Ok, Err, sym, ap, ◌∙◌, subst, arith}
 use Rattle.std.specs.Prelude.{IsTrue, Result}
 use Rattle.std.specs.Result.{IfOk}
 use Rattle.std.specs.List.{range_with_len}
@@ -38,7 +38,7 @@ use Rattle.clip_reference.proofs.ListedLemmas.{listed, blank_listed}
 use Rattle.flt_space.proofs.CallerLemmas.{not_refused, shape_made}
 use Rattle.flt_merge.specs.Joined.{CanJoin, join_picture}
 use Rattle.flt_merge.proofs.CallerLemmas.{can_join, joined_is}
-use Rattle.flt_soft.specs.Pictures.{CanSoften, HaveShape, shape_of, soft_picture}
+use Rattle.flt_soft.specs.Pictures.{CanSoften, HaveShape, soft_picture}
 use Rattle.flt_soft.proofs.CallerLemmas as of_soft
 use Rattle.flt_soft.proofs.PictureLemmas.{some_asked}
 use Rattle.clip_frames.specs.Asked.{AreOfKeys}
@@ -65,13 +65,6 @@ pub can_make : (plan : List Application) (key : Key) (act : Act) (pictures : Lis
 can_make plan key act pictures is within shapes act_is =
     let at = is_node plan key.node is within in
     rw act_is (record { sound = at.sound; lawful = at.lawful; told = at.told; shapes = shapes ∙ asked_shapes plan key.node key.n is within })
-
--- a filter of the group Time, or of the group Space, has a frame
-pub some_shown : (plan : List Application) (key : Key) (op : TimeOp) (pictures : List Picture) → CanMake plan key (time op) pictures → 0 < length pictures
-some_shown plan key op pictures can = omega (arith, as_many (time op) (infos_at plan key.node) key.n pictures can.shapes)
-
-pub some_given : (plan : List Application) (key : Key) (op : SpaceOp) (pictures : List Picture) → CanMake plan key (space op) pictures → 0 < length pictures
-some_given plan key op pictures can = omega (arith, as_many (space op) (infos_at plan key.node) key.n pictures can.shapes)
 
 -- what is made is what the definition has
 pub record Makes {E : Type 0} (plan : List Application) (key : Key) (pictures : List Picture) (answer : Result Picture E) : Type 0 where

@@ -2,12 +2,11 @@
 use Rattle.std.proofs.Common.{◌≡◌, ℕ, zero, suc, ◌<◌, List, [], ◌∷◌, length, map, Ok, refl, sym, ap, ◌∙◌, subst, arith}
 use Rattle.std.specs.Prelude.{slice_index_or}
 use Rattle.std.specs.List.{All}
-use Rattle.std.proofs.lemmas.List.{length-map, get_or_default}
+use Rattle.std.proofs.lemmas.List.{length-map}
 use Rattle.std.proofs.lemmas.List.Elements.{All-head, All-tail}
 use Rattle.fv_plane.specs.declared.format.Info.{Info}
 use Rattle.fv_plane.specs.declared.format.Shape.{Shape}
 use Rattle.fv_plane.specs.declared.key.Key.{Key}
-use Rattle.fv_plane.specs.Info.{IsLawful}
 use Rattle.clip_term.specs.declared.op.Origin.{Origin}
 use Rattle.clip_term.specs.Refusals.{info_at}
 use Rattle.clip_term.specs.ClipTerm.{Act}
@@ -18,7 +17,7 @@ use Rattle.clip_graph.specs.Unfolding.{key_of}
 use Rattle.clip_graph.proofs.UnfoldingLemmas.{lawful_is}
 use Rattle.clip_frames.specs.Asked.{IsShown}
 
-pub input_info : (plan : List Application) (places : List ℕ) (j : ℕ) → j < length places → info_at (infos_among plan places) j ≡ (application_at plan (slice_index_or places j 0)).info
+input_info : (plan : List Application) (places : List ℕ) (j : ℕ) → j < length places → info_at (infos_among plan places) j ≡ (application_at plan (slice_index_or places j 0)).info
 input_info plan [] j within = absurd (omega arith)
 input_info plan (i ∷ places) zero within = refl
 input_info plan (i ∷ places) (suc j) within = input_info plan places j (omega arith)
@@ -28,7 +27,6 @@ pub record IsNode (plan : List Application) (i : ℕ) (infos : List Info) : Type
   pub sound : IsSound (application_at plan i).act (length infos)
   pub lawful : AreLawful infos
   pub told : check (application_at plan i).act infos ≡ Ok (application_at plan i).info
-  pub is_lawful : IsLawful (application_at plan i).info
   pub count : length infos ≡ length (application_at plan i).inputs
 
 pub is_node : (plan : List Application) (i : ℕ) → IsPlan plan → i < length plan → IsNode plan i (infos_at plan i)
@@ -40,16 +38,8 @@ is_node plan i is within =
       sound = subst (λ (k : ℕ). IsSound (application_at plan i).act k) (sym count) at.sound;
       lawful = λ j there. (let below = at.lower j (omega arith) in rw (input_info plan inputs j (omega arith)) (lawful_is plan is (slice_index_or inputs j 0) (omega arith)));
       told = at.told;
-      is_lawful = lawful_is plan is i within;
       count = count;
     }
-
--- its inputs are nodes, as the code has them
-pub inputs_inside : (plan : List Application) (i : ℕ) (inputs : List ℕ) → IsPlan plan → i < length plan → inputs ≡ (application_at plan i).inputs → All (λ j. j < length plan) inputs
-inputs_inside plan i inputs is within are = rw are (λ k d there.
-    let places = (application_at plan i).inputs in
-    let below = (is.each i within).lower k there in
-    omega (arith, get_or_default places k d 0 there))
 
 -- its frame n is one, as the code has the filter and the inputs
 pub is_shown : (plan : List Application) (i n : ℕ) (act : Act) (inputs : List ℕ) → IsPlan plan → i < length plan → n < (application_at plan i).info.frames → act ≡ (application_at plan i).act

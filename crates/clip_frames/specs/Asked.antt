@@ -23,7 +23,7 @@ key_among places origin = record { node = slice_index_or places origin.input 0; 
 abbrev pub key_in_range : List Application → List ℕ → ℕ → ℕ → Key
 key_in_range plan places input number = key_among places (in_range (infos_among plan places) (from_input input number))
 
--- frame n of what is done to clips with these infos
+-- frame n is one of what a filter makes of clips with these infos
 pub record IsShown (act : Act) (infos : List Info) (n : ℕ) : Type 0 where
   pub sound : IsSound act (length infos)
   pub lawful : AreLawful infos

@@ -1,6 +1,7 @@
 // Clips of pseudo-random pictures in memory: as sources of a graph, and as a book.
 ghost use Rattle.std.specs.Prelude.{◌≡◌, ◌<◌, ◌≤◌, [], ◌∷◌, slice_index_or, IfOk};
 ghost use Rattle.fv_plane.specs.Clip.{IsClip};
+ghost use Rattle.fv_plane.specs.Format.{IsLegal};
 ghost use Rattle.fv_plane.specs.Info.{IsLawful};
 ghost use Rattle.fv_plane.specs.Picture.{IsPicture};
 
@@ -81,6 +82,7 @@ fn random_frame(
     random: &mut Random,
     shape: Shape,
 ) -> Result<Frame, AllocError>
+    requires { IsLegal shape }
     ensures shape { IfOk result (λ frame. frame.shape ≡ shape) }
     ensures whole { IfOk result IsPicture }
 {

@@ -144,7 +144,16 @@ fn compare_group(
     let mut names = Vec::new(alloc);
     for (case, twin) in group.cases(alloc)?.into_iter().zip(group.cases(alloc)?) {
         let name = case.name;
-        if !compare(rt, alloc, &mut graph, &clips, case, twin.op, count, &mut scratch)? {
+        if !compare(
+            rt,
+            alloc,
+            &mut graph,
+            &clips,
+            case,
+            twin.op,
+            count,
+            &mut scratch,
+        )? {
             names.push(name)?;
         }
     }

@@ -1,5 +1,7 @@
 // The ops that are compared, by the number of their clips.
-ghost use Rattle.std.specs.Prelude.{◌≡◌, ◌&&◌, IsTrue};
+ghost use Rattle.std.specs.Prelude.{◌≡◌, ◌&&◌, ◌||◌, IsTrue, int_lt, negsuc, not};
+ghost use Rattle.std.specs.List.{list_all};
+ghost use Rattle.clip_term.specs.Refusals.{above};
 ghost use Rattle.clip_term.specs.ClipTerm.{act_of};
 ghost use Rattle.clip_term.specs.Terms.{IsSound, is_matrix, time_inputs, time_lists};
 ghost use Rattle.clip_reference.specs.Ready.{IsFilter};
@@ -87,11 +89,17 @@ fn time_takes(op: &TimeOp, count: usize) -> bool
     }
 }
 
+fn are_entries(list: &[i32]) -> bool
+    ensures { result ≡ list_all (λ z. not (int_lt z (negsuc 1023) || above z 1024)) list.now }
+{
+    list.iter().all(|z| !(*z < -1024 || *z > 1024))
+}
+
 fn is_matrix(entries: &[i32]) -> bool
     ensures { result ≡ is_matrix entries.now }
 {
     let count = entries.len();
-    (count == 9 || count == 25) && entries.iter().all(|entry| *entry >= -1024 && *entry <= 1024)
+    (count == 9 || count == 25) && are_entries(entries)
 }
 
 // Whether the op is a filter for so many clips.

@@ -1,4 +1,4 @@
-use Rattle.std.proofs.Common.{◌∙◌, sym, ap}
+use Rattle.std.proofs.Common.{◌∙◌, ap}
 use Rattle.std.specs.List.{slice_get}
 use Rattle.clip_frames.proofs.InputLemmas.{joined_keys}
 use Rattle.clip_frames.proofs.inputs.asked_at.Goals as goal

@@ -1,5 +1,5 @@
 -- The infos of one or two inputs are those of all.
-use Rattle.std.proofs.Common.{◌≡◌, ◌∙◌, ℕ, ◌<◌, [], ◌∷◌, List, length, sym, ap, subst, arith}
+use Rattle.std.proofs.Common.{◌≡◌, ◌∙◌, [], ◌∷◌, List, sym, ap, subst, arith}
 use Rattle.std.proofs.lemmas.List.{length-map}
 use Rattle.fv_plane.specs.declared.format.Info.{Info}
 use Rattle.clip_term.specs.Time.{source_number}

@@ -1,6 +1,5 @@
-use Rattle.std.proofs.Common.{◌≡◌, ◌∙◌, ap, arith, rules}
+use Rattle.std.proofs.Common.{◌≡◌, ◌∙◌, ap, rules}
 use Rattle.std.specs.List.{slice_get}
-use Rattle.std.proofs.lemmas.Int.{ints}
 use Rattle.clip_term.specs.Refusals.{nat_of}
 use Rattle.clip_frames.proofs.InputLemmas.{around_keys}
 use Rattle.clip_frames.proofs.inputs.soft_at.Goals as goal

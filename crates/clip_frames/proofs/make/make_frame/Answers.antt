@@ -1,8 +1,8 @@
 -- Each group's maker takes the frames, and makes the node's picture.
-use Rattle.std.proofs.Common.{◌≡◌, ◌∙◌, sym, ap, arith}
+use Rattle.std.proofs.Common.{◌∙◌, sym, ap}
 use Rattle.clip_term.specs.ClipTerm.{act_of, plain, time, space, joined, soft}
 use Rattle.clip_graph.specs.Plan.{Application, application_at, infos_at}
-use Rattle.clip_frames.proofs.MakeLemmas.{can_make, makes, some_shown, some_given, plain_legal, plain_made, time_made, space_accepted, space_legal, space_made, join_ready, join_made, soft_ready, soft_made}
+use Rattle.clip_frames.proofs.MakeLemmas.{can_make, makes, plain_legal, plain_made, time_made, space_accepted, space_legal, space_made, join_ready, join_made, soft_ready, soft_made}
 use Rattle.clip_frames.proofs.make.make_frame.Goals as goal
 
 pub blank-requires : goal.blank-requires
@@ -35,7 +35,7 @@ returns-in-Time c =
     let act = sym (ap act_of c.in-Time.is) ∙ ap (λ (a : Application). a.act) c.node.ensures in
     let can = can_make plan key (time op) frames c.len.ensures.plan c.requires.key.node c.requires.shapes act in
     let m = makes plan key (time op) frames c.shown.result frame.result act c.shown.ensures.frame
-        (time_made op (infos_at plan key.node) (application_at plan key.node).info key.n frames frame.result can.sound can.lawful can.told can.shapes c.shown.ensures.whole frame.is) in
+    (time_made op (infos_at plan key.node) (application_at plan key.node).info key.n frames frame.result can.sound can.lawful can.told can.shapes c.shown.ensures.whole frame.is) in
     record { made = m.made; shape = m.shape }
 
 pub make_space-requires-clause-accepted : goal.make_space-requires-clause-accepted
@@ -70,7 +70,7 @@ returns-in-Space c =
     let act = sym (ap act_of c.in-Space.is) ∙ ap (λ (a : Application). a.act) c.node.ensures in
     let can = can_make plan key (space op) frames c.len.ensures.plan c.requires.key.node c.requires.shapes act in
     let m = makes plan key (space op) frames c.make_space.result _ act c.make_space.ensures
-        (space_made op (infos_at plan key.node) (application_at plan key.node).info key.n frames frame.result can.told can.shapes frame.is) in
+    (space_made op (infos_at plan key.node) (application_at plan key.node).info key.n frames frame.result can.told can.shapes frame.is) in
     record { made = m.made; shape = m.shape }
 
 pub make_join-requires : goal.make_join-requires
@@ -92,7 +92,7 @@ returns-in-Join c =
     let act = sym (ap act_of c.in-Join.is) ∙ ap (λ (a : Application). a.act) c.node.ensures in
     let can = can_make plan key (joined op) frames c.len.ensures.plan c.requires.key.node c.requires.shapes act in
     let m = makes plan key (joined op) frames c.make_join.result _ act c.make_join.ensures
-        (join_made op (infos_at plan key.node) (application_at plan key.node).info key.n frames can.told can.shapes) in
+    (join_made op (infos_at plan key.node) (application_at plan key.node).info key.n frames can.told can.shapes) in
     record { made = m.made; shape = m.shape }
 
 pub make_soft-requires : goal.make_soft-requires
@@ -114,5 +114,5 @@ returns-in-Soft c =
     let act = sym (ap act_of c.in-Soft.is) ∙ ap (λ (a : Application). a.act) c.node.ensures in
     let can = can_make plan key (soft op) frames c.len.ensures.plan c.requires.key.node c.requires.shapes act in
     let m = makes plan key (soft op) frames c.make_soft.result _ act c.make_soft.ensures.made
-        (soft_made op (infos_at plan key.node) (application_at plan key.node).info key.n frames can.told can.shapes) in
+    (soft_made op (infos_at plan key.node) (application_at plan key.node).info key.n frames can.told can.shapes) in
     record { made = m.made; shape = m.shape }

@@ -1,4 +1,4 @@
-use Rattle.std.proofs.Common.{◌≤◌, ◌-◌, take, length}
+use Rattle.std.proofs.Common.{◌≤◌, ◌-◌, take}
 use Rattle.clip_graph.specs.Unfolding.{input_keys}
 use Rattle.clip_frames.specs.Asked.{AreOfKeys}
 use Rattle.clip_frames.proofs.tests.+frame_of.Given as goal
