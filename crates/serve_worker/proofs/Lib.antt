@@ -5,3 +5,5 @@ pub mod Making
 pub mod Producing
 pub mod Serving
 pub mod Reading
+pub mod FurnishingLemmas
+pub mod CallerLemmas

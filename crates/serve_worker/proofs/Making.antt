@@ -1,21 +1,19 @@
 -- The frame that a node's instance makes is that of its key.
-use Rattle.std.proofs.Common.{◌≡◌, ℕ, ◌+◌, ◌<◌, ◌≤◌, ◌==◌, Bool, true, false, List, [], map, Some, None, Ok, sym, refl, ap, ◌∙◌, subst, arith, eq-eqb, slice_get, length}
+use Rattle.std.proofs.Common.{◌≡◌, ℕ, ◌<◌, ◌==◌, Bool, true, false, List, [], map, Some, sym, refl, ap, ◌∙◌, arith, slice_get, length}
 use Rattle.std.specs.Prelude.{slice_index_or}
 use Rattle.std.proofs.lemmas.Option.{get_or_from_slice_get}
-use Rattle.fv_io.specs.Faults.{HasRisen}
 use Rattle.fv_plane.specs.declared.format.Info.{Info}
 use Rattle.fv_plane.specs.declared.key.Key.{Key}
 use Rattle.fv_plane.specs.Look.{look_in, picture_from}
 use Rattle.fv_plane.specs.Picture.{Picture}
 use Rattle.clip_term.specs.ClipTerm.{Act, source, plain, time, space, joined, soft}
-use Rattle.clip_graph.specs.Plan.{Application, application_at, infos_at, is_source, sources_in, IsPlan, IsCounted}
+use Rattle.clip_graph.specs.Plan.{Application, application_at, is_source, IsPlan, IsCounted}
 use Rattle.clip_graph.specs.Unfolding.{input_keys, key_made, key_picture}
 use Rattle.clip_graph.proofs.UnfoldingLemmas.{unfolds}
 use Rattle.clip_reference.proofs.ListedLemmas.{listed}
 use Rattle.inst_table.specs.Places.{shared_place}
 use Rattle.serve_events.specs.Keys.{mode_at, instance_in}
-use Rattle.serve_core.specs.Sources.{place_of, opened_at}
-use Rattle.serve_core.specs.Stands.{Book, IsRight, FitsAct}
+use Rattle.serve_core.specs.Sources.{place_of}
 use Rattle.serve_worker.specs.Works.{IsMade}
 
 -- a source has mode 3

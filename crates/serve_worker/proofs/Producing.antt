@@ -1,5 +1,5 @@
 -- What each way out of a production leaves.
-use Rattle.std.proofs.Common.{◌≡◌, ◌⊎◌, ℕ, zero, suc, ◌+◌, ◌-◌, ◌<◌, ◌≤◌, nat_lt, Bool, true, false, List, [], ◌∷◌, ◌++◌, length, take, map, slice_get, Option, Some, None, Result, Ok, Err, IfOk, IfErr, IsSome, sym, refl, ap, ◌∙◌, subst, inl, inr, ⊎_elim, arith, append_assoc, append-nil}
+use Rattle.std.proofs.Common.{◌≡◌, ℕ, zero, suc, ◌+◌, ◌-◌, ◌<◌, ◌≤◌, nat_lt, true, false, List, [], ◌∷◌, ◌++◌, length, take, map, slice_get, Option, Some, None, Result, Ok, Err, IfOk, IfErr, sym, refl, ap, ◌∙◌, subst, inl, inr, ⊎_elim, arith, append_assoc, append-nil}
 use Rattle.std.specs.Prelude.{slice_index_or, is_some}
 use Rattle.std.specs.Cmp.Derive.{both_true}
 use Rattle.std.specs.List.{All}
@@ -10,7 +10,6 @@ use Rattle.std.proofs.lemmas.List.Elements.{All-nil, All-cons, All-head, All-tai
 use Rattle.std.proofs.lemmas.Option.{slice_get_within, get_or_from_slice_get}
 use Rattle.fv_io.specs.Faults.{HasRisen}
 use Rattle.fv_plane.specs.declared.format.Info.{Info}
-use Rattle.fv_plane.specs.declared.format.Shape.{Shape}
 use Rattle.fv_plane.specs.declared.key.Key.{Key}
 use Rattle.fv_plane.specs.Picture.{Picture}
 use Rattle.clip_term.specs.ClipTerm.{Act, source, plain, time, space, joined, soft}
@@ -18,10 +17,8 @@ use Rattle.clip_term.specs.Terms.{asked}
 use Rattle.clip_graph.specs.Plan.{Application, application_at, infos_at, is_source, IsPlan}
 use Rattle.clip_graph.specs.Unfolding.{key_of, input_keys, key_picture, IsKeyBelow}
 use Rattle.clip_graph.proofs.UnfoldingLemmas.{inputs_are_keys}
-use Rattle.clip_frames.specs.Asked.{AreOfKeys}
 use Rattle.frame_cache.specs.Cached.{without_key, fronted, dropped_key}
 use Rattle.inst_table.specs.declared.place.Place.{Place}
-use Rattle.inst_table.specs.declared.place.Slot.{Slot}
 use Rattle.inst_table.specs.declared.place.Slot.TheVariants.{Free, Leased}
 use Rattle.inst_table.specs.Lent.{Lent}
 use Rattle.inst_table.specs.Places.{slot_at, shared_place, with_slot}
@@ -30,8 +27,8 @@ use Rattle.serve_events.specs.declared.event.Event.{Event}
 use Rattle.serve_events.specs.declared.event.Event.TheVariants.{Hit, Claim, Enter, Leave, Publish, Abandon}
 use Rattle.serve_events.specs.declared.event.Stop.{Stop}
 use Rattle.serve_events.specs.declared.event.Stop.TheVariants.{Read, Changed, Memory}
-use Rattle.serve_events.specs.Keys.{IsKey, has, mode_at, instance_of}
-use Rattle.serve_events.specs.Own.{has_got, has_got_all, has_entered, may_fail, names_source}
+use Rattle.serve_events.specs.Keys.{has, mode_at, instance_of}
+use Rattle.serve_events.specs.Own.{has_got, has_got_all, has_entered}
 use Rattle.serve_events.specs.SerialRun.{Serial, serial_production_within, each_produced, made_after, leases, eviction, eviction_from}
 use Rattle.serve_events.specs.Work.{Productions, CutShort, CutInputs, refused, inside, leased, between, within}
 use Rattle.serve_events.proofs.OwnLemmas.{now_got, all_got, one_more_got, hit_got, publish_got, still_fails, entered_now}
@@ -40,15 +37,15 @@ use Rattle.serve_core.specs.declared.answers.Admitted.TheVariants.{Leased as Len
 use Rattle.serve_core.specs.declared.answers.Ask.TheVariants.{Hit as Found, Claimed}
 use Rattle.serve_core.specs.Calls.{Asked, Admits, left, published, abandoned}
 use Rattle.serve_core.specs.CoreValue.{CoreValue}
-use Rattle.serve_core.specs.Holds.{is_free_at, IsThere}
+use Rattle.serve_core.specs.Holds.{is_free_at}
 use Rattle.serve_core.specs.Kept.{AnswerIsShaped}
 use Rattle.serve_core.specs.Sources.{place_of, shape_at}
-use Rattle.serve_core.specs.Stands.{Book, Stands, StopFits, IsRight, FitsAct, Fits, ExceedsAct, HasFailed, CallsStand}
+use Rattle.serve_core.specs.Stands.{Book, Stands, IsRight, FitsAct, Fits, ExceedsAct, CallsStand}
 use Rattle.serve_core.specs.Stops.{first_stop}
 use Rattle.serve_core.proofs.Standing.{calls_stand}
 use Rattle.serve_worker.specs.Alone.{Alone, AllFrom, held_in, Went, Ran}
-use Rattle.serve_worker.specs.Made.{MadeBy, Returned, Keeps, AreRight, StopIs, EndShows, Made, Unmade, Published, Produced, Gathered, Stopped}
-use Rattle.serve_worker.specs.Works.{IsMade, MakeStops, ReadFails, EndsEarly}
+use Rattle.serve_worker.specs.Made.{Returned, Keeps, AreRight, StopIs, Made, Unmade, Published, Produced, Gathered, Stopped}
+use Rattle.serve_worker.specs.Works.{IsMade, MakeStops}
 use Rattle.serve_worker.proofs.Going.{went_none, went_more, abandon_went, lent_went, no_lease}
 use Rattle.serve_worker.proofs.KeyLemmas.{has_keys, keys_fronted, keys_put, not_there, closed_claim}
 use Rattle.serve_worker.proofs.Making.{source_mode, no_source, shared_for, source_right, filter_right}

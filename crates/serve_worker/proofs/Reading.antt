@@ -1,5 +1,5 @@
 -- The frame of a source, as its instance reads it.
-use Rattle.std.proofs.Common.{◌≡◌, ℕ, ◌<◌, true, false, List, length, Option, Some, Ok, Err, Result, IfOk, refl, sym, ap, ◌∙◌, subst, slice_get}
+use Rattle.std.proofs.Common.{◌≡◌, ℕ, ◌<◌, true, false, List, length, Option, Some, Ok, Err, Result, IfOk, refl, sym, ap, ◌∙◌, slice_get}
 use Rattle.fv_io.specs.declared.source.Source.{Ghosts}
 use Rattle.std.specs.Option.{ForSome}
 use Rattle.fv_plane.specs.declared.format.Info.{Info}
@@ -9,7 +9,6 @@ use Rattle.seq_source.specs.FrameSource.{FrameSource, frames_of}
 use Rattle.clip_term.specs.ClipTerm.{Act, source, plain, time, space, joined, soft}
 use Rattle.clip_term.specs.Terms.{check}
 use Rattle.clip_graph.specs.Plan.{Application, application_at, infos_among, is_source, IsPlan}
-use Rattle.serve_events.specs.declared.event.Stop.{Stop}
 use Rattle.serve_core.specs.Sources.{opened, opened_at}
 use Rattle.serve_worker.specs.Works.{IsMade}
 

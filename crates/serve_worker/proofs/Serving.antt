@@ -1,12 +1,12 @@
 -- Outputs one after the other.
-use Rattle.std.proofs.Common.{◌≡◌, ◌≢◌, ◌⊎◌, ℕ, zero, suc, ◌+◌, ◌-◌, ◌<◌, ◌≤◌, ◌==◌, true, false, List, [], ◌∷◌, ◌++◌, length, set, slice_get, Option, Some, None, sym, refl, ap, ◌∙◌, subst, inl, inr, ⊎_elim, arith, append_assoc, append-nil, length-append, eq-eqb}
+use Rattle.std.proofs.Common.{◌≡◌, ◌≢◌, ℕ, zero, suc, ◌+◌, ◌-◌, ◌<◌, ◌≤◌, ◌==◌, true, false, List, [], ◌∷◌, ◌++◌, length, set, slice_get, Option, Some, None, sym, refl, ap, ◌∙◌, subst, inl, inr, ⊎_elim, arith, append_assoc, append-nil, length-append, eq-eqb}
 use Rattle.std.proofs.lemmas.Bool.{eqb-true}
 use Rattle.std.specs.List.{range_with_len}
 use Rattle.std.specs.Map.{keys_of}
 use Rattle.fv_plane.specs.declared.format.Info.{Info}
 use Rattle.fv_plane.specs.declared.key.Key.{Key}
 use Rattle.fv_plane.specs.Picture.{Picture}
-use Rattle.clip_graph.specs.Plan.{Application, application_at, IsPlan}
+use Rattle.clip_graph.specs.Plan.{Application, application_at}
 use Rattle.frame_cache.proofs.CallerLemmas.{test}
 use Rattle.serve_events.specs.declared.event.Event.{Event}
 use Rattle.serve_events.specs.declared.event.Event.TheVariants.{Take, Deliver, Fail}
@@ -18,7 +18,7 @@ use Rattle.serve_events.specs.Work.{CutShort, CutWork, Deliveries}
 use Rattle.serve_events.proofs.SerialLemmas.{serial_is_whole, failed_between, failed_within}
 use Rattle.serve_core.specs.Calls.{TookOutput, next_output, delivered, failing}
 use Rattle.serve_core.specs.CoreValue.{CoreValue, Fixed, Outputs}
-use Rattle.serve_core.specs.Stands.{Book, IsRight, StopFits, CallsStand}
+use Rattle.serve_core.specs.Stands.{IsRight, StopFits, CallsStand}
 use Rattle.serve_core.specs.Stops.{kept_stop}
 use Rattle.serve_core.proofs.Standing.{calls_stand}
 use Rattle.serve_worker.specs.Alone.{Alone, held_in}
@@ -257,6 +257,7 @@ module _ {I : Type 0} (holds : I → Option Info) (feed : I → Option (List Pic
         stop = ap (λ o. Some (kept_stop o why)) (s.stop ∙ (v.stop ∙ a.running));
         free = s.free;
         held = s.held ∙ v.held;
+        named = s.stops.named;
         ended = s.stops.ended;
         right = λ book numbers st.
             let last = s.stops.right book numbers (v.right book numbers st).0 in

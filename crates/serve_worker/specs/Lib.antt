@@ -4,3 +4,4 @@ pub mod Works
 pub mod Alone
 pub mod Made
 pub mod Windows
+pub mod Furnishing

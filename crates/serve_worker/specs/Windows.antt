@@ -8,6 +8,7 @@ use Rattle.serve_events.specs.declared.event.Event.{Event}
 use Rattle.serve_events.specs.declared.event.Event.TheVariants.{Take}
 use Rattle.serve_events.specs.declared.event.Stop.{Stop}
 use Rattle.serve_events.specs.Keys.{frame_key}
+use Rattle.serve_events.specs.Own.{names_source}
 use Rattle.serve_events.specs.SerialRun.{Serial, serial_production, serial_delivery, serial_window}
 use Rattle.serve_events.specs.Work.{CutShort, CutWork}
 use Rattle.serve_core.specs.Calls.{next_output}
@@ -102,5 +103,7 @@ module _ {I : Type 0} (holds : I → Option Info) (feed : I → Option (List Pic
     pub stop : d.stop ≡ Some why
     pub free : AllFree d.table
     pub held : held_in holds d.table ≡ held_in holds c.table
+    pub named : names_source plan why ≡ true
     pub ended : EndShows ends d.table why
-    pub right : Keeps holds feed faults ends plan c d (λ book numbers. StopFits feed faults book numbers plan d.table why)
+    pub right : Keeps holds feed faults ends plan c d (λ book numbers.
+        StopFits feed faults book numbers plan d.table why)

@@ -91,9 +91,9 @@ fn deliver_all<I: Works>(alloc: Global, core: &mut Core<I>, graph: &Graph) -> Re
     }
 }
 
-/// Takes and delivers the outputs of a window until none is left, for a core of one worker in a window that has no event
-/// yet. It makes exactly the events of the serial run, or events that a stop cut short; then no claim and no lease is
-/// open.
+/// Takes and delivers the outputs of a window until none is left, for a core of one worker in a window that has no
+/// event yet. It makes exactly the events of the serial run, or events that a stop cut short; then no claim and no
+/// lease is open.
 pub fn run_alone<I: Works>(
     alloc: Global,
     worker: &mut Worker,
@@ -101,8 +101,10 @@ pub fn run_alone<I: Works>(
 ) -> Result<(), Stop>
     requires alone { Alone worker.old.plan core.old }
     requires fresh { Fresh worker.old.plan core.old }
-    ensures ok { OnOk result (Served I.holds I.feed I.faults I.ends worker.old.plan core.old core.old.fixed.count core.new) }
-    ensures err { IfErr result (λ stop. WindowCut I.holds I.feed I.faults I.ends worker.old.plan core.old stop core.new) }
+    ensures ok { OnOk result
+        (Served I.holds I.feed I.faults I.ends worker.old.plan core.old core.old.fixed.count core.new) }
+    ensures err { IfErr result (λ stop.
+        WindowCut I.holds I.feed I.faults I.ends worker.old.plan core.old stop core.new) }
     ensures worker { worker.new ≡ worker.old }
 {
     deliver_all(alloc, core, &worker.graph)

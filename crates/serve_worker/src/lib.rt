@@ -6,11 +6,16 @@
 
 mod alone;
 mod filtered;
+mod furnishing;
 mod instance;
 mod produce;
 mod works;
 
 pub use alone::{Worker, run_alone};
 pub use clip_frames::input_at;
+pub use furnishing::furnish;
 pub use instance::Instance;
 pub use works::Works;
+
+#[cfg(test)]
+mod tests;

@@ -60,7 +60,8 @@ fn make<I: Works>(
     requires key { IsKey graph.now key }
     requires claim { claims_at 0 key.node core.old.claims ≡ true }
     requires shapes { AreOfKeys graph.now (input_keys graph.now key) frames.now }
-    ensures ok { IfOk result (λ frame. Made I.holds I.feed I.faults I.ends graph.now core.old key frames.now frame core.new) }
+    ensures ok { IfOk result (λ frame.
+        Made I.holds I.feed I.faults I.ends graph.now core.old key frames.now frame core.new) }
     ensures err { IfErr result (λ stop. Unmade I.holds I.feed I.faults I.ends graph.now core.old key stop core.new) }
 {
     if graph.node(key.node).mode == 1 {

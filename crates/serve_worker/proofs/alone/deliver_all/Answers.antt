@@ -1,8 +1,7 @@
 -- Output after output, up to a stop.
-use Rattle.std.proofs.Common.{◌≡◌, ◌<◌, ◌+◌, true, [], length, slice_get, subst, sym, ap, ◌∙◌, arith}
-use Rattle.std.proofs.lemmas.List.{length-append}
+use Rattle.std.proofs.Common.{◌≡◌, ◌<◌, true, length, slice_get, subst, sym, ap, ◌∙◌, arith}
 use Rattle.serve_events.specs.Own.{names_source}
-use Rattle.serve_worker.specs.Windows.{Served, Stepped}
+use Rattle.serve_worker.specs.Windows.{Stepped}
 use Rattle.serve_worker.proofs.Serving.{served_none, served_alone, served_ready, served_more, served_all, one_more, cut_window}
 use Rattle.serve_worker.proofs.alone.deliver_all.Goals as goal
 

@@ -1,7 +1,7 @@
 -- Taken, produced and delivered, or cut short.
-use Rattle.std.proofs.Common.{◌≡◌, ◌<◌, ◌-◌, true, Some, None, slice_get, subst, suc, arith, sym, ap, ◌∙◌, [], ◌∷◌, ◌++◌}
+use Rattle.std.proofs.Common.{◌≡◌, ◌<◌, true, subst, suc, arith, sym, ap, ◌∙◌}
 use Rattle.serve_core.specs.Calls.{TookOutput}
-use Rattle.serve_core.specs.CoreValue.{CoreValue, Outputs}
+use Rattle.serve_core.specs.CoreValue.{CoreValue}
 use Rattle.serve_core.specs.Kept.{IsUndelivered}
 use Rattle.serve_core.specs.Sources.{shape_at}
 use Rattle.serve_events.specs.Keys.{frame_key}

@@ -1,12 +1,9 @@
 -- Each way out is a lemma over the states of the core.
-use Rattle.std.proofs.Common.{◌≡◌, ◌+◌, ◌*◌, ◌<◌, Some, take, drop, suc, ◌++◌, ◌∷◌, [], sym, refl, ap, ◌∙◌, subst, arith, rules}
+use Rattle.std.proofs.Common.{◌≡◌, ◌+◌, ◌*◌, ◌<◌, take, drop, suc, ◌++◌, ◌∷◌, [], sym, ap, ◌∙◌, subst, arith, rules}
 use Rattle.std.proofs.lemmas.List.{append_assoc}
-use Rattle.std.proofs.lemmas.List.Elements.{All-get_or}
-use Rattle.std.proofs.lemmas.Option.{slice_get_within, get_or_from_slice_get}
-use Rattle.clip_graph.specs.Unfolding.{input_keys, IsKeyBelow}
-use Rattle.clip_graph.proofs.UnfoldingLemmas.{inputs_are_keys}
+use Rattle.std.proofs.lemmas.Option.{slice_get_within}
+use Rattle.clip_graph.specs.Unfolding.{input_keys}
 use Rattle.frame_cache.specs.Cached.{at_key}
-use Rattle.serve_events.specs.Keys.{IsKey}
 use Rattle.serve_core.specs.Calls.{Asked}
 use Rattle.serve_core.specs.CoreValue.{CoreValue}
 use Rattle.serve_core.specs.Kept.{AnswerIsShaped}

@@ -1,7 +1,5 @@
 -- With no instance, or with one that is out for a while.
 use Rattle.std.proofs.Common.{◌≡◌, sym, ap, ◌∙◌, subst}
-use Rattle.clip_graph.specs.Plan.{application_at}
-use Rattle.inst_table.specs.Places.{slot_at}
 use Rattle.serve_events.specs.Keys.{mode_at}
 use Rattle.serve_core.specs.Calls.{Admits}
 use Rattle.serve_core.specs.Sources.{place_of}

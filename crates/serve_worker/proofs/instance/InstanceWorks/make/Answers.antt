@@ -1,5 +1,5 @@
 -- A filter, or a source.
-use Rattle.std.proofs.Common.{◌≡◌, ◌<◌, Some, sym, ap, ◌∙◌, subst, arith, IfOk}
+use Rattle.std.proofs.Common.{◌≡◌, Some, sym, ap, ◌∙◌, subst, arith, IfOk}
 use Rattle.serve_core.specs.Sources.{opened_at}
 use Rattle.serve_worker.specs.Instances.{feed_of, holds_of}
 use Rattle.serve_worker.specs.Works.{IsMade}
