@@ -1,0 +1,4 @@
+pub mod TextLemmas
+pub mod PutLemmas
+pub mod WindowLemmas
+pub mod RenderLemmas

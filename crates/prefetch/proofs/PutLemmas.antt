@@ -1,0 +1,74 @@
+-- Pictures, put one after the other.
+use Rattle.std.proofs.Common.{◌≡◌, ◌∙◌, ℕ, zero, suc, ◌+◌, ◌<◌, List, [], ◌∷◌, ◌++◌, length, map, take, drop, slice_get, Option, Some, None, sym, refl, ap, subst, arith}
+use Rattle.std.specs.List.{range_with_len}
+use Rattle.std.proofs.lemmas.List.{append_assoc, append-nil, map-append, take-append-drop}
+use Rattle.std.proofs.lemmas.List.Concat.{flat_map-append}
+use Rattle.std.proofs.lemmas.List.FromFn.{map-range_with_len_more}
+use Rattle.fv_io.specs.declared.sink.Sink.{Ghosts}
+use Rattle.fv_io.specs.Sink.{Puts, PutsPrefix, IsLater}
+use Rattle.fv_io.specs.Told.{with_piece}
+use Rattle.fv_io.proofs.CallerLemmas.{with_piece_twice, gets_more, gets_after}
+use Rattle.fv_plane.specs.Bytes.{bytes_of}
+use Rattle.fv_plane.specs.Picture.{Picture}
+use Rattle.y4m_stream.specs.Stream.{frame_text, frames_text}
+use Rattle.clip_graph.specs.Plan.{Application}
+use Rattle.clip_graph.specs.Unfolding.{key_picture}
+use Rattle.serve_events.specs.Keys.{frame_key}
+use Rattle.prefetch.specs.Clips.{pictures_from}
+use Rattle.prefetch.specs.Windows.{given, pictures_text}
+
+-- TEXTS
+
+pub text_twice : (one other : List Picture) → pictures_text (one ++ other) ≡ pictures_text one ++ pictures_text other
+text_twice one other = ap (λ (l : List (List ℕ)). frames_text l) (map-append bytes_of one other) ∙ flat_map-append frame_text (map bytes_of one) (map bytes_of other)
+
+given_twice : (xs ys : List (Option Picture)) → given (xs ++ ys) ≡ given xs ++ given ys
+given_twice [] ys = refl
+given_twice (None ∷ xs) ys = given_twice xs ys
+given_twice (Some x ∷ xs) ys = ap (λ l. x ∷ l) (given_twice xs ys)
+
+-- one item more of a list
+one_more : {A : Type 0} (xs : List A) (i : ℕ) (x : A) → slice_get xs i ≡ Some x → take (i + 1) xs ≡ take i xs ++ x ∷ []
+one_more xs i x h = let e : i + 1 ≡ suc i = omega arith in subst (λ n. take n xs ≡ take i xs ++ x ∷ []) (sym e) (go xs i h)
+  where
+    go : (xs : List _) (i : ℕ) → slice_get xs i ≡ Some x → take (suc i) xs ≡ take i xs ++ x ∷ []
+    go [] i h = absurd (cc)
+    go (y ∷ ys) zero h = let same : y ≡ x = cc in ap (λ z. z ∷ []) same
+    go (y ∷ ys) (suc i) h = ap (λ l. y ∷ l) (go ys i h)
+
+text_more : (frames : List (Option Picture)) (i : ℕ) (frame : Option Picture) → slice_get frames i ≡ Some frame → pictures_text (given (take (i + 1) frames)) ≡ pictures_text (given (take i frames)) ++ pictures_text (given (frame ∷ []))
+text_more frames i frame at = ap (λ l. pictures_text (given l)) (one_more frames i frame at) ∙ ap pictures_text (given_twice (take i frames) (frame ∷ [])) ∙ text_twice (given (take i frames)) (given (frame ∷ []))
+
+-- the text of all begins with that of the first
+text_whole : (frames : List (Option Picture)) (n : ℕ) → pictures_text (given frames) ≡ pictures_text (given (take n frames)) ++ pictures_text (given (drop n frames))
+text_whole frames n = ap (λ l. pictures_text (given l)) (sym (take-append-drop n frames)) ∙ ap pictures_text (given_twice (take n frames) (drop n frames)) ∙ text_twice (given (take n frames)) (given (drop n frames))
+
+-- PUTS
+
+module _ {K : Type 0} (sink : Ghosts K) (old here new : K) (frames : List (Option Picture)) (i : ℕ) (frame : Option Picture) (at : slice_get frames i ≡ Some frame) (before : Puts sink old here (pictures_text (given (take i frames)))) where
+  pub put_more : Puts sink here new (pictures_text (given (frame ∷ []))) → Puts sink old new (pictures_text (given (take (i + 1) frames)))
+  put_more put =
+      put ∙ ap (λ o. with_piece o (pictures_text (given (frame ∷ [])))) before ∙ with_piece_twice (sink.bytes old) (pictures_text (given (take i frames))) (pictures_text (given (frame ∷ [])))
+      ∙ ap (with_piece (sink.bytes old)) (sym (text_more frames i frame at))
+
+  pub put_cut : PutsPrefix sink here new (pictures_text (given (frame ∷ []))) → PutsPrefix sink old new (pictures_text (given frames))
+  put_cut cut =
+      let first = pictures_text (given (take i frames)) in
+      let text = pictures_text (given (frame ∷ [])) in
+      let rest = pictures_text (given (drop (i + 1) frames)) in
+      let whole : pictures_text (given frames) ≡ (first ++ text) ++ rest = text_whole frames (i + 1) ∙ ap (λ l. l ++ rest) (text_more frames i frame at) in
+      rw whole (gets_more (sink.bytes old) (sink.bytes new) (first ++ text) rest (gets_after (sink.bytes old) (sink.bytes here) (sink.bytes new) first text before cut))
+
+-- PICTURES BY NUMBER
+
+pub pictures_more : (b : List (List Picture)) (plan : List Application) (root n count : ℕ) → pictures_from b plan root 0 (n + count) ≡ pictures_from b plan root 0 n ++ pictures_from b plan root n count
+pictures_more b plan root n zero = let e : n + zero ≡ n = omega arith in ap (pictures_from b plan root 0) e ∙ sym (append-nil (pictures_from b plan root 0 n))
+pictures_more b plan root n (suc count) =
+    let f : ℕ → Picture = λ m. key_picture b plan (frame_key root m) in
+    let e : n + suc count ≡ (n + count) + 1 = omega arith in
+    let g : suc count ≡ count + 1 = omega arith in
+    let zero_first : 0 + (n + count) ≡ n + count = omega arith in
+    ap (pictures_from b plan root 0) e ∙ map-range_with_len_more f 0 (n + count) (n + count) zero_first
+    ∙ ap (λ l. l ++ f (n + count) ∷ []) (pictures_more b plan root n count)
+    ∙ append_assoc (pictures_from b plan root 0 n) (pictures_from b plan root n count) (f (n + count) ∷ [])
+    ∙ ap (λ l. pictures_from b plan root 0 n ++ l) (sym (ap (pictures_from b plan root n) g ∙ map-range_with_len_more f n count (n + count) refl))

@@ -1,0 +1,4 @@
+pub mod Clips
+pub mod Rendered
+pub mod Windows
+pub mod Journal

@@ -1,0 +1,13 @@
+// Why a render ends early.
+use serve_events::Stop;
+
+/// Why not all frames were put.
+#[derive(Clone, Copy, Debug, PartialEq, Eq)]
+pub enum RenderStop {
+    /// A worker stopped.
+    Stopped(Stop),
+    /// The sink failed: its count of faults rose in the call.
+    Write,
+    /// Out of memory.
+    Memory,
+}
