@@ -1,6 +1,9 @@
+mod CacheLemmas
+mod ClosingLemmas
 mod MeaningLemmas
 mod PickLemmas
 mod PlayLemmas
 mod RunLemmas
 mod SayLemmas
+mod StreamLemmas
 mod TextLemmas

@@ -5,7 +5,7 @@ use Rattle.fv_plane.specs.Clip.{Clip}
 use Rattle.fv_plane.specs.Picture.{Picture}
 use Rattle.y4m_stream.proofs.CallerLemmas.{reads_one_way}
 use Rattle.clip_graph.specs.Plan.{Application}
-use Rattle.clip_render.specs.Clips.{clip_at}
+use Rattle.prefetch.specs.Clips.{clip_at}
 use Rattle.avs_meaning.specs.Meaning as m
 use Rattle.avs_meaning.specs.declared.state.SourceClip.{SourceClip}
 use Rattle.avs_expressions.specs.Sources.{sources_of}

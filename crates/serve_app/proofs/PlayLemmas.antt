@@ -1,5 +1,5 @@
 -- A clip that was put, and what a script means.
-use Rattle.std.proofs.Common.{◌≡◌, ◌∙◌, ◌<◌, ℕ, zero, suc, arith, Bool, true, false, IsTrue, List, [], ◌∷◌, ◌++◌, length, take, map, get_or, slice_get, Some, IfOk, Result, Ok, Err, refl, inl, inr, sym, ap, ap₂, subst, drop}
+use Rattle.std.proofs.Common.{◌≡◌, ◌∙◌, ◌≤◌, ℕ, zero, suc, arith, Bool, true, false, IsTrue, List, [], ◌∷◌, ◌++◌, length, map, get_or, slice_get, Option, Some, None, Result, Ok, Err, IfOk, OnOk, OnErr, refl, inl, inr, sym, ap, ap₂, subst}
 use Rattle.std.proofs.lemmas.List.{take_all, length-map}
 use Rattle.std.proofs.lemmas.List.FromFn.{length-range_with_len}
 use Rattle.std.specs.List.{range_with_len}
@@ -15,16 +15,19 @@ use Rattle.fv_plane.specs.Clip.{Clip}
 use Rattle.fv_plane.specs.Picture.{Picture}
 use Rattle.y4m_stream.specs.Head.{head}
 use Rattle.y4m_stream.specs.Stream.{frames_text, stream}
-use Rattle.seq_source.specs.FrameSource.{FrameSource}
+use Rattle.seq_source.specs.FrameSource.{FrameSource, frames_of as frames_in}
+use Rattle.seq_source.proofs.CallerLemmas.{clip_told}
 use Rattle.clip_term.specs.ClipTerm.{Act, source, plain, time, space, joined, soft}
-use Rattle.clip_graph.specs.Plan.{Application, application_at}
+use Rattle.clip_graph.specs.Plan.{Application, application_at, IsPlan}
 use Rattle.clip_graph.specs.Unfolding.{key_picture}
-use Rattle.clip_frames.specs.Sources.{IsBook, KeepAll, AreSources, source_infos}
-use Rattle.clip_frames.specs.Faults.{HasFailed, HasChanged}
-use Rattle.clip_frames.proofs.CallerLemmas.{none_changed}
+use Rattle.clip_frames.specs.Sources.{AreSources, source_infos}
+use Rattle.inst_table.specs.declared.place.Place.{Place}
+use Rattle.inst_table.specs.declared.place.Slot.{Slot}
 use Rattle.graph_text.specs.InfoText.{info_text}
-use Rattle.clip_render.specs.Clips.{clip_at, IsClipOf}
-use Rattle.clip_render.specs.Render.{PutsFrames, PutsSome}
+use Rattle.serve_events.specs.declared.windows.Record.{Record}
+use Rattle.serve_events.specs.Keys.{frame_key}
+use Rattle.serve_core.specs.Sources.{with_told, all_told}
+use Rattle.prefetch.specs.Clips.{clip_at}
 use Rattle.avs_eval.specs.Evaluates.{Names}
 use Rattle.avs_eval.specs.declared.evaluation.Opened.{Opened}
 use Rattle.avs_meaning.specs.Faults.{Fault, input}
@@ -39,10 +42,13 @@ use Rattle.serve_app.specs.declared.stop.Stop.{Stop}
 use Rattle.serve_app.specs.declared.stop.Stop.TheVariants as of_stop
 use Rattle.serve_app.specs.Meaning.{meaning_in, HasPictures, IsBookOf, MeansClip}
 use Rattle.serve_app.specs.Info.{IsInfoOf, IsToldInfo, InfoShows}
-use Rattle.serve_app.specs.Playing.{Tells, EndsBefore, StreamShows, SomeFailed, PutsClip, PutsInfo}
+use Rattle.serve_app.specs.Clips.{book_told, IsClipOf, SomeFailed, PutsFrames, PutsSome, StreamShows}
+use Rattle.serve_app.specs.Closing.{CountsTable}
+use Rattle.serve_app.specs.Journals.{IsSerial, IsCutShort, CutsShort, IsPlanOf, IsScriptSerial, ScriptCuts}
+use Rattle.serve_app.specs.Playing.{Tells, EndsBefore, PutsClip, PutsInfo}
 use Rattle.serve_app.specs.Rendered.{PutsWholeFrames}
 use Rattle.serve_app.specs.Stop.{IsOfScript, ScriptHasClip, RenderShows}
-use Rattle.serve_app.proofs.MeaningLemmas.{item_at, same_plan, same_root}
+use Rattle.serve_app.proofs.MeaningLemmas.{same_plan, same_root}
 
 -- ---- worlds that are told
 
@@ -77,21 +83,31 @@ module _ {S : Type 0} (of : of_source.Ghosts S) (told : Bool) (world : World) wh
   fit plan listed sources same are =
       infos_listed of told world listed sources are ∙ ap (map (λ (one : SourceClip). one.info)) (sym same) ∙ infos_are plan
 
-  within : {X : Type 0} (xs : List X) (k : ℕ) (x : X) → slice_get xs k ≡ Some x → k < length xs
-  within [] k x is = cc is
-  within (y ∷ xs) zero x is = omega arith
-  within (y ∷ xs) (suc k) x is = let less = within xs k x is in omega (arith, less)
+  -- a source tells the pictures of its file
+  source_told : (one : SourceClip) (it : FrameSource S) (pictures : List Picture) → IsOpened of told world one it → IsTrue told → HasPictures world one.name pictures → frames_in of it ≡ Some pictures
+  source_told one it pictures opened tells is =
+      let has = frames_of of told world one it opened tells is.clip is.file in
+      let sound = opened.sound in
+      clip_told of it is.clip has sound.count ∙ ap Some (sym is.pictures_are)
+
+  told_by : (listed : List SourceClip) (sources : List (FrameSource S)) (book : List (List Picture)) → length listed ≡ length sources → length book ≡ length listed → IsTrue told
+      → ((k : ℕ) (one : SourceClip) (it : FrameSource S) → slice_get listed k ≡ Some one → slice_get sources k ≡ Some it → IsOpened of told world one it)
+      → ((k : ℕ) (one : SourceClip) → slice_get listed k ≡ Some one → HasPictures world one.name (get_or book k []))
+      → book_told of sources ≡ Some book
+  told_by [] [] [] long count tells each has = refl
+  told_by [] [] (z ∷ zs) long count tells each has = absurd (omega (arith, count))
+  told_by [] (y ∷ ys) book long count tells each has = absurd (omega (arith, long))
+  told_by (x ∷ xs) [] book long count tells each has = absurd (omega (arith, long))
+  told_by (x ∷ xs) (y ∷ ys) [] long count tells each has = absurd (omega (arith, count))
+  told_by (x ∷ xs) (y ∷ ys) (z ∷ zs) long count tells each has =
+      let first : frames_in of y ≡ Some z = source_told x y z (each zero x y refl refl) tells (has zero x refl) in
+      let rest : book_told of ys ≡ Some zs = told_by xs ys zs (omega (arith, long)) (omega (arith, count)) tells (λ k a b here there. each (suc k) a b here there) (λ k a here. has (suc k) a here) in
+      ap₂ with_told first rest
 
   -- the pictures of the files are those of the sources
   pub to_book : (listed : List SourceClip) (sources : List (FrameSource S)) (book : List (List Picture)) → AreOpened of told world listed sources → IsTrue told
-      → IsBookOf world listed book → IsBook of sources book
-  to_book listed sources book are tells is = record {
-    each = λ k it here.
-        let item = item_at listed k (let less = within sources k it here in omega (arith, less, are.count)) in
-        let pictures = is.each k item.0 item.1 in
-        let opened = are.each k item.0 it item.1 here in
-        record { clip = pictures.clip; has = frames_of of told world item.0 it opened tells pictures.clip pictures.file; pictures_are = pictures.pictures_are };
-  }
+      → IsBookOf world listed book → book_told of sources ≡ Some book
+  to_book listed sources book are tells is = told_by listed sources book are.count is.count tells are.each is.each
 
   more_books : (x : SourceClip) (xs : List SourceClip) (pictures : List Picture) (book : List (List Picture)) → HasPictures world x.name pictures
       → ((k : ℕ) (one : SourceClip) → slice_get xs k ≡ Some one → HasPictures world one.name (get_or book k []))
@@ -135,38 +151,38 @@ module _ {S : Type 0} (of : of_source.Ghosts S) (told : Bool) (world : World) (s
   pub has_one : ScriptHasClip (told_of told world) script
   has_one = in_told told world (λ w. (clip : Clip) × MeansClip w script clip) a_clip_at
 
-  of_means : IsTrue told → (clip : Clip) → MeansClip world script clip → IsClipOf of plan root sources clip
+  of_means : IsTrue told → (clip : Clip) → MeansClip world script clip → IsClipOf plan root (book_told of sources) clip
   of_means tells clip is =
       let both = sym is.means ∙ means tells in
       let plans = same_plan is.plan plan is.root root both in
       let roots = same_root is.plan plan is.root root both in
       let book : IsBookOf world listed is.book = rw (ap sources_of plans ∙ same) at is.is_book in
       record {
-        book = is.book;
-        is_book = to_book of told world listed sources is.book are tells book;
+        pictures = is.book;
+        told = to_book of told world listed sources is.book are tells book;
         clip_is = is.clip_is ∙ ap (λ p. clip_at is.book p is.root) plans ∙ ap (λ i. clip_at is.book plan i) roots;
       }
 
   -- what a script means is the clip of its plan
-  pub of_script : (clip : Clip) → IsOfScript (told_of told world) script clip → IsClipOf of plan root sources clip
+  pub of_script : (clip : Clip) → IsOfScript (told_of told world) script clip → IsClipOf plan root (book_told of sources) clip
   of_script clip is =
       let both = told_same told world is.world is.told_is in
       of_means both.0 clip (rw (sym both.1) at is.means)
 
   module _ {K : Type 0} (sink : Ghosts K) (out put : K) where
-    whole_clip : PutsFrames of sink plan root sources out put (application_at plan root).info.frames → (clip : Clip) → IsClipOf of plan root sources clip → Puts sink out put (stream clip)
+    whole_clip : PutsFrames sink plan root (book_told of sources) out put (application_at plan root).info.frames → (clip : Clip) → IsClipOf plan root (book_told of sources) clip → Puts sink out put (stream clip)
     whole_clip frames clip is =
         let part = frames.part in
         let begins = frames.begins clip is in
         let count : length clip.pictures ≡ (application_at plan root).info.frames
-        = ap (λ (c : Clip). length c.pictures) is.clip_is ∙ length-map (range_with_len 0 (application_at plan root).info.frames) (λ n. key_picture is.book plan (record { node = root; n = n }))
+        = ap (λ (c : Clip). length c.pictures) is.clip_is ∙ length-map (range_with_len 0 (application_at plan root).info.frames) (λ n. key_picture is.pictures plan (frame_key root n))
         ∙ length-range_with_len 0 (application_at plan root).info.frames in
         let all : part.pictures ≡ clip.pictures = begins.pictures ∙ take_all (length part.pictures) clip.pictures (omega (arith, frames.count, count)) in
         frames.put ∙ ap (λ (i : Info). with_piece (sink.bytes out) (head i ++ frames_text (map bytes_of part.pictures))) begins.info
         ∙ ap (λ (l : List Picture). with_piece (sink.bytes out) (head clip.info ++ frames_text (map bytes_of l))) all
 
     -- all frames are the clip
-    pub all_frames : (frames : ℕ) → frames ≡ (application_at plan root).info.frames → PutsFrames of sink plan root sources out put frames
+    pub all_frames : (frames : ℕ) → frames ≡ (application_at plan root).info.frames → PutsFrames sink plan root (book_told of sources) out put frames
         → InWorld (told_of told world) (λ w. PutsClip sink w script out put frames)
     unfolding a_clip_at
     all_frames frames all some = in_told told world (λ w. PutsClip sink w script out put frames) (λ tells.
@@ -195,42 +211,36 @@ module _ {S : Type 0} (of : of_source.Ghosts S) (told : Bool) (world : World) (s
         let texts : text ≡ other = is ∙ ap₂ (λ p r. info_text p r 1 1) (sym plans) (sym roots) ∙ sym info.text_is in
         rw texts at cut
 
-    some_frames : PutsSome of sink plan root sources out put → PutsWholeFrames sink out put (IsOfScript (told_of told world) script) (ScriptHasClip (told_of told world) script)
+    some_frames : PutsSome sink plan root (book_told of sources) out put → PutsWholeFrames sink out put (IsOfScript (told_of told world) script) (ScriptHasClip (told_of told world) script)
     some_frames (inl none) = inl none
-    some_frames (inr (n, frames)) = inr (record { part = frames.part; put = frames.put; begins = λ clip is. frames.begins clip (of_script clip is); has_one = has_one })
+    some_frames (inr frames) = inr (record { part = frames.part; put = frames.put; begins = λ clip is. frames.begins clip (of_script clip is); has_one = has_one })
 
-    none_of : (number frame want got : ℕ) → HasChanged of sources number frame want got → IsTrue told → ⊥
-    none_of number frame want got changed tells =
+    none_of : ((pictures : List (List Picture)) → book_told of sources ≡ Some pictures → ⊥) → IsTrue told → ⊥
+    none_of none tells =
         let book = a_book of told world listed sources are tells in
-        none_changed of sources book.0 number frame want got (to_book of told world listed sources book.0 are tells book.1) changed
+        none book.0 (to_book of told world listed sources book.0 are tells book.1)
 
     -- what a stop of the stream shows
-    pub stream_stops : (failed : Type 0) (new : List (FrameSource S)) → ((number : ℕ) → HasFailed of sources new number → failed) → (stop : Stop)
-        → StreamShows of sink plan root sources new out put stop → RenderShows failed sink (told_of told world) script out put stop
-    stream_stops failed new fails (of_stop.Script kind name line) shown = absurd shown
-    stream_stops failed new fails (of_stop.Input name NotThere) shown = absurd shown
-    stream_stops failed new fails (of_stop.Input name (Y4m fault)) shown = absurd shown
-    stream_stops failed new fails (of_stop.Input name (Changed frame want got)) shown =
-        let changed = shown.0.1 in
-        let frames = shown.1.1 in
-        let early = changed.ended in
-        let item = item_at listed shown.0.0 (let less = within of told world sources shown.0.0 changed.it changed.there in omega (arith, less, are.count)) in
-        let opened = are.each shown.0.0 item.0 changed.it item.1 changed.there in (
-          in_told told world (λ w. ⊥) (λ tells. none_of shown.0.0 frame want got changed tells),
-          record {
-            index = (let it = changed.it in it.index);
-            is_index = opened.sound;
-            inside = changed.inside;
-            want_is = early.want_is;
-            early = early.early;
-            part = frames.part;
-            shapes = rw (sym frames.info_is) at frames.shapes;
-            put = frames.put;
-          },
-        )
-    stream_stops failed new fails of_stop.Read shown = (fails shown.0.0 shown.0.1, some_frames shown.1)
-    stream_stops failed new fails of_stop.Write shown = (shown.0, record { prefix = λ clip is. shown.1 clip (of_script clip is); has_one = has_one })
-    stream_stops failed new fails of_stop.Memory shown = some_frames shown
+    pub stream_shown : {I : Type 0} (faults : I → ℕ) (table : List (Place × Slot I)) (failed : Type 0) → (SomeFailed faults table → failed) → (stop : Stop)
+        → StreamShows sink plan root (book_told of sources) out put faults table stop → RenderShows failed sink (told_of told world) script out put stop
+    stream_shown faults table failed fails (of_stop.Script kind name line) shown = absurd shown
+    stream_shown faults table failed fails (of_stop.Input name NotThere) shown = absurd shown
+    stream_shown faults table failed fails (of_stop.Input name (Y4m fault)) shown = absurd shown
+    stream_shown faults table failed fails (of_stop.Input name (Changed frame want got)) shown = (in_told told world (λ w. ⊥) (none_of shown.0), shown.1)
+    stream_shown faults table failed fails of_stop.Read shown = (fails shown.0, some_frames shown.1)
+    stream_shown faults table failed fails of_stop.Write shown = (shown.0, record { prefix = λ clip is. shown.1 clip (of_script clip is); has_one = has_one })
+    stream_shown faults table failed fails of_stop.Memory shown = some_frames shown
+
+    plan_of : IsPlan plan → IsPlanOf (told_of told world) script plan root
+    plan_of is = record { is_plan = is; means = in_told told world (λ w. meaning_in w script ≡ m.clip plan root) means }
+
+    -- and of the journal
+    pub script_serial : (capacity : ℕ) (journal : Option Record) → IsPlan plan → IsSerial plan root capacity journal → IsScriptSerial (told_of told world) script capacity journal
+    script_serial capacity journal is serial = record { plan = plan; root = root; is_plan = plan_of is; serial = serial }
+
+    pub script_cuts : (capacity : ℕ) (journal : Option Record) → IsPlan plan → CutsShort plan root capacity sink out put journal → ScriptCuts (told_of told world) script capacity sink out put journal
+    script_cuts capacity None is cut = tt
+    script_cuts capacity (Some log) is cut = record { plan = plan; root = root; is_plan = plan_of is; cut = cut }
 
 -- ---- a script without a clip
 
@@ -266,38 +276,22 @@ before_tells told world script sink out failed before now of_stop.Memory tells e
 
 -- ---- what the render leaves
 
-module _ {S : Type 0} (of : of_source.Ghosts S) (told : Bool) (world : World) where
-  -- sources that were read are still those that were opened
-  pub still_opened : (listed : List SourceClip) (old new : List (FrameSource S)) → KeepAll of old new → AreOpened of told world listed old → AreOpened of told world listed new
-  still_opened listed old new keeps are = record {
-    count = are.count ∙ sym keeps.count;
-    each = λ k one next here there.
-        let item = item_at old k (let less = within of told world new k next there in omega (arith, less, keeps.count)) in
-        let kept = keeps.each k item.0 next item.1 there in
-        let opened = are.each k one item.0 here item.1 in
-        record {
-          sound = rw kept.index opened.sound;
-          info = ap (λ i. i.info) kept.index ∙ opened.info;
-          clip = opened.clip;
-          bytes = λ tells. kept.told ∙ opened.bytes tells;
-          index = λ tells bytes clip file stream. rw kept.index (opened.index tells bytes clip file stream);
-        };
-  }
-
--- a source that failed has failed
-pub some_failed : {S : Type 0} (of : of_source.Ghosts S) (old new : List (FrameSource S)) (number : ℕ) → HasFailed of old new number → SomeFailed of new
-some_failed of old new number is = record { number = number; it = is.after; there = is.at_after; failed = omega (arith, is.failed) }
-
--- what is written back over as many items is what is there
-pub written : {X : Type 0} (xs old : List X) (n : ℕ) → length xs ≡ length old → length old ≡ n → take n (xs ++ drop (length xs) old) ≡ xs
-written [] [] zero same long = refl
-written [] [] (suc n) same long = refl
-written [] (y ∷ ys) n same long = absurd (omega (arith, same))
-written (x ∷ xs) [] n same long = absurd (omega (arith, same))
-written (x ∷ xs) (y ∷ ys) zero same long = absurd (omega (arith, long))
-written (x ∷ xs) (y ∷ ys) (suc n) same long = ap (λ l. x ∷ l) (written xs ys n (omega (arith, same)) (omega (arith, long)))
+-- a failed instance of a table whose faults were counted
+pub count_rose : {I : Type 0} (faults : I → ℕ) (table : List (Place × Slot I)) (before mid now after : ℕ) → before ≤ mid → CountsTable faults table mid now → now ≤ after → SomeFailed faults table → HasRisen before after
+count_rose faults table before mid now after first counts last failed =
+    let counted = counts failed.place failed.instance failed.there in
+    omega (arith, first, counted, last, failed.failed)
 
 -- two facts of an answer that is Ok
 pub both_of : {T E : Type 0} (P Q R : T → Type 0) (result : Result T E) → IfOk result P → IfOk result Q → ((x : T) → P x → Q x → R x) → IfOk result R
 both_of P Q R (Ok x) p q both = both x p q
 both_of P Q R (Err e) p q both = tt
+
+-- what holds where an answer is Ok, and where it is an error
+pub on_ok : {T E P Q : Type 0} (result : Result T E) → OnOk result P → (P → Q) → OnOk result Q
+on_ok (Ok x) p more = more p
+on_ok (Err e) p more = tt
+
+pub on_err : {T E P Q : Type 0} (result : Result T E) → OnErr result P → (P → Q) → OnErr result Q
+on_err (Ok x) p more = tt
+on_err (Err e) p more = more p

@@ -20,13 +20,15 @@ use Rattle.serve_app.specs.StopKinds.{status_of_stop}
 use Rattle.serve_app.specs.Info.{IsInfoOf, IsToldInfo, InfoShows}
 use Rattle.serve_app.specs.Playing.{PutsClip, PutsInfo}
 use Rattle.serve_app.specs.Meaning.{Meaning, a_clip, a_fault, MeansClip, Means, status_of, status_of_fault}
-use Rattle.clip_render.specs.Rendered.{PutsNothing}
+use Rattle.prefetch.specs.Rendered.{PutsNothing}
 use Rattle.serve_app.specs.Rendered.{PutsWholeFrames}
 use Rattle.serve_app.specs.Stop.{IsOfScript, ScriptHasClip, PutsBefore, IsScriptFault, IsNamedFault, RenderShows}
 use Rattle.serve_app.specs.Lines.{Says, stop_line, usage_line, read_line, write_line, memory_line}
-use Rattle.serve_app.specs.Headline.{EndsByScript, EndsByInput, Causes, Headline, InfoEnds, Ends}
+use Rattle.serve_app.specs.Headline.{EndsByScript, EndsByInput, Causes, Headline, JournalEnds, InfoEnds, Ends}
+use Rattle.serve_app.specs.Journals.{cache_of, IsScriptSerial, ScriptCuts}
 use Rattle.serve_app.specs.SelfTest.{IsLineOf, IsSelfLine, PutsSelfLine, SelfTestShows, SelfTestEnds}
-use Rattle.serve_app.specs.Run.{Does, Finishes}
+use Rattle.serve_app.specs.Run.{HasCache, Does, Finishes}
+use Rattle.serve_events.specs.declared.windows.Record.{Record}
 use Rattle.command_line.specs.Command.{command_in}
 use Rattle.command_line.specs.declared.command.Command.{Command}
 use Rattle.command_line.specs.declared.command.Command.TheVariants as c
@@ -353,9 +355,17 @@ self_line sink world script out new frames bytes line puts none all is =
     let same : bytes ≡ stream puts.clip = cc in
     record { clip = puts.clip; means = puts.means; line_is = is ∙ ap (λ n. digest_line n bytes) puts.frames_are ∙ ap (digest_line (let clip = puts.clip in clip.info.frames)) same }
 
+module _ {F S K E : Type 0} (files : of_files.Ghosts F S) (sink : Ghosts K) (lines : Ghosts E) (f g : F) (out new : K) (err said : E) (script : List ℕ) (journal : Option Record) (capacity status : ℕ) where
+  -- the journal of a whole render, and of one that stopped
+  journal_of_whole : status ≡ 0 → IsScriptSerial (files.world f) script capacity journal → JournalEnds files sink lines f g out new err said script capacity status journal
+  journal_of_whole zero serial = record { serial = λ is. serial; cut = λ more. absurd (more zero) }
+
+  journal_of_stop : (stop : Stop) → status ≡ status_of_stop stop → ScriptCuts (files.world f) script capacity sink out new journal → JournalEnds files sink lines f g out new err said script capacity status journal
+  journal_of_stop stop is cut = record { serial = λ zero. absurd (never_zero stop (sym is ∙ zero)); cut = λ more. cut }
+
 -- ---- all commands
 
-module _ {F S K E : Type 0} (files : of_files.Ghosts F S) (sink : Ghosts K) (lines : Ghosts E) (f g : F) (out new : K) (err said : E) (words : List (List ℕ)) where
+module _ {F S K E : Type 0} (files : of_files.Ghosts F S) (sink : Ghosts K) (lines : Ghosts E) (f g : F) (out new : K) (err said : E) (words : List (List ℕ)) (journal : Option Record) where
   -- what every run leaves
   abbrev Leaves : Type 0
   Leaves = KeepsFiles files f g × IsLater sink out new × IsLater lines err said
@@ -364,11 +374,18 @@ module _ {F S K E : Type 0} (files : of_files.Ghosts F S) (sink : Ghosts K) (lin
   not_one status (inl zero) one = omega (arith, zero, one)
   not_one status (inr more) one = omega (arith, more, one)
 
-  ends_of_render : (script : List ℕ) (options : RenderOptions) (status : ℕ) → command_in words ≡ Some (c.Render script options) → Headline files sink lines f g out new err said script status → Leaves
-      → Ends files sink lines f g out new err said words status
-  ends_of_render script options status asked ends leaves = record {
+  ends_of_render : (script : List ℕ) (options : RenderOptions) (status : ℕ) → command_in words ≡ Some (c.Render script options) → Headline files sink lines f g out new err said script status
+      → JournalEnds files sink lines f g out new err said script (cache_of options.cache) status journal → Leaves
+      → Ends files sink lines f g out new err said words status journal
+  ends_of_render script options status asked ends ended leaves = record {
     render = λ other is. (let same : script ≡ other = (let both : Some (c.Render script options) ≡ Some (c.Render other is.options) = sym asked ∙ is.asked in cc) in
         subst (λ s. Headline files sink lines f g out new err said s status) same ends);
+    journal_of = λ other others is.
+        (let both : Some (c.Render script options) ≡ Some (c.Render other others) = sym asked ∙ is in
+        let same : script ≡ other = cc in
+        let alike : options.cache ≡ others.cache = cc in
+        subst (λ n. JournalEnds files sink lines f g out new err said other (cache_of n) status journal) alike
+        (subst (λ s. JournalEnds files sink lines f g out new err said s (cache_of options.cache) status journal) same ended));
     info = λ other is. (let both : Some (c.Render script options) ≡ Some (c.Info other) = sym asked ∙ is in absurd (cc));
     self_test = λ number is. (let both : Some (c.Render script options) ≡ Some (c.SelfTest number) = sym asked ∙ is in absurd (cc));
     refused = λ none. (let both : Some (c.Render script options) ≡ None = sym asked ∙ none in absurd (cc));
@@ -379,9 +396,10 @@ module _ {F S K E : Type 0} (files : of_files.Ghosts F S) (sink : Ghosts K) (lin
   }
 
   ends_of_info : (script : List ℕ) (status : ℕ) → command_in words ≡ Some (c.Info script) → InfoEnds files sink lines f g out new err said script status → Leaves
-      → Ends files sink lines f g out new err said words status
+      → Ends files sink lines f g out new err said words status journal
   ends_of_info script status asked ends leaves = record {
     render = λ other is. (let both : Some (c.Info script) ≡ Some (c.Render other is.options) = sym asked ∙ is.asked in absurd (cc));
+    journal_of = λ other others is. (let both : Some (c.Info script) ≡ Some (c.Render other others) = sym asked ∙ is in absurd (cc));
     info = λ other is. (let same : script ≡ other = (let both : Some (c.Info script) ≡ Some (c.Info other) = sym asked ∙ is in cc) in
         subst (λ s. InfoEnds files sink lines f g out new err said s status) same ends);
     self_test = λ number is. (let both : Some (c.Info script) ≡ Some (c.SelfTest number) = sym asked ∙ is in absurd (cc));
@@ -398,9 +416,10 @@ module _ {F S K E : Type 0} (files : of_files.Ghosts F S) (sink : Ghosts K) (lin
   self_not_one status (inr (inr six)) one = omega (arith, six, one)
 
   ends_of_self_test : (number status : ℕ) → command_in words ≡ Some (c.SelfTest number) → SelfTestEnds sink lines out new err said number status → g ≡ f → Leaves
-      → Ends files sink lines f g out new err said words status
+      → Ends files sink lines f g out new err said words status journal
   ends_of_self_test number status asked ends stay leaves = record {
     render = λ other is. (let both : Some (c.SelfTest number) ≡ Some (c.Render other is.options) = sym asked ∙ is.asked in absurd (cc));
+    journal_of = λ other others is. (let both : Some (c.SelfTest number) ≡ Some (c.Render other others) = sym asked ∙ is in absurd (cc));
     info = λ other is. (let both : Some (c.SelfTest number) ≡ Some (c.Info other) = sym asked ∙ is in absurd (cc));
     self_test = λ other is. (let same : number ≡ other = (let both : Some (c.SelfTest number) ≡ Some (c.SelfTest other) = sym asked ∙ is in cc) in
         (subst (λ n. SelfTestEnds sink lines out new err said n status) same ends, stay));
@@ -412,14 +431,14 @@ module _ {F S K E : Type 0} (files : of_files.Ghosts F S) (sink : Ghosts K) (lin
   }
 
   -- by what was done and what was said of it
-  pub ends_of : (command : Command) (done : Result (Unit {0}) Stop) (status : ℕ) → command_in words ≡ Some command → Does files sink f g out new command done
-      → Finishes lines err said done status → Leaves → Ends files sink lines f g out new err said words status
+  pub ends_of : (command : Command) (done : Result (Unit {0}) Stop) (status : ℕ) → command_in words ≡ Some command → Does files sink f g out new journal command done
+      → Finishes lines err said done status → Leaves → Ends files sink lines f g out new err said words status journal
   ends_of (c.Render script options) (Ok u) status asked done said_so leaves =
       ends_of_render script options status asked (subst (λ n. Headline files sink lines f g out new err said script n) (sym said_so.0)
-      (headline_of_whole files sink lines f g out new err said script done.0 done.1 said_so.1)) leaves
+      (headline_of_whole files sink lines f g out new err said script done.0.0 done.0.1 said_so.1)) (journal_of_whole files sink lines f g out new err said script journal (cache_of options.cache) status said_so.0 done.1) leaves
   ends_of (c.Render script options) (Err stop) status asked done said_so leaves =
       ends_of_render script options status asked (subst (λ n. Headline files sink lines f g out new err said script n) (sym said_so.0)
-      (headline_of_stop files sink lines f g out new err said script stop done said_so.1)) leaves
+      (headline_of_stop files sink lines f g out new err said script stop done.0 said_so.1)) (journal_of_stop files sink lines f g out new err said script journal (cache_of options.cache) status stop said_so.0 done.1) leaves
   ends_of (c.Info script) (Ok u) status asked done said_so leaves =
       ends_of_info script status asked (subst (λ n. InfoEnds files sink lines f g out new err said script n) (sym said_so.0)
       (info_of_whole files sink lines f g out new err said script done.0 done.1 said_so.1)) leaves
@@ -439,15 +458,16 @@ module _ {F S K E : Type 0} (files : of_files.Ghosts F S) (sink : Ghosts K) (lin
   untouched = record { world = refl; given = refl; later = omega arith }
 
   -- memory ran out before anything was done
-  memory_done : (command : Command) → Does files sink f f out out command (Err Memory)
-  memory_done (c.Render script options) = inl refl
+  memory_done : (command : Command) → Does files sink f f out out None command (Err Memory)
+  memory_done (c.Render script options) = (inl refl, tt)
   memory_done (c.Info script) = refl
   memory_done (c.SelfTest number) = (refl, refl)
 
   pub ends_of_memory : (command : Option Command) → command_in words ≡ command → (status : ℕ) → Finishes lines err said (Err Memory) status
-      → Ends files sink lines f f out out err said words status
+      → Ends files sink lines f f out out err said words status None
   ends_of_memory None none status said_so = record {
     render = λ other is. (let both : None ≡ Some (c.Render other is.options) = sym none ∙ is.asked in absurd (cc));
+    journal_of = λ other others is. (let both : None ≡ Some (c.Render other others) = sym none ∙ is in absurd (cc));
     info = λ other is. (let both : None ≡ Some (c.Info other) = sym none ∙ is in absurd (cc));
     self_test = λ number is. (let both : None ≡ Some (c.SelfTest number) = sym none ∙ is in absurd (cc));
     refused = λ is. record { line = inr said_so; files_stay = refl; out_stays = refl };
@@ -457,12 +477,13 @@ module _ {F S K E : Type 0} (files : of_files.Ghosts F S) (sink : Ghosts K) (lin
     later_lines = (let says = said_so.1 in says.later);
   }
   ends_of_memory (Some command) asked status said_so =
-      ends_of files sink lines f f out out err said words command (Err Memory) status asked (memory_done command) said_so
+      ends_of files sink lines f f out out err said words None command (Err Memory) status asked (memory_done command) said_so
       (untouched, omega arith, (let says = said_so.1 in says.later))
 
-  pub ends_of_usage : command_in words ≡ None → Says lines err said usage_line → Ends files sink lines f f out out err said words 1
+  pub ends_of_usage : command_in words ≡ None → Says lines err said usage_line → Ends files sink lines f f out out err said words 1 None
   ends_of_usage none says = record {
     render = λ other is. (let both : None ≡ Some (c.Render other is.options) = sym none ∙ is.asked in absurd (cc));
+    journal_of = λ other others is. (let both : None ≡ Some (c.Render other others) = sym none ∙ is in absurd (cc));
     info = λ other is. (let both : None ≡ Some (c.Info other) = sym none ∙ is in absurd (cc));
     self_test = λ number is. (let both : None ≡ Some (c.SelfTest number) = sym none ∙ is in absurd (cc));
     refused = λ is. record { line = inl (refl, says); files_stay = refl; out_stays = refl };

@@ -1,7 +1,7 @@
 -- The headline: what a run of the program promises. A render that ends with status 0 has written exactly the text of
 -- the clip that the script means. Any other ending has written a prefix of that text, or nothing where there is no
 -- clip. Each status has the cause that it names.
-use Rattle.std.specs.Prelude.{◌≡◌, ◌⊎◌, ℕ, ◌≤◌, List, Some, None}
+use Rattle.std.specs.Prelude.{◌≡◌, ◌⊎◌, ℕ, ◌≤◌, List, Option, Some, None}
 use Rattle.fv_io.specs.declared.files.Files as of_files
 use Rattle.fv_io.specs.declared.sink.Sink.{Ghosts}
 use Rattle.fv_io.specs.Files.{KeepsFiles, FilesFailed}
@@ -11,12 +11,16 @@ use Rattle.fv_plane.specs.Clip.{Clip}
 use Rattle.y4m_stream.specs.Stream.{stream}
 use Rattle.avs_meaning.specs.declared.fault.ScriptKind.{ScriptKind}
 use Rattle.command_line.specs.Command.{command_in}
+use Rattle.command_line.specs.declared.command.Command.TheVariants.{Render}
+use Rattle.command_line.specs.declared.command.RenderOptions.{RenderOptions}
+use Rattle.serve_events.specs.declared.windows.Record.{Record}
 use Rattle.serve_app.specs.declared.fault.InputFault.{InputFault}
 use Rattle.serve_app.specs.Words.{IsRender, IsInfo, IsSelfTest}
 use Rattle.serve_app.specs.Meaning.{Meaning, MeansClip, Means, status_of}
 use Rattle.serve_app.specs.Info.{IsInfoOf, IsToldInfo}
+use Rattle.serve_app.specs.Journals.{cache_of, IsScriptSerial, ScriptCuts}
 use Rattle.serve_app.specs.SelfTest.{SelfTestEnds}
-use Rattle.clip_render.specs.Rendered.{PutsNothing}
+use Rattle.prefetch.specs.Rendered.{PutsNothing}
 use Rattle.serve_app.specs.Rendered.{PutsWholeFrames}
 use Rattle.serve_app.specs.Stop.{IsOfScript, ScriptHasClip, PutsBefore, IsScriptFault, IsNamedFault}
 use Rattle.serve_app.specs.Lines.{Says, usage_line, read_line, write_line, memory_line, script_line, input_line}
@@ -66,6 +70,11 @@ module _ {F S K E : Type 0} (files : of_files.Ghosts F S) (sink : Ghosts K) (lin
           → PutsWholeFrames sink out new (IsOfScript (files.world f) script) (ScriptHasClip (files.world f) script)
       pub causes : Causes status
 
+    -- its journal, for a cache of so many frames: the serial run, or the beginning of it
+    pub record JournalEnds (capacity status : ℕ) (journal : Option Record) : Type 0 where
+      pub serial : status ≡ 0 → IsScriptSerial (files.world f) script capacity journal
+      pub cut : (status ≡ 0 → ⊥) → ScriptCuts (files.world f) script capacity sink out new journal
+
     -- what is known of the script's clip
     pub record InfoEnds (status : ℕ) : Type 0 where
       -- the text: the whole, or a prefix; nothing where no write failed, or where there is no clip
@@ -84,8 +93,10 @@ module _ {F S K E : Type 0} (files : of_files.Ghosts F S) (sink : Ghosts K) (lin
     pub out_stays : new ≡ out
 
   -- what a run leaves, by what the words ask for
-  pub record Ends (words : List (List ℕ)) (status : ℕ) : Type 0 where
+  pub record Ends (words : List (List ℕ)) (status : ℕ) (journal : Option Record) : Type 0 where
     pub render : (script : List ℕ) → IsRender words script → Headline script status
+    pub journal_of : (script : List ℕ) (options : RenderOptions) → command_in words ≡ Some (Render script options)
+        → JournalEnds script (cache_of options.cache) status journal
     pub info : (script : List ℕ) → IsInfo words script → InfoEnds script status
     pub self_test : (number : ℕ) → IsSelfTest words number → SelfTestEnds sink lines out new err said number status × (g ≡ f)
     pub refused : command_in words ≡ None → IsRefused status

@@ -4,7 +4,7 @@ use Rattle.fv_io.specs.declared.sink.Sink.{Ghosts}
 use Rattle.fv_io.specs.Sink.{PutsPrefix, SinkFailed}
 use Rattle.fv_io.specs.World.{World}
 use Rattle.clip_graph.specs.Plan.{Application}
-use Rattle.clip_render.specs.Rendered.{PutsNothing}
+use Rattle.prefetch.specs.Rendered.{PutsNothing}
 use Rattle.graph_text.specs.InfoText.{info_text}
 use Rattle.avs_meaning.specs.Meaning as m
 use Rattle.serve_app.specs.declared.fault.InputFault.TheVariants.{NotThere, Y4m, Changed}

@@ -3,6 +3,10 @@ pub mod Meaning
 pub mod Rendered
 pub mod StopKinds
 pub mod Stop
+pub mod Clips
+pub mod Closing
+pub mod Journals
+pub mod Streams
 pub mod Playing
 pub mod Lines
 pub mod Info

@@ -4,7 +4,7 @@ use Rattle.fv_io.specs.World.{World}
 use Rattle.fv_plane.specs.Clip.{Clip}
 use Rattle.fv_plane.specs.Picture.{Picture}
 use Rattle.clip_graph.specs.Plan.{Application}
-use Rattle.clip_render.specs.Clips.{clip_at}
+use Rattle.prefetch.specs.Clips.{clip_at}
 use Rattle.avs_load.specs.Load.{script_of}
 use Rattle.avs_meaning.specs.Faults.{Fault, script, refused, input}
 use Rattle.avs_meaning.specs.Meaning as m

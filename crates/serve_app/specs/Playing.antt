@@ -1,17 +1,11 @@
 -- A script that is evaluated, and its clip that is put: what each answer shows.
-use Rattle.std.specs.Prelude.{◌≡◌, ◌≤◌, ℕ, List, slice_get, Some, Result, Ok, Err}
-use Rattle.fv_io.specs.declared.source.Source as of_source
+use Rattle.std.specs.Prelude.{◌≡◌, ℕ, List, Result, Ok, Err}
 use Rattle.fv_io.specs.declared.sink.Sink.{Ghosts}
 use Rattle.fv_io.specs.Faults.{HasRisen}
-use Rattle.fv_io.specs.Sink.{Puts, PutsPrefix, SinkFailed}
+use Rattle.fv_io.specs.Sink.{Puts}
 use Rattle.fv_io.specs.World.{World}
 use Rattle.fv_plane.specs.Clip.{Clip}
 use Rattle.y4m_stream.specs.Stream.{stream}
-use Rattle.seq_source.specs.FrameSource.{FrameSource}
-use Rattle.clip_graph.specs.Plan.{Application}
-use Rattle.clip_frames.specs.Faults.{HasFailed, HasChanged}
-use Rattle.clip_render.specs.Clips.{IsClipOf}
-use Rattle.clip_render.specs.Render.{PutsFrames, PutsSome}
 use Rattle.avs_meaning.specs.Faults.{Fault, input}
 use Rattle.avs_meaning.specs.Meaning as m
 use Rattle.avs_meaning.specs.declared.fault.InputFault.TheVariants as i
@@ -42,28 +36,6 @@ EndsBefore before now (Err of_stop.Read) = HasRisen before now
 EndsBefore before now (Err of_stop.Write) = ⊥
 EndsBefore before now (Err (of_stop.Input name (Changed frame want got))) = ⊥
 EndsBefore before now _ = Unit {0}
-
--- ---- the stream
-
-module _ {S K : Type 0} (source : of_source.Ghosts S) (sink : Ghosts K) (plan : List Application) (root : ℕ)
-    (old new : List (FrameSource S)) (out put : K) where
-  abbrev pub StreamShows : Stop → Type 0
-  StreamShows (of_stop.Script kind name line) = ⊥
-  StreamShows (of_stop.Input name NotThere) = ⊥
-  StreamShows (of_stop.Input name (Y4m fault)) = ⊥
-  StreamShows (of_stop.Input name (Changed frame want got)) =
-      ((number : ℕ) × HasChanged source old number frame want got) × ((n : ℕ) × PutsFrames source sink plan root old out put n)
-  StreamShows of_stop.Read = ((number : ℕ) × HasFailed source old new number) × PutsSome source sink plan root old out put
-  StreamShows of_stop.Write = SinkFailed sink out put
-      × ((clip : Clip) → IsClipOf source plan root old clip → PutsPrefix sink out put (stream clip))
-  StreamShows of_stop.Memory = PutsSome source sink plan root old out put
-
--- a source has failed
-pub record SomeFailed {S : Type 0} (source : of_source.Ghosts S) (sources : List (FrameSource S)) : Type 0 where
-  pub number : ℕ
-  pub it : FrameSource S
-  pub there : slice_get sources number ≡ Some it
-  pub failed : 1 ≤ source.faults it.source
 
 -- ---- what was put
 

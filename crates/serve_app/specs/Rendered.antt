@@ -6,7 +6,7 @@ use Rattle.fv_plane.specs.Clip.{Clip}
 use Rattle.seq_source.specs.FrameSource.{end_of}
 use Rattle.y4m_stream.specs.Index.{Indexed, IsIndex}
 use Rattle.y4m_stream.specs.Stream.{stream}
-use Rattle.clip_render.specs.Rendered.{Begins, PutsNothing}
+use Rattle.prefetch.specs.Rendered.{Begins, PutsNothing}
 
 module _ {K : Type 0} (sink : Ghosts K) (old new : K) where
   -- the head and whole frames were put. Each clip of the kind begins with them, and there is such a clip where the

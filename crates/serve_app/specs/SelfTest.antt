@@ -7,7 +7,7 @@ use Rattle.fv_plane.specs.Clip.{Clip}
 use Rattle.y4m_stream.specs.Stream.{stream}
 use Rattle.self_test.specs.Workload.{self_world}
 use Rattle.self_test.specs.Digested.{digest_line}
-use Rattle.clip_render.specs.Rendered.{PutsNothing}
+use Rattle.prefetch.specs.Rendered.{PutsNothing}
 use Rattle.serve_app.specs.declared.stop.Stop.{Stop}
 use Rattle.serve_app.specs.declared.stop.Stop.TheVariants as of_stop
 use Rattle.serve_app.specs.Lines.{Says, write_line, memory_line}

@@ -4,7 +4,7 @@ use Rattle.fv_io.specs.declared.sink.Sink.{Ghosts}
 use Rattle.fv_io.specs.Sink.{SinkFailed}
 use Rattle.fv_io.specs.World.{World, InWorld}
 use Rattle.fv_plane.specs.Clip.{Clip}
-use Rattle.clip_render.specs.Rendered.{PutsNothing}
+use Rattle.prefetch.specs.Rendered.{PutsNothing}
 use Rattle.avs_meaning.specs.Faults.{Fault, input}
 use Rattle.avs_meaning.specs.declared.fault.InputFault.TheVariants as i
 use Rattle.avs_meaning.specs.declared.fault.ScriptKind.{ScriptKind}

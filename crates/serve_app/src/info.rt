@@ -9,9 +9,10 @@ ghost use Rattle.serve_app.specs.Info.{InfoShows};
 ghost use Rattle.serve_app.specs.Playing.{PutsInfo};
 ghost use Rattle.serve_app.specs.Stop.{ScriptHasClip};
 
+use crate::closing::close_host;
 use crate::play::tell;
 use crate::stop::Stop;
-use avs_files::{FileHost, HeldFiles, Known, Lent, close_all};
+use avs_files::{FileHost, HeldFiles, Known, Lent};
 use fv_io::{Files, Sink, Text};
 use std::alloc::Global;
 use std::marker::{Brand, PhantomData};
@@ -41,15 +42,7 @@ fn tell_in<H: HeldFiles, W: Known, K: Sink>(
 {
     let mut host = FileHost::new(alloc, files, of);
     *answer = tell(alloc, &mut host, out, script);
-    let FileHost {
-        alloc: _,
-        mut files,
-        listed: _,
-        sources,
-        of: _,
-    } = host;
-    close_all(&mut files, sources);
-    files
+    close_host(host)
 }
 
 // Tells over files, and gives them back.

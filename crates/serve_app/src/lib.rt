@@ -3,6 +3,7 @@
 //! Its contract says what each status means: what was written, and why. For a render that is the headline.
 #![tactic(auto)]
 
+mod closing;
 mod fault;
 mod info;
 pub mod laws;
@@ -11,6 +12,7 @@ mod render;
 mod run;
 mod say;
 mod stop;
+mod stream;
 mod test_run;
 #[cfg(test)]
 mod tests;
@@ -18,3 +20,4 @@ mod tests;
 pub use fault::InputFault;
 pub use run::{Ending, run_plain};
 pub use self_test::workload;
+pub use serve_events::{Event, Record, Windowed};

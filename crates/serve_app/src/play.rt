@@ -1,33 +1,43 @@
 // A script, evaluated over a host, and its clip, put.
-ghost use Rattle.std.specs.Prelude.{◌≡◌, ◌⊎◌, ◌≤◌, ◌<◌, [], length, IsTrue, IfOk, IfErr, OnOk};
+ghost use Rattle.std.specs.Prelude.{◌≡◌, ◌+◌, ◌≤◌, ◌<◌, [], length, None, IsTrue, IfOk, IfErr, OnOk, OnErr};
 ghost use Rattle.fv_io.specs.Sink.{IsLater};
 ghost use Rattle.fv_io.specs.Faults.{HasRisen};
 ghost use Rattle.fv_io.specs.World.{InWorld};
-ghost use Rattle.clip_graph.specs.Plan.{application_at};
-ghost use Rattle.clip_frames.specs.Sources.{AreSources, KeepAll};
-ghost use Rattle.clip_render.specs.Render.{PutsFrames};
+ghost use Rattle.clip_frames.specs.Sources.{AreSources};
+ghost use Rattle.serve_worker.specs.Alone.{AllFree};
+ghost use Rattle.serve_worker.specs.Furnishing.{sources_in};
+ghost use Rattle.serve_worker.specs.Instances.{faults_of};
+ghost use Rattle.prefetch.specs.Windows.{frames_at};
 ghost use Rattle.avs_meaning.specs.Meaning.{meaning};
 ghost use Rattle.avs_state.specs.Hosts.{outside_by};
 ghost use Rattle.avs_eval.specs.Evaluates.{Opens};
 ghost use Rattle.avs_files.specs.Opened.{told_of};
-ghost use Rattle.serve_app.specs.Playing.{Tells, EndsBefore, StreamShows, SomeFailed, PutsClip, PutsInfo};
+ghost use Rattle.serve_app.specs.Clips.{book_told, PutsFrames, StreamShows};
 ghost use Rattle.serve_app.specs.Info.{InfoShows};
-ghost use Rattle.serve_app.specs.Stop.{RenderShows, ScriptHasClip};
+ghost use Rattle.serve_app.specs.Journals.{IsSerial, CutsShort};
+ghost use Rattle.serve_app.specs.Playing.{Tells, EndsBefore, PutsInfo};
+ghost use Rattle.serve_app.specs.Stop.{ScriptHasClip};
 
 use crate::fault::InputFault;
 use crate::stop::Stop;
+use crate::stream::put_clip;
 use avs_eval::{Opened, eval};
 use avs_files::{FileHost, HeldFiles, Known};
-use avs_meaning::{ScriptKind, SourceClip};
+use avs_meaning::ScriptKind;
 use avs_state::{Host, HostFault};
-use clip_render::{RenderFault, put_clip};
+use frame_cache::FrameCache;
 use fv_io::{Failed, Sink, Source, Text};
 use graph_text::info_text;
+use inst_table::InstTable;
 use seq_source::SeqSource;
+use serve_core::Core;
+use serve_events::Record;
+use serve_worker::{Instance, furnish};
 use std::alloc::Global;
+use std::sync::Arc;
 
-// The script of this name, evaluated.
-fn evaluate<H: Host>(alloc: Global, host: &mut H, script: &Text) -> Result<Opened, Stop>
+/// The script of this name, evaluated over a host that has opened nothing.
+pub(crate) fn evaluate<H: Host>(alloc: Global, host: &mut H, script: &Text) -> Result<Opened, Stop>
     requires none { H.opened host.old ≡ [] }
     ensures told { IsTrue H.told → Tells (meaning (outside_by H.clips H.scripts) script.now) result }
     ensures opened { IfOk result (λ opened. Opens opened (H.opened host.new)) }
@@ -55,71 +65,46 @@ fn evaluate<H: Host>(alloc: Global, host: &mut H, script: &Text) -> Result<Opene
     Ok(eval(alloc, host, script, &text)?)
 }
 
-// Puts the stream of the clip that a script opened, and answers the number of its frames.
-fn put_opened<S: Source, K: Sink>(
+/// The stream of the clip that a script opened, put from a core over its sources, and the instances after it. The sources
+/// that no instance keeps are left.
+pub(crate) fn put_opened<S: Source, K: Sink>(
     alloc: Global,
-    opened: &Opened,
-    listed: &[SourceClip],
-    sources: &mut [SeqSource<S>],
+    opened: Opened,
+    sources: &mut Vec<SeqSource<S>>,
+    cache: u32,
     out: &mut K,
-) -> Result<u32, Stop>
-    requires root { opened.now.root < length opened.now.graph }
-    requires sources { AreSources opened.now.graph sources.old }
-    requires count { length listed.now ≡ length sources.old }
-    ensures put { IfOk result (λ frames. PutsFrames S.Source K.Sink opened.now.graph opened.now.root sources.old
-        out.old out.new frames) }
-    ensures frames { IfOk result (λ frames. frames ≡ (application_at opened.now.graph opened.now.root).info.frames) }
-    ensures stop { IfErr result (StreamShows S.Source K.Sink opened.now.graph opened.now.root sources.old sources.new
-        out.old out.new) }
-    ensures keeps { KeepAll S.Source sources.old sources.new }
+    journal: &mut Option<Record>,
+) -> (InstTable<Instance<S>>, Result<u32, Stop>)
+    requires root { opened.root < length opened.graph }
+    requires sources { AreSources opened.graph sources.old.items }
+    requires cache { 0 < cache }
+    requires none { journal.old ≡ None }
+    ensures put { IfOk result.1 (λ frames. PutsFrames K.Sink opened.graph opened.root
+        (book_told S.Source sources.old.items) out.old out.new frames) }
+    ensures frames { IfOk result.1 (λ frames. frames ≡ frames_at opened.graph opened.root) }
+    ensures stop { IfErr result.1 (StreamShows K.Sink opened.graph opened.root (book_told S.Source sources.old.items)
+        out.old out.new (faults_of S.Source) result.0) }
+    ensures serial { OnOk result.1 (IsSerial opened.graph opened.root cache journal.new) }
+    ensures cut { OnErr result.1 (CutsShort opened.graph opened.root cache K.Sink out.old out.new journal.new) }
+    ensures free { AllFree result.0 }
+    ensures all { length sources.old.items ≡ length sources.new.items + length (sources_in result.0) }
     ensures later { IsLater K.Sink out.old out.new }
 {
-    match put_clip(alloc, &opened.graph, sources, opened.root, out) {
-        Ok(()) => Ok(opened.graph.node(opened.root).info.frames),
-        Err(RenderFault::Read { number: _ }) => Err(Stop::Read),
-        Err(
-            RenderFault::Changed {
-                number,
-                frame,
-                want,
-                got,
-            },
-        ) => {
-            let Ok(name) = Text::from_str(alloc, listed[number as usize].name.as_str()) else {
-                return Err(Stop::Memory);
-            };
-            let fault = InputFault::Changed { frame, want, got };
-            Err(Stop::Input { name, fault })
-        }
-        Err(RenderFault::Write) => Err(Stop::Write),
-        Err(RenderFault::Memory) => Err(Stop::Memory),
-    }
-}
-
-/// Evaluates the script of this name over a host that has opened nothing, and puts the stream of its clip. It answers the
-/// number of the clip's frames.
-pub(crate) fn play<H: HeldFiles, W: Known, K: Sink>(
-    alloc: Global,
-    host: &mut FileHost<H, W>,
-    out: &mut K,
-    script: &Text,
-) -> Result<u32, Stop>
-    requires none { host.old.listed.items ≡ [] }
-    ensures whole { IfOk result (λ frames. InWorld (told_of W.told W.world) (λ world.
-        PutsClip K.Sink world script.now out.old out.new frames)) }
-    ensures stop { IfErr result (RenderShows (HasRisen (H.faults host.old.files) (H.faults host.new.files)
-        ⊎ SomeFailed H.Src.Source host.new.sources.items) K.Sink (told_of W.told W.world) script.now out.old out.new) }
-    ensures later { H.faults host.old.files ≤ H.faults host.new.files }
-    ensures later_sink { IsLater K.Sink out.old out.new }
-{
-    let opened = evaluate(alloc, host, script)?;
-    put_opened(
-        alloc,
-        &opened,
-        host.listed.as_slice(),
-        host.sources.as_mut_slice(),
-        out,
-    )
+    let Opened { graph, root } = opened;
+    graph.len();
+    let mut table = InstTable::new(alloc);
+    let Ok(_) = furnish(alloc, &mut table, &graph, sources, 1) else {
+        return (table, Err(Stop::Memory));
+    };
+    let Ok(frames) = FrameCache::new(alloc, cache) else {
+        return (table, Err(Stop::Memory));
+    };
+    let Ok(graph) = Arc::new(alloc, graph) else {
+        return (table, Err(Stop::Memory));
+    };
+    let mut core = Core::new(alloc, graph, root, frames, 1, table);
+    let put = put_clip(alloc, &mut core, out, journal);
+    (core.into_table(), put)
 }
 
 /// Evaluates the script of this name over a host that has opened nothing, and puts what is known of its clip.

@@ -9,6 +9,9 @@ use fv_io::{Failed, Sink, Text};
 use self_test::{DigestSink, workload};
 use std::alloc::{AllocError, Global};
 
+// How many frames the cache holds.
+const CACHE: u32 = 64;
+
 // The line of the self test of this number.
 fn line_of(alloc: Global, number: u32) -> Result<String, AllocError>
     ensures { IfOk result (λ line. IsSelfLine number (string_bytes line)) }
@@ -16,7 +19,8 @@ fn line_of(alloc: Global, number: u32) -> Result<String, AllocError>
     let mut files = workload(alloc, number)?;
     let script = Text::from_str(alloc, "self.avs")?;
     let mut sink = DigestSink::new();
-    match render(alloc, &mut files, &mut sink, &script) {
+    let mut journal = None;
+    match render(alloc, &mut files, &mut sink, &script, CACHE, &mut journal) {
         Ok(frames) => sink.line(alloc, frames),
         Err(_) => Err(AllocError),
     }

@@ -1,6 +1,7 @@
 // Runs over files in memory: what is on both outputs at each status, and how failed reads and writes end a run.
 use super::*;
 use fv_io::{MemFiles, MemSink, Text, Trip};
+use fv_plane::Key;
 use std::alloc::{AllocError, Global};
 use std::process::Abort;
 use std::test::Fail;
@@ -8,6 +9,10 @@ use std::test::Fail;
 // A file of four frames, which a render copies unchanged: the head ends at 36, and the frames at 43, 50, 57 and 64.
 const CLIP: &[u8] =
     b"YUV4MPEG2 W1 H1 F25:1 Ip A1:1 Cmono\nFRAME\n\x00FRAME\n\x01FRAME\n\x02FRAME\n\x03";
+
+// Its merge with its reverse.
+const AGAIN: &[u8] =
+    b"YUV4MPEG2 W1 H1 F25:1 Ip A1:1 Cmono\nFRAME\n\x02FRAME\n\x02FRAME\n\x02FRAME\n\x02";
 
 const SCRIPT: &[u8] = b"Y4MSource(\"m4.y4m\")";
 
@@ -48,6 +53,17 @@ fn run(
     files: &mut MemFiles,
     room: (usize, usize),
 ) -> Result<(u8, MemSink, MemSink), AllocError> {
+    let (ending, out, err) = run_whole(alloc, words, files, room)?;
+    Ok((ending.status, out, err))
+}
+
+// The same, with the journal.
+fn run_whole(
+    alloc: Global,
+    words: &[&str],
+    files: &mut MemFiles,
+    room: (usize, usize),
+) -> Result<(Ending, MemSink, MemSink), AllocError> {
     let mut texts = Vec::new(alloc);
     for word in words {
         texts.push(Text::from_str(alloc, word)?)?;
@@ -55,7 +71,7 @@ fn run(
     let mut out = MemSink::new(alloc, room.0)?;
     let mut err = MemSink::new(alloc, room.1)?;
     let ending = run_plain(alloc, &texts, files, &mut out, &mut err);
-    Ok((ending.status, out, err))
+    Ok((ending, out, err))
 }
 
 // The run ends with this status, this many bytes of the text on `out`, and this line on `err`.
@@ -351,6 +367,94 @@ fn an_input_changes_while_it_is_read(rt: HostRuntime) -> Result<(), Fail> {
         )?;
         ends(&rt, alloc, RENDER, &mut files, (99, 99), want)?;
     }
+    Ok(())
+}
+
+// A clip whose frames are each asked for twice ends with this status, with so many bytes of its text on `out`. The source
+// fails where it goes back once more after so many times.
+fn made_again(
+    rt: &impl Abort,
+    alloc: Global,
+    cache: &str,
+    rewinds: u32,
+    want: (u8, usize),
+) -> Result<(), Fail> {
+    let script: &[u8] = b"c = Y4MSource(\"m4.y4m\")\nMerge(c, c.Reverse)";
+    let trip = Trip::Rewind { rewinds };
+    let mut files = script_and_clip(alloc, "s.avs", script, 64, &[trip])?;
+    let words: &[&str] = &["render", "--cache", cache, "s.avs"];
+    let (status, out, _) = run(alloc, words, &mut files, (99, 99))?;
+    assert_eq!(rt; status, want.0);
+    assert!(rt; out.bytes() == start(AGAIN, want.1));
+    assert_eq!(rt; files.given(), 0);
+    Ok(())
+}
+
+// A cache of one frame makes some frames again.
+#[test]
+fn a_small_cache_makes_frames_again(rt: HostRuntime) -> Result<(), Fail> {
+    let alloc = rt.alloc();
+    made_again(&rt, alloc, "256", 9, (0, 64))?;
+    made_again(&rt, alloc, "1", 9, (0, 64))?;
+    made_again(&rt, alloc, "256", 2, (0, 64))?;
+    made_again(&rt, alloc, "1", 2, (4, 50))?;
+    Ok(())
+}
+
+// The journal of a frame of a source and of the frame that is made of it. A full cache loses the first to keep the second.
+#[test]
+fn a_render_leaves_its_journal(rt: HostRuntime) -> Result<(), Fail> {
+    let alloc = rt.alloc();
+    let worker = 0;
+    let (node, instance) = (0, 0);
+    let (input, output) = (Key { node: 0, n: 2 }, Key { node: 1, n: 0 });
+    let want = [
+        Event::Take { worker, n: 0 },
+        Event::Claim {
+            worker,
+            key: output,
+        },
+        Event::Claim { worker, key: input },
+        Event::Enter {
+            worker,
+            node,
+            instance,
+        },
+        Event::Leave {
+            worker,
+            node,
+            instance,
+        },
+        Event::Publish { worker, key: input },
+        Event::Evict { worker, key: input },
+        Event::Publish {
+            worker,
+            key: output,
+        },
+        Event::Deliver { worker, n: 0 },
+    ];
+    let script = b"Y4MSource(\"m4.y4m\").Trim(2, 0)";
+    let small: &[&str] = &["render", "--cache", "1", "s.avs"];
+    for (words, evicts) in [(RENDER, false), (small, true)] {
+        let mut files = script_and_clip(alloc, "s.avs", script, 57, &[])?;
+        let (ending, _, _) = run_whole(alloc, words, &mut files, (99, 99))?;
+        let Some(journal) = &ending.journal else {
+            return Err(Fail::from("no journal"));
+        };
+        let [window] = journal.windows.as_slice() else {
+            return Err(Fail::from("no single window"));
+        };
+        assert_eq!(rt; (window.first, window.count), (0, 1));
+        if evicts {
+            assert_eq!(rt; window.events.as_slice(), want.as_slice());
+        } else {
+            assert_eq!(rt; window.events.len(), 8);
+        }
+    }
+    // A script without a clip has none.
+    let mut files = script_and_clip(alloc, "s.avs", b"1", 57, &[])?;
+    let (ending, _, _) = run_whole(alloc, RENDER, &mut files, (99, 99))?;
+    assert!(rt; ending.journal.is_none());
     Ok(())
 }
 

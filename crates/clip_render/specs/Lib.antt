@@ -1,4 +1,0 @@
-pub mod Kinds
-pub mod Clips
-pub mod Rendered
-pub mod Render

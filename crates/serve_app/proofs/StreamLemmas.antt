@@ -1,0 +1,177 @@
+-- What was put of a clip, from what a render of its core leaves.
+use Rattle.std.proofs.Common.{◌≡◌, ◌∙◌, ◌⊎◌, ℕ, ◌≤◌, true, List, ◌++◌, take, map, Option, Some, refl, inl, inr, sym, ap, subst, arith}
+use Rattle.std.proofs.lemmas.List.FromFn.{length-map-range_with_len, take-map-range_with_len}
+use Rattle.fv_io.specs.Faults.{HasRisen}
+use Rattle.fv_io.specs.declared.source.Source as of_source
+use Rattle.fv_io.specs.declared.sink.Sink.{Ghosts}
+use Rattle.fv_io.specs.Sink.{Puts, PutsPrefix, SinkFailed, IsLater}
+use Rattle.fv_io.specs.Told.{with_piece}
+use Rattle.fv_io.proofs.CallerLemmas.{with_piece_twice, gets_more, gets_after}
+use Rattle.fv_plane.specs.Bytes.{bytes_of}
+use Rattle.fv_plane.specs.Clip.{Clip}
+use Rattle.fv_plane.specs.Picture.{Picture}
+use Rattle.fv_plane.specs.declared.format.Info.{Info}
+use Rattle.y4m_stream.specs.Head.{head}
+use Rattle.y4m_stream.specs.Stream.{frames_text, stream}
+use Rattle.clip_term.specs.ClipTerm.{Act, source, plain, time, space, joined, soft}
+use Rattle.clip_graph.specs.Plan.{Application, application_at, is_source}
+use Rattle.clip_graph.specs.Unfolding.{key_picture}
+use Rattle.inst_table.specs.declared.place.Place.{Place}
+use Rattle.inst_table.specs.declared.place.Slot.{Slot}
+use Rattle.inst_table.specs.Places.{shared_place}
+use Rattle.serve_events.specs.declared.event.Stop.TheVariants as worker
+use Rattle.serve_events.specs.declared.windows.Record.{Record}
+use Rattle.serve_events.specs.Keys.{frame_key}
+use Rattle.serve_events.specs.Windows.{WindowEvents, windows_of}
+use Rattle.serve_core.specs.CoreValue.{CoreValue}
+use Rattle.serve_core.specs.Sources.{book_of, faults_of as faults_in}
+use Rattle.serve_core.specs.Stands.{Book, Stands, ExceedsAct}
+use Rattle.serve_worker.specs.declared.instance.Instance.{Instance}
+use Rattle.serve_worker.specs.declared.instance.Instance.TheVariants as of_instance
+use Rattle.serve_worker.specs.Instances.{Ends, feed_of, faults_of, holds_of}
+use Rattle.serve_worker.specs.Made.{EndsThere}
+use Rattle.prefetch.specs.declared.stops.RenderStop.{RenderStop}
+use Rattle.prefetch.specs.declared.stops.RenderStop.TheVariants.{Stopped, Write, Memory}
+use Rattle.prefetch.specs.Clips.{pictures_from, clip_at}
+use Rattle.prefetch.specs.Rendered.{Begins}
+use Rattle.prefetch.specs.Windows.{frames_at, pictures_text, PutsFirst, RendersAll, RenderStops}
+use Rattle.prefetch.proofs.TextLemmas.{text_of_part}
+use Rattle.serve_app.specs.declared.fault.InputFault.TheVariants.{Changed}
+use Rattle.serve_app.specs.declared.stop.Stop.{Stop}
+use Rattle.serve_app.specs.declared.stop.Stop.TheVariants as of_stop
+use Rattle.serve_app.specs.Clips.{IsClipOf, SomeFailed, PutsFrames, PutsSome, StreamShows}
+use Rattle.serve_app.specs.Journals.{PutsCount, IsCutShort}
+use Rattle.serve_app.specs.Rendered.{EndsInFrame}
+use Rattle.serve_app.specs.Streams.{HeadStops, ToldAs}
+
+begins_first : (book : List (List Picture)) (plan : List Application) (root n : ℕ) → n ≤ frames_at plan root
+    → Begins (record { info = (application_at plan root).info; pictures = pictures_from book plan root 0 n }) (clip_at book plan root)
+begins_first book plan root n few = record {
+  info = refl;
+  pictures = sym (ap (λ k. take k (pictures_from book plan root 0 (frames_at plan root))) (length-map-range_with_len (λ i. key_picture book plan (frame_key root i)) 0 n)
+      ∙ take-map-range_with_len (λ i. key_picture book plan (frame_key root i)) 0 (frames_at plan root) n few);
+}
+
+-- a source that exceeds its number has failed
+one_failed : {I : Type 0} (feed : I → Option (List Picture)) (faults : I → ℕ) (book : Book) (numbers : List ℕ) (act : Act) (x : I) → is_source act ≡ true → ExceedsAct feed faults book numbers act x → 1 ≤ faults x
+one_failed feed faults book numbers (source name number info) x is more = omega (arith, more)
+one_failed feed faults book numbers (plain info colour) x is more = absurd (cc)
+one_failed feed faults book numbers (time op) x is more = absurd (cc)
+one_failed feed faults book numbers (space op) x is more = absurd (cc)
+one_failed feed faults book numbers (joined op) x is more = absurd (cc)
+one_failed feed faults book numbers (soft op) x is more = absurd (cc)
+
+module _ {S K : Type 0} (of : of_source.Ghosts S) (sink : Ghosts K) (c : CoreValue (Instance S)) (old mid new : K)
+    (stands : Stands (feed_of of) (faults_of of) (book_of (feed_of of) c.fixed.plan c.table) (faults_in (faults_of of) c.fixed.plan c.table) c)
+    (headed : Puts sink old mid (head (application_at c.fixed.plan c.fixed.root).info)) where
+  frames_put : (n : ℕ) → n ≤ frames_at c.fixed.plan c.fixed.root → PutsFirst holds_of (feed_of of) (faults_of of) Ends c sink mid new n
+      → PutsFrames sink c.fixed.plan c.fixed.root (book_of (feed_of of) c.fixed.plan c.table) old new n
+  frames_put n few first = record {
+    part = record { info = (application_at c.fixed.plan c.fixed.root).info; pictures = first.pictures };
+    info_is = refl;
+    count = first.count;
+    shapes = first.shapes;
+    begins = λ clip is.
+        (let told = subst (λ book. Stands (feed_of of) (faults_of of) book (faults_in (faults_of of) c.fixed.plan c.table) c) is.told stands in
+        let same = first.right is.pictures (faults_in (faults_of of) c.fixed.plan c.table) told in
+        let part = begins_first is.pictures c.fixed.plan c.fixed.root n few in
+        subst (λ whole. Begins (record { info = (application_at c.fixed.plan c.fixed.root).info; pictures = first.pictures }) whole) (sym is.clip_is)
+        (subst (λ pictures. Begins (record { info = (application_at c.fixed.plan c.fixed.root).info; pictures = pictures }) (clip_at is.pictures c.fixed.plan c.fixed.root)) (sym same) part));
+    put = first.put ∙ ap (λ told. with_piece told (pictures_text first.pictures)) headed
+        ∙ with_piece_twice (sink.bytes old) (head (application_at c.fixed.plan c.fixed.root).info) (pictures_text first.pictures);
+  }
+
+  -- all frames, with their journal
+  pub all_put : {windows : List WindowEvents} {d : CoreValue (Instance S)} → RendersAll holds_of (feed_of of) (faults_of of) Ends c sink mid new 1 windows d
+      → PutsFrames sink c.fixed.plan c.fixed.root (book_of (feed_of of) c.fixed.plan c.table) old new (frames_at c.fixed.plan c.fixed.root)
+  all_put all = frames_put (frames_at c.fixed.plan c.fixed.root) (omega arith) all.put
+
+  some_put : (n : ℕ) → n ≤ frames_at c.fixed.plan c.fixed.root → PutsFirst holds_of (feed_of of) (faults_of of) Ends c sink mid new n
+      → PutsSome sink c.fixed.plan c.fixed.root (book_of (feed_of of) c.fixed.plan c.table) old new
+  some_put n few first =
+      let frames = frames_put n few first in
+      inr (record { part = frames.part; put = frames.put; begins = frames.begins; has_one = tt })
+
+  count_put : (n : ℕ) → n ≤ frames_at c.fixed.plan c.fixed.root → PutsFirst holds_of (feed_of of) (faults_of of) Ends c sink mid new n
+      → PutsCount c.fixed.plan c.fixed.root c.fixed.capacity sink old new n
+  count_put n few first =
+      let frames = frames_put n few first in
+      record { part = frames.part; count = frames.count; put = frames.put }
+
+  ends_by : (x : Instance S) (frame want got n : ℕ) → n ≤ frames_at c.fixed.plan c.fixed.root → PutsFirst holds_of (feed_of of) (faults_of of) Ends c sink mid new n
+      → Ends x frame want got → EndsInFrame sink old new frame want got
+  ends_by of_instance.Plain frame want got n few first ends = absurd ends
+  ends_by (of_instance.Scratch width) frame want got n few first ends = absurd ends
+  ends_by (of_instance.Source it) frame want got n few first ends =
+      let frames = frames_put n few first in
+      record {
+        index = it.index;
+        is_index = ends.is_index;
+        inside = ends.inside;
+        want_is = ends.want_is;
+        early = ends.early;
+        part = frames.part;
+        shapes = rw (sym frames.info_is) at frames.shapes;
+        put = frames.put;
+      }
+
+  -- the cut text of a clip
+  front_cut : (n : ℕ) → n ≤ frames_at c.fixed.plan c.fixed.root
+      → ((b : List (List Picture)) (numbers : List ℕ) → Stands (feed_of of) (faults_of of) (Some b) numbers c
+      → PutsPrefix sink mid new (pictures_text (pictures_from b c.fixed.plan c.fixed.root 0 n)))
+      → (clip : Clip) → IsClipOf c.fixed.plan c.fixed.root (book_of (feed_of of) c.fixed.plan c.table) clip → PutsPrefix sink old new (stream clip)
+  front_cut n few cut clip is =
+      let told = subst (λ book. Stands (feed_of of) (faults_of of) book (faults_in (faults_of of) c.fixed.plan c.table) c) is.told stands in
+      let text = pictures_text (pictures_from is.pictures c.fixed.plan c.fixed.root 0 n) in
+      let start = head (application_at c.fixed.plan c.fixed.root).info in
+      let after = gets_after (sink.bytes old) (sink.bytes mid) (sink.bytes new) start text headed (cut is.pictures _ told) in
+      let rest = text_of_part _ _ (begins_first is.pictures c.fixed.plan c.fixed.root n few) in
+      let whole = gets_more (sink.bytes old) (sink.bytes new) (start ++ text) rest.0 after in
+      subst (λ other. PutsPrefix sink old new (stream other)) (sym is.clip_is) (subst (λ t. PutsPrefix sink old new t) (sym rest.1) whole)
+
+  module _ (windows : List WindowEvents) (d : CoreValue (Instance S)) where
+    -- what a stop shows
+    pub stream_stops : (stop : RenderStop) (told : Stop) → IsLater sink old mid → RenderStops holds_of (feed_of of) (faults_of of) Ends c sink mid new 1 windows d stop → ToldAs stop told
+        → StreamShows sink c.fixed.plan c.fixed.root (book_of (feed_of of) c.fixed.plan c.table) old new (faults_of of) d.table told
+    stream_stops (Stopped (worker.Read i)) told later shown is =
+        let still = shown.stands _ _ stands in
+        let failed = still.with_it in
+        let failure : SomeFailed (faults_of of) d.table = record { place = shared_place i; instance = failed.instance; there = failed.there; failed = one_failed (feed_of of) (faults_of of) (book_of (feed_of of) c.fixed.plan c.table) still.numbers _ failed.instance shown.named failed.more } in
+        subst (StreamShows sink c.fixed.plan c.fixed.root (book_of (feed_of of) c.fixed.plan c.table) old new (faults_of of) d.table) (sym is) (failure, some_put shown.count shown.few shown.put)
+    stream_stops (Stopped (worker.Changed i frame want got)) told later shown (inl (name, is)) =
+        let still = shown.stands _ _ stands in
+        let ended = shown.ended in
+        subst (StreamShows sink c.fixed.plan c.fixed.root (book_of (feed_of of) c.fixed.plan c.table) old new (faults_of of) d.table) (sym is)
+        (λ pictures there. (let none = still.with_it in absurd (cc)), ends_by ended.instance frame want got shown.count shown.few shown.put ended.early)
+    stream_stops (Stopped (worker.Changed i frame want got)) told later shown (inr is) =
+        subst (StreamShows sink c.fixed.plan c.fixed.root (book_of (feed_of of) c.fixed.plan c.table) old new (faults_of of) d.table) (sym is) (some_put shown.count shown.few shown.put)
+    stream_stops (Stopped worker.Memory) told later shown is =
+        subst (StreamShows sink c.fixed.plan c.fixed.root (book_of (feed_of of) c.fixed.plan c.table) old new (faults_of of) d.table) (sym is) (some_put shown.count shown.few shown.put)
+    stream_stops Write told later shown is =
+        let failed : SinkFailed sink old new = omega (arith, later, shown.failed) in
+        subst (StreamShows sink c.fixed.plan c.fixed.root (book_of (feed_of of) c.fixed.plan c.table) old new (faults_of of) d.table) (sym is) (failed, front_cut shown.count shown.few shown.cut)
+    stream_stops Memory told later shown is =
+        subst (StreamShows sink c.fixed.plan c.fixed.root (book_of (feed_of of) c.fixed.plan c.table) old new (faults_of of) d.table) (sym is) (some_put shown.count shown.few shown.put)
+
+  -- and of the journal
+  pub cut_short : (log : Record) (d : CoreValue (Instance S)) (stop : RenderStop) → IsLater sink old mid → RenderStops holds_of (feed_of of) (faults_of of) Ends c sink mid new 1 (windows_of log) d stop
+      → IsCutShort c.fixed.plan c.fixed.root c.fixed.capacity sink old new log
+  cut_short log d (Stopped why) later shown = record { n = shown.count; few = shown.few; windows = shown.journal; put = inl (count_put shown.count shown.few shown.put) }
+  cut_short log d Write later shown = record { n = shown.count; few = shown.few; windows = shown.journal; put = inr (omega (arith, later, shown.failed)) }
+  cut_short log d Memory later shown = record { n = shown.count; few = shown.few; windows = shown.journal; put = inl (count_put shown.count shown.few shown.put) }
+
+-- a render, whatever it ended by, leaves a core between windows
+module _ {K : Type 0} (sink : Ghosts K) (old new : K) where
+  -- a head that was not put whole
+  pub head_stops : {S : Type 0} (of : of_source.Ghosts S) (plan : List Application) (root : ℕ) (table : List (Place × Slot (Instance S))) (stop : Stop)
+      → HeadStops sink old new (head (application_at plan root).info) stop → StreamShows sink plan root (book_of (feed_of of) plan table) old new (faults_of of) table stop
+  head_stops of plan root table (of_stop.Script kind name line) shown = absurd shown
+  head_stops of plan root table (of_stop.Input name fault) shown = absurd shown
+  head_stops of plan root table of_stop.Read shown = absurd shown
+  head_stops of plan root table of_stop.Write shown = (
+    shown.0,
+    λ clip is.
+        (let text = frames_text (map bytes_of (let whole = clip_at is.pictures plan root in whole.pictures)) in
+        subst (λ whole. PutsPrefix sink old new (stream whole)) (sym is.clip_is) (gets_more (sink.bytes old) (sink.bytes new) (head (application_at plan root).info) text shown.1)),
+  )
+  head_stops of plan root table of_stop.Memory shown = inl (ap sink.bytes shown)

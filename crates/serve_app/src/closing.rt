@@ -1,0 +1,48 @@
+// What is closed after a run: the sources of instances, and those of a host.
+ghost use Rattle.std.specs.Prelude.{◌≡◌, ◌≤◌, ◌-◌, length};
+ghost use Rattle.avs_files.specs.Opened.{told_of};
+ghost use Rattle.serve_worker.specs.Alone.{AllFree};
+ghost use Rattle.serve_worker.specs.Furnishing.{sources_in};
+ghost use Rattle.serve_worker.specs.Instances.{faults_of};
+ghost use Rattle.serve_app.specs.Closing.{CountsTable};
+
+use avs_files::{FileHost, HeldFiles, Known, close_all};
+use inst_table::InstTable;
+use serve_worker::Instance;
+
+/// Closes the sources of a table that lends nothing. The faults of each are then among those of the files.
+pub(crate) fn close_table<H: HeldFiles>(files: &mut H, mut table: InstTable<Instance<H::Src>>)
+    requires free { AllFree table }
+    ensures given { H.given files.new ≡ H.given files.old - length (sources_in table) }
+    ensures faults { CountsTable (faults_of H.Src.Source) table (H.faults files.old) (H.faults files.new) }
+    ensures later { H.faults files.old ≤ H.faults files.new }
+    ensures world { H.world files.new ≡ H.world files.old }
+    ensures borrow { H.borrow files.new ≡ H.borrow files.old }
+{
+    while let Some(instance) = table.take_any() {
+        match instance {
+            Instance::Source(source) => files.close(source.into_source()),
+            Instance::Scratch(_scratch) => {}
+            Instance::Plain => {}
+        }
+    }
+    table.destroy_empty();
+}
+
+/// Closes the sources of a host, and gives its files back.
+pub(crate) fn close_host<H: HeldFiles, W: Known>(host: FileHost<H, W>) -> H
+    ensures world { H.world result ≡ told_of W.told W.world }
+    ensures borrow { H.borrow result ≡ W.borrow }
+    ensures given { H.given result ≡ W.given }
+    ensures later { H.faults host.files ≤ H.faults result }
+{
+    let FileHost {
+        alloc: _,
+        mut files,
+        listed: _,
+        sources,
+        of: _,
+    } = host;
+    close_all(&mut files, sources);
+    files
+}
