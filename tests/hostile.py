@@ -3,10 +3,11 @@
 
     tests/hostile.py [--runs N] [--seed S]
 
-The program is built first, unless the environment names one as AVSSERVE. Each run renders a file at a limit of the format, or one made by a few mutations of a sound
-stream, or of bytes at random. What it must do is computed here a second time, plainly, from the format's description: the
-fault that is said, or the text that is written. The program may use 64 MiB of memory in all: room for a frame of the
-largest size twice, and for the offsets of the most frames.
+The program is built first, unless the environment names one as AVSSERVE. Each run renders a file at a limit of the format,
+or one made by a few mutations of a sound stream, or of bytes at random. What it must do is computed here a second time,
+plainly, from the format's description: the fault that is said, or the text that is written. The program has a cache of one
+frame and may use 512 MiB of memory in all: room for a frame of the largest size twice, for the offsets of the most frames,
+and for the journal of a copy of them.
 """
 import argparse, os, random, re, resource, subprocess, sys, tempfile
 
@@ -175,7 +176,7 @@ def edges():
 
 
 def limit():
-    resource.setrlimit(resource.RLIMIT_AS, (64 << 20, 64 << 20))
+    resource.setrlimit(resource.RLIMIT_AS, (512 << 20, 512 << 20))
 
 
 def main():
@@ -202,7 +203,7 @@ def main():
             with open(path, "wb") as out:
                 out.write(data)
             want = expected(data)
-            done = subprocess.run([PROGRAM, "render", "s.avs"], cwd=room, capture_output=True, preexec_fn=limit, timeout=20)
+            done = subprocess.run([PROGRAM, "render", "--cache", "1", "s.avs"], cwd=room, capture_output=True, preexec_fn=limit, timeout=120)
             if isinstance(want, str):
                 good = (done.returncode, done.stdout, done.stderr) == (3, b"", b"input fault: a.y4m: " + want.encode() + b"\n")
                 kind = want.split()[0]
