@@ -23,7 +23,7 @@ const CACHE: u32 = 64;
 pub struct Ending {
     /// The program's exit status, 0 to 6.
     pub status: u8,
-    /// The events of a render, window by window. There is none where no window began, and where the words ask for
+    /// The events of a render, window by window. There is none where its head was not put, and where the words ask for
     /// something else.
     pub journal: Option<Record>,
 }

@@ -62,27 +62,29 @@ fn told_stop<S: Source>(alloc: Global, core: &Core<Instance<S>>, stop: RenderSto
     requires named { NamesSource core.now.fixed.plan stop }
     ensures { ToldAs stop result }
 {
-    let changed = match stop {
-        RenderStop::Stopped(WorkerStop::Read { node: _ }) => return Stop::Read,
-        RenderStop::Stopped(WorkerStop::Changed {
-            node,
-            frame,
-            want,
-            got,
-        }) => {
+    match stop {
+        RenderStop::Stopped(WorkerStop::Read { node: _ }) => Stop::Read,
+        RenderStop::Stopped(
+            WorkerStop::Changed {
+                node,
+                frame,
+                want,
+                got,
+            },
+        ) => {
             let Ok(name) = name_of(alloc, core.graph(), node) else {
                 return Stop::Memory;
             };
             let fault = InputFault::Changed { frame, want, got };
-            return Stop::Input { name, fault };
+            Stop::Input { name, fault }
         }
-        RenderStop::Stopped(WorkerStop::Memory) | RenderStop::Memory => return Stop::Memory,
-        RenderStop::Write => return Stop::Write,
-    };
+        RenderStop::Stopped(WorkerStop::Memory) | RenderStop::Memory => Stop::Memory,
+        RenderStop::Write => Stop::Write,
+    }
 }
 
-/// Puts the stream of the clip of a core's root, frame by frame, with one worker. It answers the number of the frames, and leaves
-/// the journal, but where no window began.
+/// Puts the stream of the clip of a core's root, frame by frame, with one worker. It answers the number of the frames, and
+/// leaves the journal where the head was put.
 pub(crate) fn put_clip<S: Source, K: Sink>(
     alloc: Global,
     core: &mut Core<Instance<S>>,

@@ -66,6 +66,6 @@ returns-clause-all g c =
     let table : c.new-core.result.table ≡ c.furnish.new.table = ap (λ d. d.table) c.new-core.ensures in
     let free : AllFree c.furnish.new.table = all_free c.furnish.new.table c.in-Ok.ensures.leases in
     let same = count_held c.put_clip-put.new.core.table c.put_clip-put.ensures.free ∙ ap some_in c.put_clip-put.ensures.held
-        ∙ sym (count_held c.new-core.result.table (rw table free)) ∙ ap (λ t. length (sources_in t)) table in
+    ∙ sym (count_held c.new-core.result.table (rw table free)) ∙ ap (λ t. length (sources_in t)) table in
     ap length c.in-Ok.ensures.kept ∙ length-append c.furnish.new.sources.items (sources_in c.furnish.new.table)
     ∙ ap (λ n. length c.furnish.new.sources.items + n) (sym same ∙ ap (λ t. length (sources_in t)) (sym c.into_table.ensures))
