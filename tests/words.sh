@@ -60,7 +60,7 @@ refuses render s.avs s.avs
 refuses render -x.avs
 refuses render s.avs -- --plain
 for option in --cach=8 --Cache=8 -c --cache --cache= --cache=0 --cache=257 --cache=+8 --cache=-8 --cache=00000000008 \
-    --threads=0 --threads=17 --threads=two --plain=1 --plain= --report; do
+    --threads=0 --threads=17 --threads=two --plain=1 --plain= --report=1; do
     refuses render s.avs "$option"
     refuses render "$option" s.avs
 done

@@ -93,20 +93,22 @@ is_literal : (literal name : Text) → bytes_eq literal name ≡ true → litera
 is_literal literal name same = (bytes_eq-Decides literal name).0 same
 
 known_at : (name : Text) → Known name × ById name × Unknown name
-known_at name = go (bytes_eq (codes "cache") name) refl (bytes_eq (codes "threads") name) refl (bytes_eq (codes "plain") name) refl
+known_at name = go (bytes_eq (codes "cache") name) refl (bytes_eq (codes "threads") name) refl (bytes_eq (codes "plain") name) refl (bytes_eq (codes "report") name) refl
   where
     go : (a : Bool) → bytes_eq (codes "cache") name ≡ a → (b : Bool) → bytes_eq (codes "threads") name ≡ b → (d : Bool) → bytes_eq (codes "plain") name ≡ d
-        → Known name × ById name × Unknown name
-    go true is b n d m = subst (λ t. Known t × ById t × Unknown t) (is_literal (codes "cache") name is)
+        → (e : Bool) → bytes_eq (codes "report") name ≡ e → Known name × ById name × Unknown name
+    go true is b n d m e k = subst (λ t. Known t × ById t × Unknown t) (is_literal (codes "cache") name is)
         (λ takes given. ap (λ t. Some (option_built (codes "cache") t)) (let same : true ≡ takes = cc in same), λ given. refl, λ none. absurd (cc))
-    go false n true is d m = subst (λ t. Known t × ById t × Unknown t) (is_literal (codes "threads") name is)
+    go false n true is d m e k = subst (λ t. Known t × ById t × Unknown t) (is_literal (codes "threads") name is)
         (λ takes given. ap (λ t. Some (option_built (codes "threads") t)) (let same : true ≡ takes = cc in same), λ given. refl, λ none. absurd (cc))
-    go false n false m true is = subst (λ t. Known t × ById t × Unknown t) (is_literal (codes "plain") name is)
+    go false n false m true is e k = subst (λ t. Known t × ById t × Unknown t) (is_literal (codes "plain") name is)
         (λ takes given. ap (λ t. Some (option_built (codes "plain") t)) (let same : false ≡ takes = cc in same), λ given. absurd (cc), λ none. absurd (cc))
-    go false n false m false k = (
-      λ takes given. let bad : None ≡ Some takes = rw (n, m, k) at given in absurd (cc),
-      λ given. let bad : None ≡ Some true = rw (n, m, k) at given in absurd (cc),
-      λ none. rw (n, m, k) refl,
+    go false n false m false k true is = subst (λ t. Known t × ById t × Unknown t) (is_literal (codes "report") name is)
+        (λ takes given. ap (λ t. Some (option_built (codes "report") t)) (let same : false ≡ takes = cc in same), λ given. absurd (cc), λ none. absurd (cc))
+    go false n false m false k false l = (
+      λ takes given. let bad : None ≡ Some takes = rw (n, m, k, l) at given in absurd (cc),
+      λ given. let bad : None ≡ Some true = rw (n, m, k, l) at given in absurd (cc),
+      λ none. rw (n, m, k, l) refl,
     )
 
 render_fits : Fits render_leaf render_options
@@ -117,8 +119,8 @@ render_fits = record {
   unknown = λ name is. (known_at name).2 is;
   by_id = λ name is. (known_at name).1 is;
   no_short = λ c. refl;
-  defaults = λ rows. (no_defaults rows rules (refl, (refl, (refl, (refl, tt))))).0;
-  same = λ rows. (no_defaults rows rules (refl, (refl, (refl, (refl, tt))))).1;
+  defaults = λ rows. (no_defaults rows rules (refl, (refl, (refl, (refl, (refl, tt)))))).0;
+  same = λ rows. (no_defaults rows rules (refl, (refl, (refl, (refl, (refl, tt)))))).1;
   checked = λ rows. refl;
 }
 

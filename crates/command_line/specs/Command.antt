@@ -44,7 +44,9 @@ flag_among _ = None
 abbrev pub options_with : (Text → List Text) → Option RenderOptions
 options_with values = option_and_then (λ cache.
     option_and_then (λ threads.
-    option_map (λ plain. record { cache = cache; threads = threads; plain = plain })
+    option_and_then (λ plain.
+    option_map (λ report. record { cache = cache; threads = threads; plain = plain; report = report })
+    (flag_among (values (codes "report"))))
     (flag_among (values (codes "plain"))))
     (number_among 1 16 (values (codes "threads"))))
     (number_among 1 256 (values (codes "cache")))
@@ -61,7 +63,7 @@ self_test_with values =
     option_map SelfTest (option_and_then (number_in 0 4294967295) (only (values (codes "operand"))))
 
 abbrev pub render_options : Options
-render_options = (codes "cache", true) ∷ (codes "threads", true) ∷ (codes "plain", false) ∷ []
+render_options = (codes "cache", true) ∷ (codes "threads", true) ∷ (codes "plain", false) ∷ (codes "report", false) ∷ []
 
 -- the options of the command of this name, and what the values of each name ask for
 abbrev pub named : Text → Option (Options × ((Text → List Text) → Option Command))

@@ -27,8 +27,9 @@ flag_rule name = record (new_rule name) {
 }
 
 abbrev pub render_app : App
-render_app = with_rule (with_rule (with_rule (with_rule (new_app (codes "render")) operand_rule)
-    (valued_rule (codes "cache"))) (valued_rule (codes "threads"))) (flag_rule (codes "plain"))
+render_app = with_rule (with_rule (with_rule (with_rule (with_rule (new_app (codes "render")) operand_rule)
+    (valued_rule (codes "cache"))) (valued_rule (codes "threads"))) (flag_rule (codes "plain")))
+    (flag_rule (codes "report"))
 
 abbrev pub operand_app : Text → App
 operand_app name = with_rule (new_app name) operand_rule

@@ -28,4 +28,6 @@ pub struct RenderOptions {
     pub threads: Option<u32>,
     /// One worker alone, and windows of one frame.
     pub plain: bool,
+    /// Whether the journal's counts are told after the last frame.
+    pub report: bool,
 }

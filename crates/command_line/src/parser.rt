@@ -57,7 +57,8 @@ fn render_parser<'a>(alloc: Global) -> Result<Parser<'a>, AllocError>
         .arg(operand(alloc))?
         .arg(valued(alloc, "cache"))?
         .arg(valued(alloc, "threads"))?
-        .arg(flag(alloc, "plain"))
+        .arg(flag(alloc, "plain"))?
+        .arg(flag(alloc, "report"))
 }
 
 // The words of a command without options.

@@ -46,7 +46,7 @@ fn words_break_the_rules(rt: HostRuntime) -> Result<(), Fail> {
         &["render", "s", "--plain", "--plain"],
         &["render", "s", "--plain=1"],
         &["render", "s", "--plain="],
-        &["render", "s", "--report"],
+        &["render", "s", "--reports"],
         &["render", "s", "--", "--plain"],
         &["render", "--", "s", "t"],
         &["render", "--="],
@@ -116,6 +116,55 @@ fn words_ask_for_renders(rt: HostRuntime) -> Result<(), Fail> {
             cache,
             threads,
             plain,
+            report: false,
+        };
+        let (name, options) = render_asked(alloc, words)?.expect(&rt, "a render");
+        assert_eq!(rt; name.as_str(), script, "at {words:?}");
+        assert_eq!(rt; options, want, "at {words:?}");
+    }
+    Ok(())
+}
+
+#[test]
+fn words_of_reports_break_the_rules(rt: HostRuntime) -> Result<(), Fail> {
+    let alloc = rt.alloc();
+    let rows: [&[&str]; 8] = [
+        &["render", "--report"],
+        &["render", "s", "--report", "t"],
+        &["render", "s", "--report", "--report"],
+        &["render", "s", "--report=x"],
+        &["render", "s", "--report="],
+        &["render", "s", "--", "--report"],
+        &["info", "s.avs", "--report"],
+        &["selftest", "1", "--report"],
+    ];
+    for words in rows {
+        assert!(rt; asked(alloc, words)?.is_none(), "at {words:?}");
+    }
+    Ok(())
+}
+
+#[test]
+fn words_ask_for_reports(rt: HostRuntime) -> Result<(), Fail> {
+    let alloc = rt.alloc();
+    let rows: [(&[&str], &str, bool, bool); 5] = [
+        (&["render", "s", "--report"], "s", false, true),
+        (&["render", "--report", "s"], "s", false, true),
+        (&["render", "--report", "s", "--plain"], "s", true, true),
+        (&["render", "--", "--report"], "--report", false, false),
+        (
+            &["render", "--report", "--", "--report"],
+            "--report",
+            false,
+            true,
+        ),
+    ];
+    for (words, script, plain, report) in rows {
+        let want = RenderOptions {
+            cache: None,
+            threads: None,
+            plain,
+            report,
         };
         let (name, options) = render_asked(alloc, words)?.expect(&rt, "a render");
         assert_eq!(rt; name.as_str(), script, "at {words:?}");

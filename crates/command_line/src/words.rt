@@ -53,6 +53,7 @@ fn options_of(matches: &ArgMatches) -> Option<RenderOptions>
         cache: number_among(1, 256, values_of(matches, "cache"))?,
         threads: number_among(1, 16, values_of(matches, "threads"))?,
         plain: flag_among(values_of(matches, "plain"))?,
+        report: flag_among(values_of(matches, "report"))?,
     })
 }
 

@@ -1,0 +1,14 @@
+-- The info of a blank clip is within the limits.
+use Rattle.std.proofs.Common.{refl, arith}
+use Rattle.std.proofs.Math.Nat.{one-dvd}
+use Rattle.clip_term.proofs.LimitLemmas.{lawful_passes}
+use Rattle.graph_report.proofs.tests.a_report_has_a_line_for_each_node.Goals as goal
+
+pub add-requires-clause-told : goal.add-requires-clause-told
+add-requires-clause-told g c = lawful_passes _ (record {
+  shape = record { some_width = omega arith; some_height = omega arith; most_width = omega arith; most_height = omega arith; whole_width = refl; whole_height = refl; most_bytes = omega arith };
+  some = omega arith;
+  most = omega arith;
+  rate = record { some_num = omega arith; some_den = omega arith; most_num = omega arith; most_den = omega arith; lowest = (one-dvd 25, one-dvd 1, λ d first second. second) };
+  par = record { num = omega arith; den = omega arith };
+})

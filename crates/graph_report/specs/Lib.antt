@@ -1,0 +1,3 @@
+pub mod Report
+pub mod Counts
+pub mod Lines
