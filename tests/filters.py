@@ -190,6 +190,85 @@ def average(one, other):
     return [[[(x + y + 1) // 2 for x, y in zip(*rows)] for rows in zip(*planes)] for planes in zip(one, other)]
 
 
+def softened(clip, radius, luma, chroma):
+    def picture(n):
+        near = [clip.at(max(n + k, 0)) for k in range(-radius, radius + 1)]
+        made = []
+        for p, plane in enumerate(clip.frames[n]):
+            most = luma if p == 0 else chroma
+
+            def mean(x, y, p=p, most=most):
+                middle = clip.frames[n][p][y][x]
+                samples = [frame[p][y][x] for frame in near]
+                total = sum(q if abs(q - middle) <= most else middle for q in samples)
+                return (total + radius) // (2 * radius + 1) if most else middle
+
+            made.append([[mean(x, y) for x in range(len(plane[0]))] for y in range(len(plane))])
+        return made
+
+    return clip.also(frames=[picture(n) for n in range(len(clip.frames))])
+
+
+def convolved(clip, bias, matrix):
+    side = 3 if len(matrix) == 9 else 5
+    half, divisor = side // 2, sum(matrix) or 1
+
+    def change(p, plane):
+        h, w = len(plane), len(plane[0])
+
+        def sample(x, y):
+            total = sum(
+                weight * plane[min(max(y + k // side - half, 0), h - 1)][min(max(x + k % side - half, 0), w - 1)]
+                for k, weight in enumerate(matrix)
+            )
+            quotient = abs(total) // abs(divisor)
+            if (total < 0) != (divisor < 0):
+                quotient = -quotient
+            return min(max(quotient + bias, 0), 255)
+
+        return [[sample(x, y) for x in range(w)] for y in range(h)]
+
+    return clip.of(each(change))
+
+
+def ranged(clip, other, first, last):
+    return clip.also(frames=[other.at(n) if first <= n <= last else frame for n, frame in enumerate(clip.frames)])
+
+
+BLUR = [1, 2, 1, 2, 4, 2, 1, 2, 1]
+EDGES = [0, -1, 0, -1, 4, -1, 0, -1, 0]
+DARK = [0, -3, 0, 0, -5, 0, 0, 2, 1]
+WIDE = [k * (-1) ** k % 1025 - 300 for k in range(25)]
+
+
+def soft_rows(dice, c):
+    yield "c.TemporalSoften(0, 255, 255)", c
+    yield "c.TemporalSoften(1, 255, 255)", softened(c, 1, 255, 255)
+    yield "c.TemporalSoften(1, 100, 0)", softened(c, 1, 100, 0)
+    yield "c.TemporalSoften(2, 60, 90)", softened(c, 2, 60, 90)
+    yield "c.TemporalSoften(3, 0, 128)", softened(c, 3, 0, 128)
+    yield "c.TemporalSoften(7, 200, 1)", softened(c, 7, 200, 1)
+    yield "c.GeneralConvolution", c
+    yield "c.GeneralConvolution(7)", convolved(c, 7, [0, 0, 0, 0, 1, 0, 0, 0, 0])
+    for bias, matrix in ((0, BLUR), (128, EDGES), (-20, BLUR), (255, DARK), (3, WIDE)):
+        words = " ".join(map(str, matrix))
+        yield f'c.GeneralConvolution({bias}, "{words}")', convolved(c, bias, matrix)
+    for _ in range(2):
+        matrix = [dice.randrange(-1024, 1025) for _ in range(dice.choice((9, 25)))]
+        words = "\t".join(map(str, matrix))
+        yield f'c.GeneralConvolution(matrix="{words}")', convolved(c, 0, matrix)
+
+
+def range_rows(c, d):
+    yield 'c.ApplyRange(1, 2, "FlipVertical")', ranged(c, c.of(each(lambda p, plane: plane[::-1])), 1, 2)
+    yield 'c.ApplyRange(0, 4, "Invert", "Y")', c.of(inverted("Y"))
+    yield 'c.ApplyRange(3, 3, "Limiter", 100, 120)', ranged(c, c.of(limited(100, 120, 16, 240)), 3, 3)
+    yield 'c.ApplyRange(2, 4, "Trim", 0, -3)', ranged(c, c.shown([0, 1, 2]), 2, 4)
+    turned = ranged(c, c.of(each(lambda p, plane: [row[::-1] for row in plane])), 1, 1)
+    yield 'c.ApplyRange(0, 2, "ApplyRange", 1, 1, "FlipHorizontal")', ranged(c, turned, 0, 2)
+    yield 'last = c\nApplyRange(2, 3, "Merge", d)', ranged(c, merged(c, d, average), 2, 3)
+
+
 def time_rows(c, d):
     """Calls on c and d, which agree, with the clip that each gives."""
     n = len(c.frames)
@@ -358,6 +437,29 @@ REFUSALS = [
     ("MergeLuma(c, e)", "SizeDiffers"),
     ("MergeChroma(c, e)", "SizeDiffers"),
     ("MergeChroma(c, g)", "FormatDiffers"),
+    ('c.ApplyRange(1, 5, "Reverse")', "BadRange"),
+    ('c.ApplyRange(2, 1, "Reverse")', "BadRange"),
+    ('c.ApplyRange(-1, 1, "Reverse")', "BadRange"),
+    ('c.ApplyRange(0, 1, "ConvertToY8")', "FormatDiffers"),
+    ('c.ApplyRange(0, 1, "Crop", 0, 0, 2, 2)', "SizeDiffers"),
+    ('c.ApplyRange(0, 1, "Crop", 1, 0, 2, 2)', "NotWholeChroma"),
+    ('c.ApplyRange(0, 9, "Width")', "TypeFault"),
+    ('c.ApplyRange(0, 9, "Nothing")', "UnknownName"),
+    ('c.ApplyRange(0, 9, "Trim")', "NoMatch"),
+    ("c.ApplyRange(0, 9)", "NoMatch"),
+    ("c.TemporalSoften(8, 0, 0)", "BadRange"),
+    ("c.TemporalSoften(-1, 0, 0)", "BadRange"),
+    ("c.TemporalSoften(1, 256, 0)", "BadRange"),
+    ("c.TemporalSoften(1, 0, -1)", "BadRange"),
+    ("c.TemporalSoften(1, 1)", "NoMatch"),
+    ('c.GeneralConvolution(256, "x")', "BadRange"),
+    ("c.GeneralConvolution(-256)", "BadRange"),
+    ('c.GeneralConvolution(0, "1 2 3")', "BadText"),
+    ('c.GeneralConvolution(0, "0 0 0 0 1025 0 0 0 0")', "BadText"),
+    ('c.GeneralConvolution(0, "0 0 0 0 +1 0 0 0 0")', "BadText"),
+    ('SetFilterMTMode("Invert", 0)', "ModeRefused"),
+    ("c.Prefetch(0)", "PrefetchRange"),
+    ("c.Prefetch(4, 33)", "PrefetchRange"),
     ("YToUV(g, c, c)", "SizeDiffers"),
     ("YToUV(g, g, c)", "SizeDiffers"),
     ("BlankClip(length=-1)", "BadRange"),
@@ -407,7 +509,8 @@ def main():
             for width, height in sizes:
                 c, d = at_random(dice, kind, width, height, 5), at_random(dice, kind, width, height, 3)
                 before = put(folder, c=c, d=d)
-                for call, want in [*time_rows(c, d), *space_rows(c), *join_rows(c, d)]:
+                rows = [*time_rows(c, d), *space_rows(c), *join_rows(c, d), *soft_rows(dice, c), *range_rows(c, d)]
+                for call, want in rows:
                     done = run(folder, f"{before}{call}\n")
                     report.compare(f"{kind} {width}x{height} {call}", done, 0, want.stream(), "")
         for (u, v, y), want in plane_rows(dice):

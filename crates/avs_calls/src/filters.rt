@@ -13,7 +13,7 @@ use crate::read::{Unread, read, takes};
 use avs_meaning::{ScriptKind, Stop};
 use avs_state::{Machine, fault_at};
 use avs_values::{Bound, Value};
-use clip_term::Filter;
+use clip_term::{Filter, Op, TimeOp};
 use fv_io::Text;
 use std::alloc::Global;
 
@@ -99,4 +99,32 @@ pub fn filter(
         return blank(alloc, machine, signature, &given.values, here, line);
     }
     apply(alloc, machine, filter, given, here, line)
+}
+
+/// What `ApplyRange` makes of a clip and of what its function gave: that in a range of frames, and the clip elsewhere.
+pub fn ranged(
+    alloc: Global,
+    machine: &mut Machine,
+    clip: u32,
+    first: i32,
+    last: i32,
+    shown: &Value,
+    here: &Text,
+    line: u32,
+) -> Result<Value, Stop>
+    ensures gives { Gives (λ x. x) (f.ranged here.now clip first last line shown.now (state_of machine.old)) result
+        (state_of machine.new) }
+    ensures opened { (state_of machine.new).opened ≡ (state_of machine.old).opened }
+{
+    match shown {
+        Value::Clip(shown) => machine.make(
+            alloc,
+            Filter::ApplyRange,
+            Op::Time(TimeOp::ApplyRange { first, last }),
+            &[clip, *shown],
+            here,
+            line,
+        ),
+        _ => Err(fault_at(alloc, ScriptKind::TypeFault, here, line)),
+    }
 }

@@ -33,9 +33,9 @@ error_of (s.Input name why) = e.Input name why
 error_of s.Read = e.Read
 error_of s.Memory = e.Memory
 
--- the plan and its clip, or the first fault; a failed read and out of memory say nothing of the meaning
+-- the plan, its clip and its workers, or the first fault; a failed read and out of memory say nothing of the meaning
 abbrev pub Evaluates : Meaning → Result Opened EvalError → Type 0
-Evaluates meaning (Ok opened) = meaning ≡ clip opened.graph opened.root
+Evaluates meaning (Ok opened) = meaning ≡ clip opened.graph opened.root opened.prefetch
 Evaluates meaning (Err (e.Fault kind name line)) = (fault : Fault) × (Names kind name line fault × (meaning ≡ wrong fault))
 Evaluates meaning (Err (e.Input name why)) = meaning ≡ wrong (input name why)
 Evaluates meaning (Err e.Read) = Unit {0}

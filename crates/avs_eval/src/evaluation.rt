@@ -11,7 +11,7 @@ ghost use Rattle.avs_eval.specs.Evaluates.{Evaluates, Opens, FailedRead};
 
 use crate::error::EvalError;
 use avs_expressions::load_body;
-use avs_meaning::{ScriptKind, Stop, Table};
+use avs_meaning::{Crew, ScriptKind, Stop, Table};
 use avs_state::{Host, Machine, fault_at};
 use avs_statements::run;
 use avs_tree::Statement;
@@ -23,11 +23,12 @@ use std::alloc::Global;
 /// How many calls may nest.
 const CALL_LIMIT: u32 = 64;
 
-/// The graph of a script's clips, and the node of its clip.
+/// The graph of a script's clips, the node of its clip, and the workers that the last call of `Prefetch` asked for.
 #[derive(Drop)]
 pub struct Opened {
     pub graph: Graph,
     pub root: u32,
+    pub prefetch: Option<Crew>,
 }
 
 // The place of the clip that the value of a script is.
@@ -118,8 +119,10 @@ pub fn eval<H: Host>(
     let table = Table::new(alloc)?;
     let mut machine = Machine::new(alloc);
     let root = execute(alloc, &table, &mut machine, host, name, text)?;
+    let prefetch = machine.crew();
     Ok(Opened {
         graph: machine.into_graph(),
         root,
+        prefetch,
     })
 }

@@ -119,8 +119,22 @@ fn scripts_have_clips_or_faults(rt: HostRuntime) -> Result<(), Fail> {
             "clip 0 of 2",
         ),
         (
-            "BlankClip()\nif (false) {\nGeneralConvolution() }",
-            "s.avs line 3: Unbuilt",
+            "BlankClip()\nif (true) {\nGeneralConvolution(256) }",
+            "s.avs line 3: BadRange",
+        ),
+        ("SetFilterMTMode(\"x\", 4)", "s.avs line 1: ModeRefused"),
+        ("BlankClip.Prefetch(17)", "s.avs line 1: PrefetchRange"),
+        (
+            "BlankClip(length=4)\nApplyRange(1, 2, \"Invert\", \"Y\")",
+            "clip 2 of 4",
+        ),
+        (
+            "BlankClip(length=4)\nApplyRange(1, 2, \"ApplyRange\", 0, 3, \"TemporalSoften\", 1, 2, 3)",
+            "clip 3 of 4",
+        ),
+        (
+            "BlankClip(length=4)\nApplyRange(1, 2, \"Foo\")",
+            "s.avs line 2: UnknownName",
         ),
     ];
     for (text, want) in table {

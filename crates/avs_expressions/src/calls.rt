@@ -12,9 +12,9 @@ ghost use Rattle.avs_calls.specs.Views.{callee_view};
 ghost use Rattle.avs_expressions.specs.At as r;
 ghost use Rattle.avs_expressions.specs.Walks.{Deeper, Keeps};
 
-use crate::parts::{add_source, apply_filter};
+use crate::parts::{add_source, apply_filter, apply_range, range_in, unnamed_of};
 use crate::walker::Walker;
-use avs_calls::{Callee, callee_of, fit_callee, parameters, plain, told};
+use avs_calls::{Callee, callee_of, fit_callee, parameters, plain, prefetch, set_mode, told};
 use avs_meaning::{Builtin, ScriptKind, Stop, Table, Variable};
 use avs_state::{ByName, Definition, Host, HostFault, Machine};
 use avs_tree::Statement;
@@ -114,7 +114,7 @@ impl<
         }
     }
 
-    // A built-in function of bound arguments.
+    // A built-in function but `ApplyRange`, of bound arguments.
     fn builtin(
         &self,
         machine: &mut Machine,
@@ -126,6 +126,7 @@ impl<
     ) -> Result<Value, Stop>
         requires deeper { Deeper H.told H.clips H.scripts H.opened H.faults self.now.depth (F.pre self.now.run)
             (F.post self.now.run) }
+        requires other { builtin ≡ Builtin.ApplyRange → ⊥ }
         ensures told { Told H.told (λ v. v) (r.applied H.clips H.scripts self.now.depth (c.builtin builtin) signature
             (bound_view given.now) self.now.here.now line) machine.old result machine.new }
         ensures kept { Keeps H.opened H.faults machine.old host.old result machine.new host.new }
@@ -133,6 +134,11 @@ impl<
         match builtin {
             Builtin::Eval => self.eval(machine, host, &given.values, line),
             Builtin::Import => self.import(machine, host, &given.values, line),
+            Builtin::SetFilterMTMode => {
+                set_mode(self.alloc, machine, &given.values, self.here, line)
+            }
+            Builtin::Prefetch => prefetch(self.alloc, machine, &given.values, self.here, line),
+            Builtin::ApplyRange => Err(self.fault(ScriptKind::NoMatch, line)),
             Builtin::Plain(function) => plain(self.alloc, function, given, self.here, line),
             Builtin::Clip(function) => {
                 told(
@@ -150,7 +156,7 @@ impl<
         }
     }
 
-    // A call whose arguments are bound by the signature of this number.
+    // A call but of `ApplyRange`, whose arguments are bound by the signature of this number.
     fn applied(
         &self,
         machine: &mut Machine,
@@ -162,6 +168,7 @@ impl<
     ) -> Result<Value, Stop>
         requires deeper { Deeper H.told H.clips H.scripts H.opened H.faults self.now.depth (F.pre self.now.run)
             (F.post self.now.run) }
+        requires other { callee_view callee.now ≡ c.builtin Builtin.ApplyRange → ⊥ }
         ensures told { Told H.told (λ v. v) (r.applied H.clips H.scripts self.now.depth (callee_view callee.now) signature
             (bound_view given.now) self.now.here.now line) machine.old result machine.new }
         ensures kept { Keeps H.opened H.faults machine.old host.old result machine.new host.new }
@@ -196,7 +203,36 @@ impl<
         }
     }
 
+    // `ApplyRange`: calls the function of a name with the clip and further values, and shows what that gives in a range of
+    // frames.
+    #[cycle(calls)]
+    fn apply_range(
+        &self,
+        machine: &mut Machine,
+        host: &mut H,
+        given: &Bound,
+        line: u32,
+    ) -> Result<Value, Stop>
+        requires deeper { Deeper H.told H.clips H.scripts H.opened H.faults self.now.depth (F.pre self.now.run)
+            (F.post self.now.run) }
+        ensures told { Told H.told (λ v. v) (r.ranged_by H.clips H.scripts self.now.depth given.now.values.items
+            given.now.rest.items self.now.here.now line) machine.old result machine.new }
+        ensures kept { Keeps H.opened H.faults machine.old host.old result machine.new host.new }
+    {
+        let Some(range) = range_in(&given.values) else {
+            return Err(self.fault(ScriptKind::NoMatch, line));
+        };
+        let callee = self.called(machine, range.name, line)?;
+        let args = unnamed_of(self.alloc, range.clip, &given.rest)?;
+        let shown = match self.apply(machine, host, &callee, args, None, line) {
+            Ok(shown) => shown,
+            Err(stop) => return Err(stop),
+        };
+        apply_range(self.alloc, machine, &range, &shown, self.here, line)
+    }
+
     /// A call with these arguments, tried again with `last` first, if it is given.
+    #[cycle(calls)]
     pub(crate) fn apply(
         &self,
         machine: &mut Machine,
@@ -212,11 +248,14 @@ impl<
             last self.now.here.now line) machine.old result machine.new }
         ensures kept { Keeps H.opened H.faults machine.old host.old result machine.new host.new }
     {
-        match fit_callee(self.alloc, callee, args, last)? {
-            Some((signature, given)) => {
-                self.applied(machine, host, callee, signature, &given, line)
+        let Some((signature, given)) = fit_callee(self.alloc, callee, args, last)? else {
+            return Err(self.fault(ScriptKind::NoMatch, line));
+        };
+        match callee {
+            Callee::Builtin(row) if row.builtin() == Builtin::ApplyRange => {
+                self.apply_range(machine, host, &given, line)
             }
-            None => Err(self.fault(ScriptKind::NoMatch, line)),
+            _ => self.applied(machine, host, callee, signature, &given, line),
         }
     }
 

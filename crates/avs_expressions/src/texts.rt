@@ -19,7 +19,6 @@ use avs_load::{LoadFault, Loaded, load};
 use avs_meaning::{ScriptKind, Stop, Table};
 use avs_state::{Host, HostFault, Machine, fault_at};
 use avs_tree::{Script, Statement};
-use avs_unbuilt::first_unbuilt;
 use avs_values::Value;
 use fv_io::Text;
 use std::alloc::{AllocError, Global};
@@ -60,9 +59,6 @@ pub fn load_body(
 {
     match load(alloc, text.as_str()) {
         Ok(Loaded { script, last_line }) => {
-            if let Some(line) = first_unbuilt(&script) {
-                return Err(fault_at(alloc, ScriptKind::Unbuilt, here, line));
-            }
             let Script {
                 functions,
                 statements,

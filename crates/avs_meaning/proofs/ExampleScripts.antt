@@ -40,11 +40,12 @@ dots e line =
     call (codes "BlankClip") (given (codes "length") e (given (codes "width") (int (pos 1)) (given (codes "height") (int (pos 1))
     (given (codes "pixel_type") (str (codes "Y8")) no_args)))) line
 
--- the place of the clip, how many frames it has, and its inputs
+-- the place of the clip, how many frames it has, its mode and its inputs
 pub data Seen : Type 0 where
-  shown : ℕ → ℕ → List ℕ → Seen
+  shown : ℕ → ℕ → ℕ → List ℕ → Seen
   faulty : Meaning → Seen
 
 abbrev pub seen : Meaning → Seen
-seen (clip plan root) = shown root (application_at plan root).info.frames (application_at plan root).inputs
+seen (clip plan root crew) =
+    shown root (application_at plan root).info.frames (application_at plan root).mode (application_at plan root).inputs
 seen (wrong fault) = faulty (wrong fault)

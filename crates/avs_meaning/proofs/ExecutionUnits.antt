@@ -1,14 +1,14 @@
 -- Executing a tree gives no unit back, nor does a text or a function.
-use Rattle.std.proofs.Common.{ℕ, zero, suc, ◌≤◌, ◌+ℤ◌, ℤ, List, [], ◌∷◌, ◌++◌, Bool, Option, Some, None, Result, Ok, Err, nat_eq}
+use Rattle.std.proofs.Common.{ℕ, zero, suc, ◌≤◌, ◌+ℤ◌, ℤ, List, [], ◌∷◌, ◌++◌, map, length, Bool, Option, Some, None, Result, Ok, Err, nat_eq}
 use Rattle.avs_tree.specs.Tree.{Expr, int, bool, str, name, call, method_calls, minus, not_, chain, compare, conditional, group, Args, no_args, arg, MethodCalls, no_method_calls, method, method_call, Steps, no_steps, step, Kind, global, assign, return, if_, while, for, value, Arms, no_arms, arm, Else, no_else, else_, Block, no_more, then_}
 use Rattle.avs_values.specs.Binding.{Bound}
 use Rattle.avs_values.specs.Values.{Text}
 use Rattle.avs_values.specs.declared.binding.Given.{Given}
 use Rattle.avs_values.specs.declared.value.Value.{Value}
 use Rattle.avs_values.specs.declared.value.Value.TheVariants as v
-use Rattle.avs_meaning.proofs.UnitLemmas.{Leaves, Spends, then_leaves, lifted_leaves, if_runs, spend_leaves, load_short_leaves, filtered_leaves, told_leaves, joined_leaves}
+use Rattle.avs_meaning.proofs.UnitLemmas.{Leaves, Spends, then_leaves, lifted_leaves, if_runs, spend_leaves, load_short_leaves, filtered_leaves, told_leaves, joined_leaves, set_mode_leaves, prefetch_leaves, ranged_leaves}
 use Rattle.avs_meaning.specs.Calls.{Callee, user, builtin, callee, takes, Fit, fit_or_last, unnamed, last_name}
-use Rattle.avs_meaning.specs.Expressions.{script_by, known, called, may_nest, execute, eval_name, eval, import_, inside, applied, apply_by, apply, apply_last, named, value_of, givens_of, calls_from, steps_from}
+use Rattle.avs_meaning.specs.Expressions.{Caller, ranged_by, call_within, script_by, known, called, may_nest, execute, eval_name, eval, import_, inside, applied, apply_by, apply, apply_last, named, value_of, givens_of, calls_from, steps_from}
 use Rattle.avs_meaning.specs.Loops.{Flow, on, back, go_on, turns, Turn, goes_to, stops, continues, advanced, advance, read_number, number_by, next_number, turned, turn, counts, is_past}
 use Rattle.avs_meaning.specs.Meaning.{below}
 use Rattle.avs_meaning.specs.Operators.{truth, joined}
@@ -29,6 +29,17 @@ called_leaves here word line n s few = known_leaves here (callee word s.function
 script_leaves : (here : Text) (r : Result Text FileKind) (line n : ℕ) (s : State) → s.units ≤ n → Leaves n (script_by here r line s)
 script_leaves here (Ok text) line n s few = few
 script_leaves here (Err kind) line n s few = tt
+
+-- what ApplyRange calls spends
+abbrev Calls : Caller → Type 0
+Calls again = (c : Callee) (args : List Given) (here : Text) (line : ℕ) → Spends (again c args here line)
+
+ranged_by_leaves : (again : Caller) → Calls again → (values rest : List Value) (here : Text) (line n : ℕ) (s : State) → s.units ≤ n → Leaves n (ranged_by again values rest here line s)
+ranged_by_leaves again less (v.Clip i ∷ v.Int first ∷ v.Int last ∷ v.Text word ∷ []) rest here line n s few =
+    then_leaves n (and_then (called here word line s) (λ c. again c (map unnamed (v.Clip i ∷ rest)) here line)) _
+    (then_leaves n (called here word line s) _ (called_leaves here word line n s few) (λ c t fewer. less c (map unnamed (v.Clip i ∷ rest)) here line n t fewer))
+    (λ x t fewer. ranged_leaves here i first last line x n t fewer)
+ranged_by_leaves again less _ rest here line n s few = tt
 
 -- ---- loops, of which the body spends
 
@@ -121,21 +132,29 @@ module _ (outside : Outside) (depth : ℕ) (deeper : Text → Block → Run Valu
   inside_leaves d env n s few =
       then_leaves n (deeper d.text d.function.body (record s { env = env })) _ (less_below d.text d.function.body n (record s { env = env }) few) (λ x t less. less)
 
-  applied_leaves : (c : Callee) (sig : ℕ) (bound : Bound) (here : Text) (line n : ℕ) (s : State) → s.units ≤ n → Leaves n (applied outside depth deeper c sig bound here line s)
-  applied_leaves (user d) sig bound here line n s few =
+  applied_leaves : (again : Caller) → Calls again → (c : Callee) (sig : ℕ) (bound : Bound) (here : Text) (line n : ℕ) (s : State) → s.units ≤ n → Leaves n (applied outside depth deeper again c sig bound here line s)
+  applied_leaves again less (user d) sig bound here line n s few =
       then_leaves n (may_nest outside depth deeper here line s) _ (may_nest_leaves here line n s few) (λ _ t less. inside_leaves d _ n t less)
-  applied_leaves (builtin b.Eval) sig bound here line n s few = eval_leaves here bound.values line n s few
-  applied_leaves (builtin b.Import) sig bound here line n s few = import_leaves here bound.values line n s few
-  applied_leaves (builtin (b.Plain function)) sig bound here line n s few = lifted_leaves n _ s few
-  applied_leaves (builtin (b.Clip function)) sig bound here line n s few = told_leaves here function bound.values line n s few
-  applied_leaves (builtin (b.Filter filter)) sig bound here line n s few = filtered_leaves here outside filter sig bound line n s few
+  applied_leaves again less (builtin b.Eval) sig bound here line n s few = eval_leaves here bound.values line n s few
+  applied_leaves again less (builtin b.Import) sig bound here line n s few = import_leaves here bound.values line n s few
+  applied_leaves again less (builtin b.SetFilterMTMode) sig bound here line n s few = set_mode_leaves here bound.values line n s few
+  applied_leaves again less (builtin b.Prefetch) sig bound here line n s few = prefetch_leaves here bound.values line n s few
+  applied_leaves again less (builtin b.ApplyRange) sig bound here line n s few = ranged_by_leaves again less bound.values bound.rest here line n s few
+  applied_leaves again less (builtin (b.Plain function)) sig bound here line n s few = lifted_leaves n _ s few
+  applied_leaves again less (builtin (b.Clip function)) sig bound here line n s few = told_leaves here function bound.values line n s few
+  applied_leaves again less (builtin (b.Filter filter)) sig bound here line n s few = filtered_leaves here outside filter sig bound line n s few
 
-  apply_by_leaves : (o : Fit) (c : Callee) (here : Text) (line n : ℕ) (s : State) → s.units ≤ n → Leaves n (apply_by outside depth deeper o c here line s)
-  apply_by_leaves (Some found) c here line n s few = applied_leaves c found.0 found.1 here line n s few
-  apply_by_leaves None c here line n s few = tt
+  apply_by_leaves : (again : Caller) → Calls again → (o : Fit) (c : Callee) (here : Text) (line n : ℕ) (s : State) → s.units ≤ n → Leaves n (apply_by outside depth deeper again o c here line s)
+  apply_by_leaves again less (Some found) c here line n s few = applied_leaves again less c found.0 found.1 here line n s few
+  apply_by_leaves again less None c here line n s few = tt
+
+  within_leaves : (k : ℕ) → Calls (call_within outside depth deeper k)
+  unfolding call_within
+  within_leaves zero = λ c args here line n s few. tt
+  within_leaves (suc k) = λ c args here line n s few. apply_by_leaves (call_within outside depth deeper k) (within_leaves k) (fit_or_last (takes c) args None) c here line n s few
 
   apply_leaves : (c : Callee) (args : List Given) (last : Option Value) (here : Text) (line n : ℕ) (s : State) → s.units ≤ n → Leaves n (apply outside depth deeper c args last here line s)
-  apply_leaves c args last here line n s few = apply_by_leaves (fit_or_last (takes c) args last) c here line n s few
+  apply_leaves c args last here line n s few = apply_by_leaves (call_within outside depth deeper (length args)) (within_leaves (length args)) (fit_or_last (takes c) args last) c here line n s few
 
   module _ (here : Text) where
     apply_last_leaves : (c : Callee) (args : List Given) (line n : ℕ) (s : State) → s.units ≤ n → Leaves n (apply_last outside depth deeper here c args line s)

@@ -7,12 +7,12 @@ use Rattle.avs_values.specs.Binding.{bind}
 use Rattle.avs_values.specs.Values.{same}
 use Rattle.clip_term.specs.declared.fault.FilterFault.TheVariants as filter
 use Rattle.fv_plane.specs.Rate.{gcd}
+use Rattle.avs_meaning.specs.Expressions.{call_within}
 use Rattle.avs_meaning.specs.Faults.{script, input}
 use Rattle.avs_meaning.specs.Faults as fault
 use Rattle.avs_meaning.specs.Meaning.{wrong, to_clip, below, meaning, text_meaning}
 use Rattle.avs_tree.specs.Loaded.{refused}
 use Rattle.avs_meaning.specs.Table.{builtins, builtin_of}
-use Rattle.avs_meaning.specs.Unbuilt.{is_unbuilt}
 use Rattle.avs_meaning.specs.declared.fault.FileKind.TheVariants as file
 use Rattle.avs_meaning.specs.declared.fault.InputFault.TheVariants as i
 use Rattle.avs_meaning.specs.declared.fault.ScriptKind.TheVariants as k
@@ -21,52 +21,73 @@ use Rattle.avs_meaning.proofs.ExampleScripts.{without_files, here, script_of, me
 -- x = 7 / 0
 division_by_zero : meaning_of (then_ (assign (codes "x") (between op.Divide (int (pos 7)) (int (pos 0)) 1)) 1 no_more) 1
     ≡ wrong (script k.DivZero here 1)
-unfolding to_clip is_unbuilt
+unfolding to_clip
 division_by_zero = refl
 
 -- x = last
 last_is_unset : meaning_of (then_ (assign (codes "x") (name (codes "last") 1)) 1 no_more) 1 ≡ wrong (script k.UnknownName here 1)
-unfolding to_clip is_unbuilt builtin_of builtins
+unfolding to_clip builtin_of builtins
 last_is_unset = refl
 
 -- the condition of an `else if` in line 2 counts for line 1
 else_if : meaning_of (then_ (if_ (arm (bool false) no_more (arm (int (pos 1)) no_more no_arms)) no_else) 1 no_more) 3
     ≡ wrong (script k.TypeFault here 1)
-unfolding to_clip is_unbuilt
+unfolding to_clip
 else_if = refl
 
 -- a step of 0
 for_step : meaning_of (then_ (for (codes "x") (int (pos 0)) (int (pos 9)) (Some (int (pos 0))) no_more) 2 no_more) 3
     ≡ wrong (script k.BadRange here 2)
-unfolding to_clip is_unbuilt
+unfolding to_clip
 for_step = refl
 
 -- the value of the script is no clip
 not_a_clip : meaning_of (then_ (value (int (pos 1))) 1 no_more) 4 ≡ wrong (script k.NotClip here 4)
-unfolding to_clip is_unbuilt
+unfolding to_clip
 not_a_clip = refl
 
--- grayscale and, in the line before it, Prefetch(2)
-first_unbuilt : meaning_of (then_ (value (name (codes "grayscale") 3)) 3 (then_ (value (call (codes "Prefetch") (arg None (int (pos 2)) no_args) 2)) 2 no_more)) 3
-    ≡ wrong (script k.Unbuilt here 2)
-unfolding to_clip is_unbuilt
-first_unbuilt = refl
+-- SetFilterMTMode("x", 4), of a filter that is not there
+mode_of_four : meaning_of (then_ (value (call (codes "SetFilterMTMode") (arg None (str (codes "x")) (arg None (int (pos 4)) no_args)) 1)) 1 no_more) 1
+    ≡ wrong (script k.ModeRefused here 1)
+unfolding to_clip builtin_of builtins bind
+mode_of_four = refl
+
+-- BlankClip(length=3, ..) and Prefetch(17)
+prefetch_of_seventeen : meaning_of (then_ (value (dots (int (pos 3)) 1)) 1
+    (then_ (value (call (codes "Prefetch") (arg None (int (pos 17)) no_args) 2)) 2 no_more)) 2
+    ≡ wrong (script k.PrefetchRange here 2)
+unfolding to_clip builtin_of builtins bind gcd
+prefetch_of_seventeen = refl
+
+-- BlankClip(length=3, ..) and ApplyRange(0, 1, "Width"), which gives a number
+range_of_a_number : meaning_of (then_ (value (dots (int (pos 3)) 1)) 1
+    (then_ (value (call (codes "ApplyRange") (arg None (int (pos 0)) (arg None (int (pos 1)) (arg None (str (codes "Width")) no_args))) 2)) 2 no_more)) 2
+    ≡ wrong (script k.TypeFault here 2)
+unfolding to_clip builtin_of builtins bind gcd call_within
+range_of_a_number = refl
+
+-- BlankClip(length=3, ..) and GeneralConvolution(0, "1 2 3")
+matrix_of_three : meaning_of (then_ (value (dots (int (pos 3)) 1)) 1
+    (then_ (value (call (codes "GeneralConvolution") (arg None (int (pos 0)) (arg None (str (codes "1 2 3")) no_args)) 2)) 2 no_more)) 2
+    ≡ wrong (script (k.Filter filter.BadText) here 2)
+unfolding to_clip builtin_of builtins bind gcd
+matrix_of_three = refl
 
 -- Y4MSource("none.y4m")
 no_source : meaning_of (then_ (value (call (codes "y4msource") (arg None (str (codes "none.y4m")) no_args) 1)) 1 no_more) 1
     ≡ wrong (input (codes "none.y4m") i.NotThere)
-unfolding to_clip is_unbuilt builtin_of builtins bind
+unfolding to_clip builtin_of builtins bind
 no_source = refl
 
 -- Import("lib.avs")
 no_import : meaning_of (then_ (value (call (codes "Import") (arg None (str (codes "lib.avs")) no_args) 5)) 5 no_more) 6
     ≡ wrong (script (k.File file.NotThere) here 5)
-unfolding to_clip is_unbuilt builtin_of builtins bind
+unfolding to_clip builtin_of builtins bind
 no_import = refl
 
 -- a blank clip without frames, in line 7
 no_frames : meaning_of (then_ (value (dots (int (pos 0)) 7)) 6 no_more) 8 ≡ wrong (script (k.Filter filter.EmptyClip) here 7)
-unfolding to_clip is_unbuilt builtin_of builtins bind gcd
+unfolding to_clip builtin_of builtins bind gcd
 no_frames = refl
 
 -- the script itself isn't there
@@ -82,26 +103,26 @@ no_eval : text_meaning (without_files (λ text. if same text [] then Ok (record 
   last_line = 1;
 }) else Err refused)) here []
     ≡ wrong (fault.refused (codes "Eval"))
-unfolding to_clip is_unbuilt builtin_of builtins bind
+unfolding to_clip builtin_of builtins bind
 no_eval = refl
 
 -- function F() { F() } in line 2, and F
 no_end : script_of (record { name = codes "F"; params = []; body = then_ (value (call (codes "f") no_args 2)) 2 no_more; line = 2 } ∷ [])
     (then_ (value (name (codes "F") 3)) 3 no_more) 3 ≡ wrong (script k.CallDepth here 2)
-unfolding to_clip below is_unbuilt bind
+unfolding to_clip below bind
 no_end = refl
 
 -- two functions of one name, in lines 4 and 5
 same_name : script_of (record { name = codes "F"; params = []; body = no_more; line = 4 } ∷ record { name = codes "f"; params = []; body = no_more; line = 5 } ∷ [])
     no_more 6 ≡ wrong (script k.DuplicateFunction here 5)
-unfolding to_clip is_unbuilt
+unfolding to_clip
 same_name = refl
 
 -- BlankClip(length=3, ..), and Trim(1) in line 2, with none of `last`, `length` and `end`
 no_end_of_trim : meaning_of (then_ (value (dots (int (pos 3)) 1)) 1
     (then_ (value (call (codes "Trim") (arg None (int (pos 1)) no_args) 2)) 2 no_more)) 2
     ≡ wrong (script k.NoMatch here 2)
-unfolding to_clip is_unbuilt builtin_of builtins bind gcd
+unfolding to_clip builtin_of builtins bind gcd
 no_end_of_trim = refl
 
 -- the script imports lib.avs, where a name in line 9 is unknown
@@ -116,5 +137,5 @@ imported : meaning (record {
       else record { tree = record { functions = []; statements = then_ (value (name (codes "x") 9)) 9 no_more }; last_line = 9 });
 }) here
     ≡ wrong (script k.UnknownName (codes "lib.avs") 9)
-unfolding to_clip below is_unbuilt builtin_of builtins bind
+unfolding to_clip below builtin_of builtins bind
 imported = refl

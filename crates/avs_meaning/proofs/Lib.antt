@@ -4,7 +4,9 @@ pub mod FilterLemmas
 pub mod UnitLemmas
 pub mod ExecutionUnits
 pub mod LoopLemmas
+pub mod RangeArguments
 pub mod TextArguments
+pub mod DirectCalls
 pub mod RuleSteps
 pub mod RuleUniqueness
 pub mod RuleResults

@@ -1,5 +1,6 @@
 -- The rules allow the outcome of the definitions.
-use Rattle.std.proofs.Common.{◌≡◌, ℕ, zero, suc, List, [], ◌∷◌, ◌++◌, Bool, true, false, Option, Some, None, Result, Ok, Err, refl, sym, subst, if◌then◌else◌}
+use Rattle.std.proofs.Common.{◌≡◌, ℕ, zero, suc, ◌+◌, ◌<◌, ◌≤◌, ℤ, List, [], ◌∷◌, ◌++◌, length, map, Bool, true, false, Option, Some, None, Result, Ok, Err, refl, sym, subst, if◌then◌else◌, arith}
+use Rattle.std.proofs.lemmas.List.{length-map}
 use Rattle.avs_tree.specs.Loaded.{Loaded}
 use Rattle.avs_tree.specs.Tree.{Expr, int, bool, str, name, call, method_calls, minus, not_, chain, compare, conditional, group, Args, no_args, arg, MethodCalls, no_method_calls, method, method_call, Steps, no_steps, step, Block}
 use Rattle.avs_tree.specs.declared.tree.Operator.{Operator}
@@ -9,10 +10,13 @@ use Rattle.avs_values.specs.Values.{Text}
 use Rattle.avs_values.specs.declared.binding.Given.{Given}
 use Rattle.avs_values.specs.declared.value.Value.{Value}
 use Rattle.avs_values.specs.declared.value.Value.TheVariants as v
-use Rattle.avs_meaning.proofs.RuleSteps.{branched, call_of, load_of, user_called, eval_called, import_called, import_failed, truth_grouped}
-use Rattle.avs_meaning.proofs.TextArguments.{IsText, HasText, has_text}
+use Rattle.avs_meaning.proofs.RuleSteps.{again_of, branched, call_of, load_of, user_called, eval_called, import_called, import_failed, truth_grouped}
+use Rattle.avs_meaning.proofs.DirectCalls.{apply_direct}
+use Rattle.avs_meaning.proofs.RangeArguments.{IsRange}
+use Rattle.avs_meaning.proofs.TextArguments.{IsText, HasForm, has_form}
 use Rattle.avs_meaning.specs.Calls.{Callee, user, builtin, callee, Fit, fit_or_last, takes, unnamed}
-use Rattle.avs_meaning.specs.Expressions.{eval_name, known, eval, import_, applied, apply_by, apply, named, value_of, givens_of, calls_from, steps_from}
+use Rattle.avs_meaning.specs.Expressions.{ranged_by, eval_name, known, eval, import_, applied, apply_by, apply, named, value_of, givens_of, calls_from, steps_from}
+use Rattle.avs_meaning.specs.Filters.{ranged}
 use Rattle.avs_meaning.specs.Meaning.{below, run}
 use Rattle.avs_meaning.specs.Operators.{compared, joined}
 use Rattle.avs_meaning.specs.Outside.{Outside}
@@ -89,9 +93,9 @@ module _ (outside : Outside) (n : ℕ) (here : Text) where
   after_name None list next is lists applies = r.name_unknown is
 
   after_fit : {s : State} {c : Callee} {given : List Given} {last : Option Value} {line : ℕ} (o : Fit) → fit_or_last (takes c) given last ≡ o
-      → ((sig : ℕ) (bound : Bound) → HasText c bound → r.Performs outside n here s c sig bound line (applied outside n (below outside n) c sig bound here line s))
-      → r.Applies outside n here s c given last line (apply_by outside n (below outside n) o c here line s)
-  after_fit {c = c} {given = given} {last = last} (Some found) is performs = r.fits is (performs found.0 found.1 (has_text c given last found.0 found.1 is))
+      → ((sig : ℕ) (bound : Bound) → HasForm c (length given) bound → r.Performs outside n here s c sig bound line (applied outside n (below outside n) (again_of outside n) c sig bound here line s))
+      → r.Applies outside n here s c given last line (apply_by outside n (below outside n) (again_of outside n) o c here line s)
+  after_fit {c = c} {given = given} {last = last} (Some found) is performs = r.fits is (performs found.0 found.1 (has_form c given last found.0 found.1 is))
   after_fit None is performs = r.fits_not is
 
   after_load : {from text : Text} {line : ℕ} {at : Text} {s : State} (o : Outcome Loaded) (next : Loaded → Run Value) → load_short outside from text at line s ≡ o
@@ -129,22 +133,52 @@ module _ (outside : Outside) where
   some_import _ sig deeper here _ bound line s is has = absurd has
 
   some_user : (n sig : ℕ) → AllBelow outside n → (here : Text) (d : Defined) (bound : Bound) (line : ℕ) (s : State)
-      → r.Performs outside n here s (user d) sig bound line (applied outside n (below outside n) (user d) sig bound here line s)
+      → r.Performs outside n here s (user d) sig bound line (applied outside n (below outside n) (again_of outside n) (user d) sig bound here line s)
   some_user zero sig deeper here d bound line s = r.too_deep refl
-  some_user (suc n) sig deeper here d bound line s = rw (user_called outside n sig d bound here line s) (r.performs_user (deeper d.text d.function.body _))
+  some_user (suc n) sig deeper here d bound line s = rw (user_called outside n sig (again_of outside (suc n)) d bound here line s) (r.performs_user (deeper d.text d.function.body _))
 
-  some_performs : (n : ℕ) → AllBelow outside n → (here : Text) (c : Callee) (sig : ℕ) (bound : Bound) (line : ℕ) (s : State) → HasText c bound
-      → r.Performs outside n here s c sig bound line (applied outside n (below outside n) c sig bound here line s)
-  some_performs n deeper here (user d) sig bound line s has = some_user n sig deeper here d bound line s
-  some_performs n deeper here (builtin b.Eval) sig bound line s has = some_eval n sig deeper here bound.values bound line s refl has
-  some_performs n deeper here (builtin b.Import) sig bound line s has = some_import n sig deeper here bound.values bound line s refl has
-  some_performs n deeper here (builtin (b.Plain function)) sig bound line s has = r.performs_plain
-  some_performs n deeper here (builtin (b.Clip function)) sig bound line s has = r.performs_clip
-  some_performs n deeper here (builtin (b.Filter filter)) sig bound line s has = r.performs_filter
+  -- The rules allow what is called with fewer arguments than these.
+  abbrev SomeApply : ℕ → Text → ℕ → Type 0
+  SomeApply n here count = (c : Callee) (given : List Given) (last : Option Value) (line : ℕ) (s : State) → length given < count
+      → r.Applies outside n here s c given last line (apply outside n (below outside n) c given last here line s)
+
+  after_called : (n sig count : ℕ) (here : Text) → SomeApply n here count → (i : ℕ) (first last : ℤ) (word : Text) (bound : Bound) (line : ℕ) (s : State) (o : Option Callee)
+      → bound.values ≡ v.Clip i ∷ v.Int first ∷ v.Int last ∷ v.Text word ∷ [] → length (map unnamed (v.Clip i ∷ bound.rest)) < count → callee word s.functions ≡ o
+      → r.Performs outside n here s (builtin b.ApplyRange) sig bound line
+      (and_then (and_then (known here o line s) (λ c. again_of outside n c (map unnamed (v.Clip i ∷ bound.rest)) here line)) (ranged here i first last line))
+  after_called n sig count here some i first last word bound line s (Some c) is few found =
+      r.performs_range is found (some c (map unnamed (v.Clip i ∷ bound.rest)) None line s few)
+  after_called n sig count here some i first last word bound line s None is few found = r.range_unknown is found
+
+  some_range : (n sig count : ℕ) (here : Text) → SomeApply n here count → (values : List Value) (bound : Bound) (line : ℕ) (s : State) → bound.values ≡ values → IsRange values → length bound.rest + 3 ≤ count
+      → r.Performs outside n here s (builtin b.ApplyRange) sig bound line (ranged_by (again_of outside n) values bound.rest here line s)
+  some_range n sig count here some (v.Clip i ∷ v.Int first ∷ v.Int last ∷ v.Text word ∷ []) bound line s is has few =
+      let e : length (map unnamed (v.Clip i ∷ bound.rest)) ≡ suc (length bound.rest) = length-map (v.Clip i ∷ bound.rest) unnamed in
+      after_called n sig count here some i first last word bound line s (callee word s.functions) is (omega arith) refl
+  some_range n sig count here some _ bound line s is has few = absurd has
+
+  some_performs : (n : ℕ) → AllBelow outside n → (here : Text) (c : Callee) (count sig : ℕ) (bound : Bound) (line : ℕ) (s : State) → SomeApply n here count → HasForm c count bound
+      → r.Performs outside n here s c sig bound line (applied outside n (below outside n) (again_of outside n) c sig bound here line s)
+  some_performs n deeper here (user d) count sig bound line s some has = some_user n sig deeper here d bound line s
+  some_performs n deeper here (builtin b.Eval) count sig bound line s some has = some_eval n sig deeper here bound.values bound line s refl has
+  some_performs n deeper here (builtin b.Import) count sig bound line s some has = some_import n sig deeper here bound.values bound line s refl has
+  some_performs n deeper here (builtin b.SetFilterMTMode) count sig bound line s some has = r.performs_set_mode
+  some_performs n deeper here (builtin b.Prefetch) count sig bound line s some has = r.performs_prefetch
+  some_performs n deeper here (builtin b.ApplyRange) count sig bound line s some has = some_range n sig count here some bound.values bound line s refl has.0 has.1
+  some_performs n deeper here (builtin (b.Plain function)) count sig bound line s some has = r.performs_plain
+  some_performs n deeper here (builtin (b.Clip function)) count sig bound line s some has = r.performs_clip
+  some_performs n deeper here (builtin (b.Filter filter)) count sig bound line s some has = r.performs_filter
 
   module _ (n : ℕ) (deeper : AllBelow outside n) (here : Text) where
+    some_applies_within : (count : ℕ) → SomeApply n here count
+    some_applies_within zero = λ c given last line s few. absurd (omega arith)
+    some_applies_within (suc count) = λ c given last line s few.
+        rw (apply_direct outside n (below outside n) c given last here line s)
+        (after_fit outside n here (fit_or_last (takes c) given last) refl
+        (λ sig bound has. some_performs n deeper here c (length given) sig bound line s (λ d args x line t less. some_applies_within count d args x line t (omega arith)) has))
+
     some_applies : (c : Callee) (given : List Given) (last : Option Value) (line : ℕ) (s : State) → r.Applies outside n here s c given last line (apply outside n (below outside n) c given last here line s)
-    some_applies c given last line s = after_fit outside n here (fit_or_last (takes c) given last) refl (λ sig bound has. some_performs n deeper here c sig bound line s has)
+    some_applies c given last line s = some_applies_within (suc (length given)) c given last line s (omega arith)
 
     some_calls : (before : Option Value) (word : Text) (args : Args) (line : ℕ) (s : State) → r.Lists outside n here s args (receiver before) (givens_of outside n (below outside n) here args (receiver before) s)
         → r.Calls outside n here s before word args line (call_of outside n here before word args line s)

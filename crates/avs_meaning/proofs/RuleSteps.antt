@@ -9,9 +9,10 @@ use Rattle.avs_values.specs.declared.value.Value.{Value}
 use Rattle.avs_values.specs.declared.value.Value.TheVariants as v
 use Rattle.avs_meaning.proofs.ExecutionUnits.{condition_leaves, block_leaves, below_leaves}
 use Rattle.avs_meaning.proofs.LoopLemmas.{turn_of, unrolled, counted_past, counted}
-use Rattle.avs_meaning.proofs.TextArguments.{IsText, HasText}
+use Rattle.avs_meaning.proofs.DirectCalls.{direct}
+use Rattle.avs_meaning.proofs.TextArguments.{IsText, HasForm}
 use Rattle.avs_meaning.specs.Calls.{Callee, user, builtin, parameters}
-use Rattle.avs_meaning.specs.Expressions.{eval_name, called, eval, import_, applied, apply, value_of, givens_of}
+use Rattle.avs_meaning.specs.Expressions.{Caller, eval_name, called, eval, import_, applied, apply, value_of, givens_of}
 use Rattle.avs_meaning.specs.Faults.{Fault, script}
 use Rattle.avs_meaning.specs.Loops.{Flow, on, go_on, ends, is_past, continues, turned, counts}
 use Rattle.avs_meaning.specs.Meaning.{below, run}
@@ -39,6 +40,10 @@ chosen_block (Err fault) other = refl
 
 module _ (outside : Outside) where
   module _ (n : ℕ) where
+    -- what ApplyRange calls its function by
+    abbrev pub again_of : Caller
+    again_of = direct outside n (below outside n)
+
     -- a call of a name, after a value and a dot or not
     abbrev pub call_of : Text → Option Value → Text → Args → ℕ → Run Value
     call_of here before word args line =
@@ -87,11 +92,11 @@ module _ (outside : Outside) where
 
   -- ---- one call deeper
 
-  pub user_called : (n sig : ℕ) (d : Defined) (bound : Bound) (here : Text) (line : ℕ) (s : State)
-      → applied outside (suc n) (below outside (suc n)) (user d) sig bound here line s
+  pub user_called : (n sig : ℕ) (again : Caller) (d : Defined) (bound : Bound) (here : Text) (line : ℕ) (s : State)
+      → applied outside (suc n) (below outside (suc n)) again (user d) sig bound here line s
       ≡ and_then (run outside n d.text d.function.body (record s { env = parameters d.function.params bound.values [] })) (λ x after. Ok (x, record after { env = s.env }))
   unfolding below
-  user_called n sig d bound here line s = rw (not_zero n)
+  user_called n sig again d bound here line s = rw (not_zero n)
 
   pub eval_called : (n : ℕ) (text : Text) (here : Text) (line : ℕ) (s : State)
       → eval outside (suc n) (below outside (suc n)) here (v.Text text ∷ []) line s ≡ load_of n here eval_name text line s
@@ -115,12 +120,12 @@ module _ (outside : Outside) where
   import_too_deep (v.Text text ∷ []) here line s is = refl
   import_too_deep _ here line s is = absurd is
 
-  pub called_too_deep : (c : Callee) (sig : ℕ) (bound : Bound) (here : Text) (line : ℕ) (s : State) → nests c ≡ true → HasText c bound
-      → applied outside zero (below outside zero) c sig bound here line s ≡ Err (script k.CallDepth here line)
-  called_too_deep (user d) sig bound here line s deep is = refl
-  called_too_deep (builtin b.Eval) sig bound here line s deep is = eval_too_deep bound.values here line s is
-  called_too_deep (builtin b.Import) sig bound here line s deep is = import_too_deep bound.values here line s is
-  called_too_deep (builtin _) sig bound here line s deep is = absurd (cc)
+  pub called_too_deep : (again : Caller) (c : Callee) (count sig : ℕ) (bound : Bound) (here : Text) (line : ℕ) (s : State) → nests c ≡ true → HasForm c count bound
+      → applied outside zero (below outside zero) again c sig bound here line s ≡ Err (script k.CallDepth here line)
+  called_too_deep again (user d) count sig bound here line s deep is = refl
+  called_too_deep again (builtin b.Eval) count sig bound here line s deep is = eval_too_deep bound.values here line s is
+  called_too_deep again (builtin b.Import) count sig bound here line s deep is = import_too_deep bound.values here line s is
+  called_too_deep again (builtin _) count sig bound here line s deep is = absurd (cc)
 
 -- ---- operators
 

@@ -1,5 +1,5 @@
 -- The rules allow no other outcome than that of the definitions.
-use Rattle.std.proofs.Common.{◌≡◌, ◌∙◌, ℕ, ℤ, List, Bool, Option, refl}
+use Rattle.std.proofs.Common.{◌≡◌, ◌∙◌, ℕ, zero, suc, ℤ, length, List, Bool, Option, refl}
 use Rattle.avs_tree.specs.Tree.{Expr, Args, MethodCalls, Steps, Kind, Arms, Else, Block}
 use Rattle.avs_tree.specs.declared.tree.Operator.{Operator}
 use Rattle.avs_values.specs.Binding.{Bound}
@@ -7,8 +7,9 @@ use Rattle.avs_values.specs.Values.{Text}
 use Rattle.avs_values.specs.declared.binding.Given.{Given}
 use Rattle.avs_values.specs.declared.value.Value.{Value}
 use Rattle.avs_meaning.proofs.LoopLemmas.{turn_of}
-use Rattle.avs_meaning.proofs.RuleSteps.{branched, chosen_block, for_ended, for_unrolled, call_of, paid_effect, choice_of, load_of, while_unrolled, user_called, eval_called, import_called, import_failed, called_too_deep, both_operands_joined, no_truth_joined, truth_grouped}
-use Rattle.avs_meaning.proofs.TextArguments.{HasText, has_text}
+use Rattle.avs_meaning.proofs.RuleSteps.{again_of, branched, chosen_block, for_ended, for_unrolled, call_of, paid_effect, choice_of, load_of, while_unrolled, user_called, eval_called, import_called, import_failed, called_too_deep, both_operands_joined, no_truth_joined, truth_grouped}
+use Rattle.avs_meaning.proofs.DirectCalls.{apply_direct}
+use Rattle.avs_meaning.proofs.TextArguments.{HasForm, has_form}
 use Rattle.avs_meaning.specs.Calls.{Callee}
 use Rattle.avs_meaning.specs.Expressions.{applied, apply, value_of, givens_of, calls_from, steps_from}
 use Rattle.avs_meaning.specs.Loops.{Flow, counts}
@@ -84,19 +85,24 @@ module _ (outside : Outside) where
 
     only_applies : {n line : ℕ} {here : Text} {s : State} {c : Callee} {given : List Given} {last : Option Value} {out : Outcome Value}
         → r.Applies outside n here s c given last line out → apply outside n (below outside n) c given last here line s ≡ out
-    only_applies {c = c} {given = given} {last = last} (r.fits {sig = sig} {args = bound} is does) = rw is (only_performs does (has_text c given last sig bound is))
+    only_applies {n = n} {line = line} {here = here} {s = s} {c = c} {given = given} {last = last} (r.fits {sig = sig} {args = bound} is does) =
+        apply_direct outside n (below outside n) c given last here line s ∙ rw is (only_performs does (length given) (has_form c given last sig bound is))
     only_applies (r.fits_not is) = rw is
 
     only_performs : {n line sig : ℕ} {here : Text} {s : State} {c : Callee} {bound : Bound} {out : Outcome Value}
-        → r.Performs outside n here s c sig bound line out → HasText c bound → applied outside n (below outside n) c sig bound here line s ≡ out
-    only_performs r.performs_plain text = refl
-    only_performs r.performs_clip text = refl
-    only_performs r.performs_filter text = refl
-    only_performs {line = line} {sig = sig} {here = here} {s = s} {bound = bound} (r.performs_user {n = n} {d = d} body) text = user_called outside n sig d bound here line s ∙ rw (only_executes body)
-    only_performs {line = line} {here = here} {s = s} (r.performs_eval {n = n} {text = text} is load) _ = rw is (eval_called outside n text here line s ∙ only_loads load)
-    only_performs {line = line} {here = here} {s = s} (r.performs_import {n = n} {file = file} {text = text} is found load) _ = rw is (import_called outside n file text here line s found ∙ only_loads load)
-    only_performs {line = line} {here = here} {s = s} (r.import_fails {n = n} {file = file} {kind = kind} is wrong) _ = rw is (import_failed outside n file kind here line s wrong)
-    only_performs {line = line} {sig = sig} {here = here} {s = s} {c = c} {bound = bound} (r.too_deep is) text = called_too_deep outside c sig bound here line s is text
+        → r.Performs outside n here s c sig bound line out → (count : ℕ) → HasForm c count bound → applied outside n (below outside n) (again_of outside n) c sig bound here line s ≡ out
+    only_performs r.performs_plain count form = refl
+    only_performs r.performs_clip count form = refl
+    only_performs r.performs_filter count form = refl
+    only_performs r.performs_set_mode count form = refl
+    only_performs r.performs_prefetch count form = refl
+    only_performs (r.performs_range is known app) count form = rw (is, known) (rw (only_applies app))
+    only_performs (r.range_unknown is unknown) count form = rw (is, unknown)
+    only_performs {line = line} {sig = sig} {here = here} {s = s} {bound = bound} (r.performs_user {n = n} {d = d} body) count form = user_called outside n sig (again_of outside (suc n)) d bound here line s ∙ rw (only_executes body)
+    only_performs {line = line} {here = here} {s = s} (r.performs_eval {n = n} {text = text} is load) count form = rw is (eval_called outside n text here line s ∙ only_loads load)
+    only_performs {line = line} {here = here} {s = s} (r.performs_import {n = n} {file = file} {text = text} is found load) count form = rw is (import_called outside n file text here line s found ∙ only_loads load)
+    only_performs {line = line} {here = here} {s = s} (r.import_fails {n = n} {file = file} {kind = kind} is wrong) count form = rw is (import_failed outside n file kind here line s wrong)
+    only_performs {line = line} {sig = sig} {here = here} {s = s} {c = c} {bound = bound} (r.too_deep is) count form = called_too_deep outside (again_of outside zero) c count sig bound here line s is form
 
     only_loads : {n line : ℕ} {here from text : Text} {s : State} {out : Outcome Value}
         → r.Loads outside n here s from text line out → load_of outside n here from text line s ≡ out

@@ -1,5 +1,5 @@
--- What Eval and Import are given is one text.
-use Rattle.std.proofs.Common.{◌≡◌, ℕ, zero, suc, List, [], ◌∷◌, Bool, true, false, if◌then◌else◌, Option, Some, None, subst}
+-- What Eval and Import are given is one text. What functions have.
+use Rattle.std.proofs.Common.{◌≡◌, ℕ, zero, suc, List, [], ◌∷◌, Bool, true, false, if◌then◌else◌, Option, Some, None, length, subst}
 use Rattle.avs_values.specs.Binding.{Bound, Received, nothing, give_unnamed, give_by, receive, finished, and_then, bind_from, bind}
 use Rattle.avs_values.specs.Functions.{required}
 use Rattle.avs_values.specs.Values.{Text}
@@ -9,6 +9,7 @@ use Rattle.avs_values.specs.declared.value.Value.{Value}
 use Rattle.avs_values.specs.declared.value.Value.TheVariants as v
 use Rattle.avs_meaning.specs.Calls.{Callee, builtin, takes, Fit, fit, fit_by, fit_last, or_fit, fit_or_last, unnamed}
 use Rattle.avs_meaning.specs.Signatures.{one}
+use Rattle.avs_meaning.proofs.RangeArguments.{IsRangeOf, range_fits}
 use Rattle.avs_meaning.specs.declared.builtin.Builtin.TheVariants as b
 
 abbrev pub IsText : List Value → Type 0
@@ -85,13 +86,16 @@ either_fits None other first second = second
 text_fits : (args : List Given) (last : Option Value) (sig : ℕ) (bound : Bound) → fit_or_last (one k.Text ∷ []) args last ≡ Some (sig, bound) → IsText bound.values
 text_fits args last sig bound is = subst FitsText is (either_fits (fit 0 (one k.Text ∷ []) args) (fit_last (one k.Text ∷ []) args last) (fits args) (fits_last args last))
 
--- Eval and Import have a text, and of others nothing is said.
-abbrev pub HasText : Callee → Bound → Type 0
-HasText (builtin b.Eval) bound = IsText bound.values
-HasText (builtin b.Import) bound = IsText bound.values
-HasText _ bound = Unit {0}
+-- What the arguments of a function are, where there were so many: Eval and Import have a text, ApplyRange has a range, and of
+-- others nothing is said.
+abbrev pub HasForm : Callee → ℕ → Bound → Type 0
+HasForm (builtin b.Eval) count bound = IsText bound.values
+HasForm (builtin b.Import) count bound = IsText bound.values
+HasForm (builtin b.ApplyRange) count bound = IsRangeOf count bound
+HasForm _ count bound = Unit {0}
 
-pub has_text : (c : Callee) (args : List Given) (last : Option Value) (sig : ℕ) (bound : Bound) → fit_or_last (takes c) args last ≡ Some (sig, bound) → HasText c bound
-has_text (builtin b.Eval) args last sig bound is = text_fits args last sig bound is
-has_text (builtin b.Import) args last sig bound is = text_fits args last sig bound is
-has_text _ args last sig bound is = tt
+pub has_form : (c : Callee) (args : List Given) (last : Option Value) (sig : ℕ) (bound : Bound) → fit_or_last (takes c) args last ≡ Some (sig, bound) → HasForm c (length args) bound
+has_form (builtin b.Eval) args last sig bound is = text_fits args last sig bound is
+has_form (builtin b.Import) args last sig bound is = text_fits args last sig bound is
+has_form (builtin b.ApplyRange) args last sig bound is = range_fits args last sig bound is
+has_form _ args last sig bound is = tt

@@ -14,23 +14,26 @@ use Rattle.avs_values.specs.declared.value.Value.{Value}
 use Rattle.avs_values.specs.declared.value.Value.TheVariants as v
 use Rattle.clip_term.specs.Blank.{BlankArgs, blank_refusals, blank_info, colour_of, colour_given}
 use Rattle.clip_term.specs.ClipTerm.{Act, source, plain, time}
+use Rattle.clip_term.specs.Refusals.{nat_of}
 use Rattle.clip_term.specs.Terms.{check}
 use Rattle.clip_term.specs.declared.fault.FilterFault.{FilterFault}
 use Rattle.clip_term.specs.declared.filter.Filter.{Filter}
 use Rattle.clip_term.specs.declared.filter.Filter.TheVariants as f
 use Rattle.clip_term.specs.declared.op.TimeOp.TheVariants as t
 use Rattle.clip_graph.specs.Plan.{Application, infos_among, sources_in}
+use Rattle.mt_modes.specs.Modes.{is_mode, mode_in, with_setting}
 use Rattle.avs_meaning.specs.Arguments.{Reading, takes}
 use Rattle.avs_meaning.specs.Expressions.{told}
+use Rattle.avs_meaning.specs.Crews.{Numbers}
 use Rattle.avs_meaning.specs.Faults.{Fault}
 use Rattle.avs_meaning.specs.Filters as filters
 use Rattle.avs_meaning.specs.Filters.{info_of, filtered}
 use Rattle.avs_meaning.specs.Operators.{binary_of, placed, truth, truth_of, combined, joined}
 use Rattle.avs_meaning.specs.Outside.{Outside}
+use Rattle.avs_meaning.specs.Settings.{is_forced, crew_of, set_mode, with_crew, prefetch}
 use Rattle.avs_meaning.specs.State.{State, Defined, Outcome, Run, and_then, fails, lifted, pay, spend, find, define_by, define, define_all}
-use Rattle.avs_meaning.specs.Texts.{all_built, loaded_by, load, load_short}
+use Rattle.avs_meaning.specs.Texts.{loaded_by, load, load_short}
 use Rattle.avs_meaning.specs.Meaning.{run}
-use Rattle.avs_meaning.specs.Unbuilt.{first_unbuilt}
 use Rattle.avs_meaning.specs.declared.builtin.ClipFn.{ClipFn}
 use Rattle.avs_meaning.specs.declared.fault.InputFault.{InputFault}
 use Rattle.avs_meaning.specs.declared.fault.ScriptKind.TheVariants as k
@@ -78,16 +81,10 @@ define_all_leaves [] here n s few = few
 define_all_leaves (function ∷ rest) here n s few =
     then_leaves n (define function here s) _ (define_by_leaves (find function.name s.functions) function here n s few) (λ _ t less. define_all_leaves rest here n t less)
 
-all_built_leaves : (o : Option ℕ) (here : Text) (n : ℕ) (s : State) → s.units ≤ n → Leaves n (all_built o here s)
-all_built_leaves (Some line) here n s few = tt
-all_built_leaves None here n s few = few
-
 loaded_leaves : (r : Result Loaded NoTree) (here : Text) (n : ℕ) (s : State) → s.units ≤ n → Leaves n (loaded_by r here s)
 loaded_leaves (Err why) here n s few = tt
 loaded_leaves (Ok loaded) here n s few =
-    then_leaves n (and_then (all_built (first_unbuilt loaded.tree) here s) (λ _. define_all loaded.tree.functions here)) _
-    (then_leaves n (all_built (first_unbuilt loaded.tree) here s) _ (all_built_leaves (first_unbuilt loaded.tree) here n s few) (λ _ t less. define_all_leaves loaded.tree.functions here n t less))
-    (λ _ t less. less)
+    then_leaves n (define_all loaded.tree.functions here s) _ (define_all_leaves loaded.tree.functions here n s few) (λ _ t less. less)
 
 pub load_short_leaves : (outside : Outside) (from text here : Text) (line n : ℕ) (s : State) → s.units ≤ n → Leaves n (load_short outside from text here line s)
 load_short_leaves outside from text here line n s few = if_runs n (nat_le (length text) text_limit) (load outside from text) (fails k.TextLimit here line) s (loaded_leaves (outside.trees text) from n s few) tt
@@ -114,7 +111,7 @@ add_by_leaves here (Err fault) act inputs mode line n s few = tt
 
 pub made_leaves : (here : Text) (filter : Filter) (act : Act) (inputs : List ℕ) (line n : ℕ) (s : State) → s.units ≤ n → Leaves n (filters.made here filter act inputs line s)
 made_leaves here filter act inputs line n s few =
-    if_leaves n (filters.are_places inputs s.plan) (filters.add_by here (check act (infos_among s.plan inputs)) act inputs (filters.mode_of filter) line s) (fails k.TypeFault here line s) (add_by_leaves here (check act (infos_among s.plan inputs)) act inputs _ line n s few) tt
+    if_leaves n (filters.are_places inputs s.plan) (filters.add_by here (check act (infos_among s.plan inputs)) act inputs (mode_in s.modes filter) line s) (fails k.TypeFault here line s) (add_by_leaves here (check act (infos_among s.plan inputs)) act inputs _ line n s few) tt
 
 open_by_leaves : (here : Text) (r : Result Info InputFault) (name : Text) (line n : ℕ) (s : State) → s.units ≤ n → Leaves n (filters.open_by here r name line s)
 open_by_leaves here (Err fault) name line n s few = tt
@@ -178,3 +175,22 @@ joined_leaves here op.Or line operand x less n s few =
 joined_leaves here op.And line operand x less n s few =
     then_leaves n (lifted (truth here line x) s) _ (lifted_leaves n _ s few) (λ holds t fewer. if_runs n holds _ _ t (truth_of_leaves here line operand less n t fewer) fewer)
 joined_leaves here o line operand x less n s few = then_leaves n (operand s) _ (less n s few) (λ y t fewer. combined_leaves here o line x y n t fewer)
+
+-- ---- settings
+
+pub set_mode_leaves : (here : Text) (values : List Value) (line n : ℕ) (s : State) → s.units ≤ n → Leaves n (set_mode here values line s)
+set_mode_leaves here (v.Text name ∷ v.Int mode ∷ force ∷ []) line n s few =
+    if_leaves n (is_mode mode) (Ok (v.Undefined, record s { modes = with_setting s.modes (record { name = name; mode = nat_of mode; force = is_forced force }) })) (fails k.ModeRefused here line s) few tt
+set_mode_leaves here _ line n s few = tt
+
+with_crew_leaves : (here : Text) (o : Option Numbers) (i line n : ℕ) (s : State) → s.units ≤ n → Leaves n (with_crew here o i line s)
+with_crew_leaves here (Some crew) i line n s few = few
+with_crew_leaves here None i line n s few = tt
+
+pub prefetch_leaves : (here : Text) (values : List Value) (line n : ℕ) (s : State) → s.units ≤ n → Leaves n (prefetch here values line s)
+prefetch_leaves here (v.Clip i ∷ v.Int threads ∷ frames ∷ []) line n s few = with_crew_leaves here (crew_of threads frames) i line n s few
+prefetch_leaves here _ line n s few = tt
+
+pub ranged_leaves : (here : Text) (i : ℕ) (first last : ℤ) (line : ℕ) (x : Value) (n : ℕ) (s : State) → s.units ≤ n → Leaves n (filters.ranged here i first last line x s)
+ranged_leaves here i first last line (v.Clip j) n s few = made_leaves here f.ApplyRange (time (t.ApplyRange first last)) (i ∷ j ∷ []) line n s few
+ranged_leaves here i first last line _ n s few = tt

@@ -1,17 +1,20 @@
 -- What a filter does with its arguments (AviSynth+ wiki, "Internal filters").
-use Rattle.std.specs.Prelude.{ℕ, ◌==◌, nat_le, ℤ, pos, ◌-ℤ◌, List, [], ◌∷◌, ◌++◌, length, slice_get, codes, Bool, true, false, ◌&&◌, ◌||◌, Option, Some, None, Result, Ok, Err, if◌then◌else◌}
+use Rattle.std.specs.Prelude.{ℕ, ◌==◌, ℤ, pos, negsuc, int_lt, ◌-ℤ◌, List, [], ◌∷◌, slice_get, codes, Bool, false, ◌&&◌, ◌||◌, Option, Some, None, Result, Ok, Err, if◌then◌else◌}
 use Rattle.std.specs.List.{list_all, list_any}
 use Rattle.std.specs.Option.{unwrap_or}
 use Rattle.avs_values.specs.Values.{Text}
 use Rattle.avs_values.specs.declared.value.Value.{Value}
 use Rattle.avs_values.specs.declared.value.Value.TheVariants as v
-use Rattle.clip_term.specs.ClipTerm.{Act, time, space, joined}
-use Rattle.clip_term.specs.Terms.{time_inputs, time_lists, join_inputs}
+use Rattle.clip_term.specs.ClipTerm.{Act, time, space, joined, soft}
+use Rattle.clip_term.specs.Refusals.{above}
+use Rattle.clip_term.specs.Terms.{time_inputs, time_lists, join_inputs, soft_lists}
+use Rattle.clip_term.specs.Texts.{matrix_named}
 use Rattle.clip_term.specs.declared.fault.FilterFault.TheVariants as fault
 use Rattle.clip_term.specs.declared.filter.Filter.{Filter}
 use Rattle.clip_term.specs.declared.filter.Filter.TheVariants as f
 use Rattle.clip_term.specs.declared.op.Channels.{Channels}
 use Rattle.clip_term.specs.declared.op.JoinOp.TheVariants as j
+use Rattle.clip_term.specs.declared.op.SoftOp.TheVariants as so
 use Rattle.clip_term.specs.declared.op.SpaceOp.TheVariants as s
 use Rattle.clip_term.specs.declared.op.TimeOp.TheVariants as t
 use Rattle.clip_term.specs.declared.op.TrimBound.{TrimBound}
@@ -89,6 +92,22 @@ inverts None = Err (k.Filter fault.BadText)
 abbrev pub black : ℤ
 black = pos 0x108080
 
+-- GeneralConvolution: its bias is refused before its matrix.
+abbrev pub is_no_bias : ℤ → Bool
+is_no_bias bias = int_lt bias (negsuc 254) || above bias 255
+
+abbrev pub convolves_by : ℤ → Option (List ℤ) → Reading
+convolves_by bias (Some entries) = Ok (soft (so.GeneralConvolution bias (record { entries = entries })))
+convolves_by bias None = Err (k.Filter fault.BadText)
+
+abbrev pub convolves : ℤ → Text → Reading
+convolves bias matrix =
+    if is_no_bias bias then Err (k.Filter fault.BadRange) else convolves_by bias (matrix_named matrix)
+
+-- the matrix that keeps each sample
+abbrev pub middle_alone : Text
+middle_alone = codes "0 0 0 0 1 0 0 0 0"
+
 abbrev pub read_join : Filter → Reading
 read_join f.StackHorizontal = Ok (joined j.StackHorizontal)
 read_join f.StackVertical = Ok (joined j.StackVertical)
@@ -105,6 +124,11 @@ module _ (values : List Value) where
 
   abbrev pub number : ℕ → ℤ
   number i = or_number i (pos 0)
+
+  abbrev pub read_soft : Filter → Reading
+  read_soft f.TemporalSoften = Ok (soft (so.TemporalSoften (number 1) (number 2) (number 3)))
+  read_soft f.GeneralConvolution = convolves (number 1) (unwrap_or (text_at values 2) middle_alone)
+  read_soft filter = read_join filter
 
   abbrev pub read_space : Filter → Reading
   read_space f.Crop = Ok (space (s.Crop (number 1) (number 2) (number 3) (number 4)))
@@ -124,7 +148,7 @@ module _ (values : List Value) where
   read_space f.UToY8 = Ok (space s.UToY8)
   read_space f.VToY8 = Ok (space s.VToY8)
   read_space f.ConvertToY8 = Ok (space s.ConvertToY8)
-  read_space filter = read_join filter
+  read_space filter = read_soft filter
 
   -- by the numbers after the others, and how many frames the first clip has
   abbrev pub read : List ℤ → ℕ → Filter → Reading
@@ -149,4 +173,5 @@ abbrev pub takes : Act → ℕ → Bool
 takes (time op) k = time_inputs op k && time_lists op
 takes (space op) k = k == 1
 takes (joined op) k = join_inputs op k
+takes (soft op) k = k == 1 && soft_lists op
 takes _ k = false

@@ -1,5 +1,5 @@
 -- What an expression does: its value, and how the state changes (AviSynth+ wiki, 'Grammar' and 'Script functions').
-use Rattle.std.specs.Prelude.{ℕ, nat_eq, List, [], ◌∷◌, ◌++◌, codes, Option, Some, None, Result, Ok, Err, if◌then◌else◌}
+use Rattle.std.specs.Prelude.{ℕ, zero, suc, nat_eq, List, [], ◌∷◌, ◌++◌, map, length, codes, Option, Some, None, Result, Ok, Err, if◌then◌else◌}
 use Rattle.avs_tree.specs.Tree.{Expr, int, bool, str, name, call, method_calls, minus, not_, chain, compare, conditional, group, Args, no_args, arg, MethodCalls, no_method_calls, method, method_call, Steps, no_steps, step, Block}
 use Rattle.avs_values.specs.Binding.{Bound}
 use Rattle.avs_values.specs.Functions.{plain}
@@ -10,9 +10,10 @@ use Rattle.avs_values.specs.declared.value.Value.{Value}
 use Rattle.avs_values.specs.declared.value.Value.TheVariants as v
 use Rattle.avs_meaning.specs.Calls.{Callee, user, builtin, callee, takes, Fit, fit_or_last, unnamed, last_name, parameters}
 use Rattle.avs_meaning.specs.ClipFunctions.{clip_value}
-use Rattle.avs_meaning.specs.Filters.{info_of, filtered}
+use Rattle.avs_meaning.specs.Filters.{info_of, filtered, ranged}
 use Rattle.avs_meaning.specs.Operators.{placed, truth, prefixed, compared, joined}
 use Rattle.avs_meaning.specs.Outside.{Outside}
+use Rattle.avs_meaning.specs.Settings.{set_mode, prefetch}
 use Rattle.avs_meaning.specs.State.{Env, Defined, Run, and_then, ◌>>=◌, ◌>>◌, pure, fails, lifted, lookup, variable}
 use Rattle.avs_meaning.specs.Texts.{load_short}
 use Rattle.avs_meaning.specs.declared.builtin.Builtin.TheVariants as b
@@ -42,6 +43,16 @@ module _ (here : Text) where
   abbrev pub called : Text → ℕ → Run Callee
   called x line = λ s. known (callee x s.functions) line s
 
+-- a call of a function with arguments that are tried as they are
+abbrev pub Caller : Type 0
+Caller = Callee → List Given → Text → ℕ → Run Value
+
+-- ApplyRange calls a function by its name, with its clip first.
+abbrev pub ranged_by : Caller → List Value → List Value → Text → ℕ → Run Value
+ranged_by again (v.Clip i ∷ v.Int first ∷ v.Int last ∷ v.Text word ∷ []) rest here line =
+    called here word line >>= (λ c. again c (map unnamed (v.Clip i ∷ rest)) here line) >>= ranged here i first last line
+ranged_by again _ rest here line = fails k.NoMatch here line
+
 -- how many calls may still nest, and what executes the statements of a text one call deeper
 module _ (outside : Outside) (depth : ℕ) (deeper : Text → Block → Run Value) where
   abbrev pub may_nest : Text → ℕ → Run (Unit {0})
@@ -66,22 +77,30 @@ module _ (outside : Outside) (depth : ℕ) (deeper : Text → Block → Run Valu
   inside d env = λ s.
       and_then (deeper d.text d.function.body (record s { env = env })) (λ x after. Ok (x, record after { env = s.env }))
 
-  -- a call whose arguments are bound by the signature of this number
-  abbrev pub applied : Callee → ℕ → Bound → Text → ℕ → Run Value
-  applied (user d) n given here line = may_nest here line >> inside d (parameters d.function.params given.values [])
-  applied (builtin b.Eval) n given here line = eval here given.values line
-  applied (builtin b.Import) n given here line = import_ here given.values line
-  applied (builtin (b.Plain function)) n given here line = lifted (placed here line (plain function given))
-  applied (builtin (b.Clip function)) n given here line = told here function given.values line
-  applied (builtin (b.Filter filter)) n given here line = filtered here outside filter n given line
+  -- a call whose arguments are bound by the signature of this number, with what ApplyRange calls its function by
+  abbrev pub applied : Caller → Callee → ℕ → Bound → Text → ℕ → Run Value
+  applied again (user d) n given here line = may_nest here line >> inside d (parameters d.function.params given.values [])
+  applied again (builtin b.Eval) n given here line = eval here given.values line
+  applied again (builtin b.Import) n given here line = import_ here given.values line
+  applied again (builtin b.SetFilterMTMode) n given here line = set_mode here given.values line
+  applied again (builtin b.Prefetch) n given here line = prefetch here given.values line
+  applied again (builtin b.ApplyRange) n given here line = ranged_by again given.values given.rest here line
+  applied again (builtin (b.Plain function)) n given here line = lifted (placed here line (plain function given))
+  applied again (builtin (b.Clip function)) n given here line = told here function given.values line
+  applied again (builtin (b.Filter filter)) n given here line = filtered here outside filter n given line
 
-  abbrev pub apply_by : Fit → Callee → Text → ℕ → Run Value
-  apply_by (Some found) c here line = applied c found.0 found.1 here line
-  apply_by None c here line = fails k.NoMatch here line
+  abbrev pub apply_by : Caller → Fit → Callee → Text → ℕ → Run Value
+  apply_by again (Some found) c here line = applied again c found.0 found.1 here line
+  apply_by again None c here line = fails k.NoMatch here line
+
+  -- A call with fewer arguments than n. A function that ApplyRange calls has fewer than ApplyRange.
+  unfoldable pub call_within : ℕ → Caller
+  call_within zero c args here line = fails k.NoMatch here line
+  call_within (suc n) c args here line = apply_by (call_within n) (fit_or_last (takes c) args None) c here line
 
   -- a call with these arguments, tried again with `last` first where it is set
   abbrev pub apply : Callee → List Given → Option Value → Text → ℕ → Run Value
-  apply c args last here line = apply_by (fit_or_last (takes c) args last) c here line
+  apply c args last here line = apply_by (call_within (length args)) (fit_or_last (takes c) args last) c here line
 
   -- ---- expressions
 

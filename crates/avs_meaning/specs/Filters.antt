@@ -1,8 +1,7 @@
 -- Filters: their arguments become what they do, and the plan grows where a filter refuses nothing (AviSynth+ wiki,
 -- "Internal filters"). Values that no signature lets through are NoMatch.
-use Rattle.std.specs.Prelude.{ℕ, zero, suc, ◌+◌, nat_lt, nat_le, List, [], ◌∷◌, ◌++◌, length, slice_get, Bool, Option, Some, None, Result, Ok, Err, if◌then◌else◌}
+use Rattle.std.specs.Prelude.{ℕ, zero, suc, ◌+◌, nat_lt, nat_le, List, [], ◌∷◌, ◌++◌, length, slice_get, Bool, ℤ, Option, Some, None, Result, Ok, Err, if◌then◌else◌}
 use Rattle.std.specs.List.{list_all}
-use Rattle.std.specs.Option.{unwrap_or}
 use Rattle.fv_plane.specs.declared.format.Info.{Info}
 use Rattle.fv_plane.specs.Refusals.{first_fault}
 use Rattle.avs_values.specs.Binding.{Bound}
@@ -10,13 +9,14 @@ use Rattle.avs_values.specs.Values.{Text}
 use Rattle.avs_values.specs.declared.value.Value.{Value}
 use Rattle.avs_values.specs.declared.value.Value.TheVariants as v
 use Rattle.clip_term.specs.Blank.{BlankArgs, default_clip, colour_given, blank_info, colour_of, blank_refusals}
-use Rattle.clip_term.specs.ClipTerm.{Act, source, plain}
-use Rattle.clip_term.specs.Filters.{declared_mode}
+use Rattle.clip_term.specs.ClipTerm.{Act, source, plain, time}
 use Rattle.clip_term.specs.Terms.{check}
 use Rattle.clip_term.specs.declared.fault.FilterFault.{FilterFault}
 use Rattle.clip_term.specs.declared.filter.Filter.{Filter}
 use Rattle.clip_term.specs.declared.filter.Filter.TheVariants as f
+use Rattle.clip_term.specs.declared.op.TimeOp.TheVariants as t
 use Rattle.clip_graph.specs.Plan.{Application, deepest, infos_among, sources_in}
+use Rattle.mt_modes.specs.Modes.{mode_in}
 use Rattle.avs_meaning.specs.Arguments.{Reading, read, takes, number_at, text_at, clips_among, numbers_among}
 use Rattle.avs_meaning.specs.Faults.{input}
 use Rattle.avs_meaning.specs.Outside.{Outside}
@@ -29,10 +29,6 @@ node_limit = 4096
 
 abbrev pub depth_limit : ℕ
 depth_limit = 512
-
--- A filter that declares no mode has 2, MT_MULTI_INSTANCE.
-abbrev pub mode_of : Filter → ℕ
-mode_of filter = unwrap_or (declared_mode filter) 2
 
 -- the seven arguments of BlankClip beside its clip, from a place on
 abbrev pub blank_args : List Value → ℕ → BlankArgs
@@ -69,10 +65,10 @@ module _ (here : Text) where
   add_by (Ok info) act inputs mode line = add act inputs info mode line
   add_by (Err fault) act inputs mode line = fails (k.Filter fault) here line
 
-  -- what a filter does with these places, as far as it refuses nothing
+  -- what a filter does with these places, as far as it refuses nothing, in the mode that is set for it now
   abbrev pub made : Filter → Act → List ℕ → ℕ → Run Value
   made filter act inputs line = λ s.
-      if are_places inputs s.plan then add_by (check act (infos_among s.plan inputs)) act inputs (mode_of filter) line s
+      if are_places inputs s.plan then add_by (check act (infos_among s.plan inputs)) act inputs (mode_in s.modes filter) line s
       else fails k.TypeFault here line s
 
   abbrev pub info_by : Option Application → ℕ → Run Info
@@ -131,3 +127,8 @@ module _ (here : Text) where
   filtered outside f.Y4MSource n given line = open_source outside given.values line
   filtered outside f.BlankClip n given line = blank n given.values line
   filtered outside filter n given line = applied filter given (clips_among given.values ++ clips_among given.rest) line
+
+  -- ApplyRange shows what its function gave in a range of frames of the clip, and the clip elsewhere.
+  abbrev pub ranged : ℕ → ℤ → ℤ → ℕ → Value → Run Value
+  ranged i first last line (v.Clip j) = made f.ApplyRange (time (t.ApplyRange first last)) (i ∷ j ∷ []) line
+  ranged i first last line _ = fails k.TypeFault here line

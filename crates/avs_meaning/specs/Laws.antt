@@ -1,13 +1,14 @@
 -- What the definitions determine.
-use Rattle.std.specs.Prelude.{◌≡◌, ◌⊎◌, ℕ, List, IsTrue, Some, Ok, Err, map}
+use Rattle.std.specs.Prelude.{◌≡◌, ℕ, List, Some, Ok, Err, map}
 use Rattle.fv_plane.specs.Clip.{Clip}
 use Rattle.y4m_stream.specs.declared.fault.Y4mFault.{Y4mFault}
 use Rattle.y4m_stream.specs.Stream.{Stream, HasFault}
 use Rattle.clip_term.specs.Filters as filters
 use Rattle.clip_term.specs.declared.filter.Filter.{Filter}
+use Rattle.clip_term.specs.declared.filter.Filter.TheVariants as f
 use Rattle.avs_meaning.specs.Outside.{clip_in}
 use Rattle.avs_meaning.specs.Table.{builtins, builtin_of, name_of}
-use Rattle.avs_meaning.specs.Unbuilt.{is_unbuilt}
+use Rattle.avs_meaning.specs.declared.builtin.Builtin.{Builtin}
 use Rattle.avs_meaning.specs.declared.builtin.Builtin.TheVariants as b
 use Rattle.avs_meaning.specs.declared.fault.InputFault.TheVariants as i
 
@@ -20,8 +21,11 @@ pub record ClipsAreStreams : Type 0 where
 abbrev pub NamesDiffer : Type 0
 NamesDiffer = map (λ function. builtin_of (name_of function)) builtins ≡ map Some builtins
 
--- Each filter is built, or its name is among those that aren't.
+-- the function that makes a filter's clip
+abbrev pub maker_of : Filter → Builtin
+maker_of f.ApplyRange = b.ApplyRange
+maker_of filter = b.Filter filter
+
+-- Each filter is called by its name.
 abbrev pub FiltersAreKnown : Type 0
-FiltersAreKnown =
-    (filter : Filter) → let name = filters.name_of filter in
-    (builtin_of name ≡ Some (b.Filter filter)) ⊎ IsTrue (is_unbuilt name)
+FiltersAreKnown = (filter : Filter) → builtin_of (filters.name_of filter) ≡ Some (maker_of filter)

@@ -2,14 +2,15 @@ pub mod Signatures
 pub mod Table
 pub mod Faults
 pub mod FaultNames
+pub mod Crews
 pub mod State
 pub mod Outside
 pub mod Calls
 pub mod ClipFunctions
 pub mod Arguments
+pub mod Settings
 pub mod Filters
 pub mod Operators
-pub mod Unbuilt
 pub mod Texts
 pub mod Expressions
 pub mod Loops

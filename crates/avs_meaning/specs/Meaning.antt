@@ -1,10 +1,12 @@
 -- What a script means: a clip, or why there is none.
-use Rattle.std.specs.Prelude.{ℕ, zero, suc, List, [], Result, Ok, Err}
+use Rattle.std.specs.Prelude.{ℕ, zero, suc, List, [], Option, None, Result, Ok, Err}
 use Rattle.avs_tree.specs.Tree.{Block}
 use Rattle.avs_values.specs.Values.{Text}
 use Rattle.avs_values.specs.declared.value.Value.{Value}
 use Rattle.avs_values.specs.declared.value.Value.TheVariants as v
 use Rattle.clip_graph.specs.Plan.{Application}
+use Rattle.mt_modes.specs.Modes.{no_modes}
+use Rattle.avs_meaning.specs.Crews.{Numbers}
 use Rattle.avs_meaning.specs.Faults.{Fault, script}
 use Rattle.avs_meaning.specs.Filters.{info_of}
 use Rattle.avs_meaning.specs.Outside.{Outside}
@@ -30,7 +32,16 @@ abbrev pub step_limit : ℕ
 step_limit = 1000000
 
 abbrev pub start : State
-start = record { env = []; globals = []; functions = []; plan = []; opened = []; units = step_limit }
+start = record {
+  env = [];
+  globals = [];
+  functions = [];
+  modes = no_modes;
+  crew = None;
+  plan = [];
+  opened = [];
+  units = step_limit;
+}
 
 -- the place of a clip, which must be there
 abbrev pub clip_or_not : Text → ℕ → Value → Run ℕ
@@ -47,12 +58,12 @@ executed outside here text =
     load outside here text >>= (λ loaded. to_clip outside here loaded.tree.statements loaded.last_line)
 
 pub data Meaning : Type 0 where
-  -- the clip at a place of a plan
-  clip : List Application → ℕ → Meaning
+  -- the clip at a place of a plan, and what the last call of Prefetch asked for
+  clip : List Application → ℕ → Option Numbers → Meaning
   wrong : Fault → Meaning
 
 abbrev pub meaning_by : Outcome ℕ → Meaning
-meaning_by (Ok ended) = clip ended.1.plan ended.0
+meaning_by (Ok ended) = clip ended.1.plan ended.0 ended.1.crew
 meaning_by (Err fault) = wrong fault
 
 -- a text as the script of this name

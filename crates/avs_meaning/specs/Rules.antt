@@ -1,7 +1,7 @@
 -- What scripts do, by rules: each says what follows in one case (AviSynth+ wiki, 'Grammar' and "Control structures").
 -- Nothing bounds the turns of a loop but the units that they cost. Expressions.antt and Statements.antt say the same by
 -- functions: each start has the one outcome that these give (RuleLaws.antt).
-use Rattle.std.specs.Prelude.{◌≡◌, ℕ, zero, suc, ℤ, pos, List, [], ◌∷◌, ◌++◌, Bool, true, false, Option, Some, None, Ok, Err}
+use Rattle.std.specs.Prelude.{◌≡◌, ℕ, zero, suc, ℤ, pos, List, [], ◌∷◌, ◌++◌, map, Bool, true, false, Option, Some, None, Ok, Err}
 use Rattle.avs_tree.specs.Loaded.{Loaded}
 use Rattle.avs_tree.specs.Tree.{Expr, int, bool, str, name, call, method_calls, minus, not_, chain, compare, conditional, group, Args, no_args, arg, MethodCalls, no_method_calls, method, method_call, Steps, no_steps, step, Kind, global, assign, return, if_, while, for, value, Arms, no_arms, arm, Else, no_else, else_, Block, no_more, then_}
 use Rattle.avs_tree.specs.declared.tree.Operator.{Operator}
@@ -18,10 +18,11 @@ use Rattle.clip_term.specs.declared.filter.Filter.{Filter}
 use Rattle.avs_meaning.specs.Calls.{Callee, user, builtin, callee, takes, fit_or_last, unnamed, last_name, parameters}
 use Rattle.avs_meaning.specs.Expressions.{eval_name, told}
 use Rattle.avs_meaning.specs.Faults.{Fault, script}
-use Rattle.avs_meaning.specs.Filters.{filtered}
+use Rattle.avs_meaning.specs.Filters.{filtered, ranged}
 use Rattle.avs_meaning.specs.Loops.{Flow, on, back, ends, is_past, advance, numbers}
 use Rattle.avs_meaning.specs.Operators.{placed, truth, prefixed, compared, combined}
 use Rattle.avs_meaning.specs.Outside.{Outside}
+use Rattle.avs_meaning.specs.Settings.{set_mode, prefetch}
 use Rattle.avs_meaning.specs.State.{State, Defined, Outcome, and_then, ◌>>◌, pure, lifted, spend, lookup, with, variable, set, set_global}
 use Rattle.avs_meaning.specs.Statements.{sets_last, settled}
 use Rattle.avs_meaning.specs.Texts.{load_short}
@@ -208,6 +209,19 @@ module _ (outside : Outside) where
           → Performs n here s (builtin (b.Clip function)) sig args line (told here function args.values line s)
       performs_filter : {n line sig : ℕ} {here : Text} {s : State} {filter : Filter} {args : Bound}
           → Performs n here s (builtin (b.Filter filter)) sig args line (filtered here outside filter sig args line s)
+      performs_set_mode : {n line sig : ℕ} {here : Text} {s : State} {args : Bound}
+          → Performs n here s (builtin b.SetFilterMTMode) sig args line (set_mode here args.values line s)
+      performs_prefetch : {n line sig : ℕ} {here : Text} {s : State} {args : Bound}
+          → Performs n here s (builtin b.Prefetch) sig args line (prefetch here args.values line s)
+      -- ApplyRange calls a function by its name, with its clip first.
+      performs_range : {n line sig i : ℕ} {here word : Text} {s : State} {first last : ℤ} {args : Bound} {c : Callee}
+          {out : Outcome Value}
+          → args.values ≡ v.Clip i ∷ v.Int first ∷ v.Int last ∷ v.Text word ∷ [] → callee word s.functions ≡ Some c
+          → Applies n here s c (map unnamed (v.Clip i ∷ args.rest)) None line out
+          → Performs n here s (builtin b.ApplyRange) sig args line (and_then out (ranged here i first last line))
+      range_unknown : {n line sig i : ℕ} {here word : Text} {s : State} {first last : ℤ} {args : Bound}
+          → args.values ≡ v.Clip i ∷ v.Int first ∷ v.Int last ∷ v.Text word ∷ [] → callee word s.functions ≡ None
+          → Performs n here s (builtin b.ApplyRange) sig args line (Err (script k.UnknownName here line))
       performs_user : {n line sig : ℕ} {here : Text} {s : State} {d : Defined} {args : Bound} {out : Outcome Value}
           → Executes n d.text (entered d args s) d.function.body v.Undefined out
           → Performs (suc n) here s (user d) sig args line (left s out)

@@ -1,5 +1,5 @@
 -- What the filters take (AviSynth+ wiki, "Internal filters").
-use Rattle.std.specs.Prelude.{ℕ, zero, suc, List, [], ◌∷◌, ◌++◌, map, codes, Option, Some, None}
+use Rattle.std.specs.Prelude.{ℕ, zero, suc, List, [], ◌∷◌, ◌++◌, map, codes, Some, None}
 use Rattle.avs_values.specs.Binding.{Signature}
 use Rattle.avs_values.specs.Functions.{required, optional}
 use Rattle.avs_values.specs.Values.{Text}
@@ -70,6 +70,10 @@ abbrev pub limiter : Signature
 limiter =
     only (numbered 0 (codes "min_luma" ∷ codes "max_luma" ∷ codes "min_chroma" ∷ codes "max_chroma" ∷ []))
 
+abbrev pub convolution : Signature
+convolution =
+    only (required k.Clip ∷ optional k.Int (codes "bias") ∷ optional k.Text (codes "matrix") ∷ [])
+
 abbrev pub filter_signatures : Filter → List Signature
 filter_signatures f.Y4MSource = one k.Text ∷ []
 filter_signatures f.BlankClip = blank ∷ blank_like ∷ []
@@ -96,8 +100,18 @@ filter_signatures f.Merge = two_clips ∷ []
 filter_signatures f.MergeLuma = two_clips ∷ []
 filter_signatures f.MergeChroma = two_clips ∷ []
 filter_signatures f.YToUV = three_clips ∷ []
--- not built
-filter_signatures f.ApplyRange = []
-filter_signatures f.TemporalSoften = []
-filter_signatures f.GeneralConvolution = []
+filter_signatures f.TemporalSoften = only (numbered 3 []) ∷ []
+filter_signatures f.GeneralConvolution = convolution ∷ []
 filter_signatures _ = one k.Clip ∷ []
+
+-- ---- other functions
+
+-- a clip, the range, the name of a function, and what that takes beside the clip
+abbrev pub apply_range : Signature
+apply_range = record { params = clip_and_numbers 2 ++ required k.Text ∷ []; rest = Some k.Val; least = 0 }
+
+abbrev pub set_mode : Signature
+set_mode = only (required k.Text ∷ required k.Int ∷ optional k.Bool (codes "force") ∷ [])
+
+abbrev pub prefetch : Signature
+prefetch = only (numbered 1 (codes "frames" ∷ []))

@@ -4,6 +4,8 @@ use Rattle.avs_tree.specs.Tree as tree
 use Rattle.avs_values.specs.Values.{Text, same}
 use Rattle.avs_values.specs.declared.value.Value.{Value}
 use Rattle.clip_graph.specs.Plan.{Application}
+use Rattle.mt_modes.specs.Modes.{Modes}
+use Rattle.avs_meaning.specs.Crews.{Numbers}
 use Rattle.avs_meaning.specs.Faults.{Fault, script}
 use Rattle.avs_meaning.specs.declared.fault.ScriptKind.{ScriptKind}
 use Rattle.avs_meaning.specs.declared.fault.ScriptKind.TheVariants as k
@@ -24,6 +26,10 @@ pub record State : Type 0 where
   pub env : Env
   pub globals : Env
   pub functions : List Defined
+  -- the modes that were set for filters
+  pub modes : Modes
+  -- what the last call of Prefetch asked for
+  pub crew : Option Numbers
   pub plan : List Application
   -- the clips that were opened, in order
   pub opened : List SourceClip

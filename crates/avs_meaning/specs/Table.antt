@@ -9,7 +9,7 @@ use Rattle.avs_values.specs.declared.value.Kind.TheVariants as k
 use Rattle.clip_term.specs.Filters as filters
 use Rattle.clip_term.specs.declared.filter.Filter.{Filter}
 use Rattle.clip_term.specs.declared.filter.Filter.TheVariants as f
-use Rattle.avs_meaning.specs.Signatures.{one, filter_signatures}
+use Rattle.avs_meaning.specs.Signatures.{one, filter_signatures, apply_range, set_mode, prefetch}
 use Rattle.avs_meaning.specs.declared.builtin.Builtin.{Builtin}
 use Rattle.avs_meaning.specs.declared.builtin.Builtin.TheVariants as b
 use Rattle.avs_meaning.specs.declared.builtin.ClipFn.{ClipFn}
@@ -36,6 +36,9 @@ name_of (b.Plain function) = plain.name function
 name_of (b.Clip function) = clip_fn_name function
 name_of b.Eval = codes "Eval"
 name_of b.Import = codes "Import"
+name_of b.SetFilterMTMode = codes "SetFilterMTMode"
+name_of b.Prefetch = codes "Prefetch"
+name_of b.ApplyRange = filters.name_of f.ApplyRange
 name_of (b.Filter filter) = filters.name_of filter
 
 -- ---- signatures
@@ -46,6 +49,9 @@ signatures (b.Plain function) = plain.signature function ∷ []
 signatures (b.Clip function) = one k.Clip ∷ []
 signatures b.Eval = one k.Text ∷ []
 signatures b.Import = one k.Text ∷ []
+signatures b.SetFilterMTMode = set_mode ∷ []
+signatures b.Prefetch = prefetch ∷ []
+signatures b.ApplyRange = apply_range ∷ []
 signatures (b.Filter filter) = filter_signatures filter
 
 -- ---- the table
@@ -83,13 +89,20 @@ abbrev pub filters_that_join : List Filter
 filters_that_join =
     f.StackHorizontal ∷ f.StackVertical ∷ f.Merge ∷ f.MergeLuma ∷ f.MergeChroma ∷ f.YToUV ∷ []
 
--- the filters that are built
-abbrev pub built_filters : List Filter
-built_filters = f.Y4MSource ∷ f.BlankClip ∷ filters_of_time ++ filters_of_space ++ filters_that_join
+abbrev pub filters_that_mix : List Filter
+filters_that_mix = f.TemporalSoften ∷ f.GeneralConvolution ∷ []
+
+-- all but ApplyRange, which calls a function
+abbrev pub plain_filters : List Filter
+plain_filters = f.Y4MSource ∷ f.BlankClip ∷ filters_of_time ++ filters_of_space ++ filters_that_join ++ filters_that_mix
+
+-- the functions that need more than a clip's info or a filter
+abbrev pub calling_functions : List Builtin
+calling_functions = b.Eval ∷ b.Import ∷ b.SetFilterMTMode ∷ b.Prefetch ∷ b.ApplyRange ∷ []
 
 unfoldable pub builtins : List Builtin
 builtins =
-    b.Eval ∷ b.Import ∷ map b.Filter built_filters ++ map b.Clip clip_functions ++ map b.Plain numeric_functions
+    calling_functions ++ map b.Filter plain_filters ++ map b.Clip clip_functions ++ map b.Plain numeric_functions
     ++ map b.Plain text_functions ++ map b.Plain other_functions
 
 -- Greyscale has two spellings.

@@ -1,5 +1,5 @@
 -- A text that is to be executed: its tree, and what is done before its first statement.
-use Rattle.std.specs.Prelude.{ℕ, nat_le, length, Option, Some, None, Result, Ok, Err, if◌then◌else◌}
+use Rattle.std.specs.Prelude.{ℕ, nat_le, length, Result, Ok, Err, if◌then◌else◌}
 use Rattle.avs_tree.specs.Loaded.{Loaded, NoTree, lexical, refused}
 use Rattle.avs_values.specs.Outcome.{text_limit}
 use Rattle.avs_values.specs.Values.{Text}
@@ -7,21 +7,15 @@ use Rattle.avs_meaning.specs.Faults.{Fault, script}
 use Rattle.avs_meaning.specs.Faults as fault
 use Rattle.avs_meaning.specs.Outside.{Outside}
 use Rattle.avs_meaning.specs.State.{Run, ◌>>◌, pure, fails, define_all}
-use Rattle.avs_meaning.specs.Unbuilt.{first_unbuilt}
 use Rattle.avs_meaning.specs.declared.fault.ScriptKind.TheVariants as k
 
 abbrev pub no_tree : Text → NoTree → Fault
 no_tree here (lexical kind line) = script (k.Lex kind) here line
 no_tree here refused = fault.refused here
 
-abbrev pub all_built : Option ℕ → Text → Run (Unit {0})
-all_built (Some line) here = fails k.Unbuilt here line
-all_built None here = pure tt
-
 abbrev pub loaded_by : Result Loaded NoTree → Text → Run Loaded
 loaded_by (Err why) here = λ s. Err (no_tree here why)
-loaded_by (Ok loaded) here =
-    all_built (first_unbuilt loaded.tree) here >> define_all loaded.tree.functions here >> pure loaded
+loaded_by (Ok loaded) here = define_all loaded.tree.functions here >> pure loaded
 
 -- The text of this name is read, and its functions are added.
 abbrev pub load : Outside → Text → Text → Run Loaded

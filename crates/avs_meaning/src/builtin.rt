@@ -1,4 +1,4 @@
-// The functions of the language that are built, by name.
+// The functions of the language, by name.
 ghost use Rattle.std.specs.Prelude.{◌≡◌};
 ghost use Rattle.avs_meaning.specs.Table.{clip_fn_name, name_of};
 
@@ -49,6 +49,10 @@ pub enum Builtin {
     Clip(ClipFn),
     Eval,
     Import,
+    SetFilterMTMode,
+    Prefetch,
+    /// The one filter that calls a function, and so none of `Filter`.
+    ApplyRange,
     Filter(Filter),
 }
 
@@ -62,6 +66,9 @@ impl Builtin {
             Builtin::Clip(function) => function.name(),
             Builtin::Eval => "Eval",
             Builtin::Import => "Import",
+            Builtin::SetFilterMTMode => "SetFilterMTMode",
+            Builtin::Prefetch => "Prefetch",
+            Builtin::ApplyRange => Filter::ApplyRange.name(),
             Builtin::Filter(filter) => filter.name(),
         }
     }

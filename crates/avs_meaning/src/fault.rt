@@ -83,8 +83,10 @@ pub enum ScriptKind {
     NodeLimit,
     /// More than 512 filters stand one on another.
     DepthLimit,
-    /// A filter or a function that isn't built yet.
-    Unbuilt,
+    /// `SetFilterMTMode` of a mode that is not 1, 2 or 3.
+    ModeRefused,
+    /// `Prefetch` of more than 16 workers or 32 frames, or fewer than 1.
+    PrefetchRange,
 }
 
 impl ScriptKind {
@@ -116,7 +118,8 @@ impl ScriptKind {
             ScriptKind::CallDepth => "CallDepth",
             ScriptKind::NodeLimit => "NodeLimit",
             ScriptKind::DepthLimit => "DepthLimit",
-            ScriptKind::Unbuilt => "Unbuilt",
+            ScriptKind::ModeRefused => "ModeRefused",
+            ScriptKind::PrefetchRange => "PrefetchRange",
         }
     }
 }

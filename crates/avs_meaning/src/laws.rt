@@ -14,7 +14,7 @@ pub fn names_differ()
     ensures { NamesDiffer }
 {}
 
-/// Each filter is built, or its name is among those that aren't.
+/// Each filter is called by its name.
 #[tactic(auto, using(crate::proofs::FilterLemmas::filters_are_known))]
 pub fn filters_are_known()
     ensures { FiltersAreKnown }

@@ -6,21 +6,21 @@
 #![tactic(auto)]
 
 mod builtin;
+mod crew;
 mod fault;
 pub mod laws;
 mod state;
 mod stop;
 mod table;
 mod takes;
-mod unbuilt;
 
 pub use builtin::{Builtin, ClipFn};
+pub use crew::Crew;
 pub use fault::{FileKind, InputFault, ScriptKind};
 pub use state::{SourceClip, Variable};
 pub use stop::Stop;
 pub use table::{Row, Table};
 pub use takes::signatures;
-pub use unbuilt::is_unbuilt;
 
 #[cfg(test)]
 mod tests;

@@ -10,9 +10,12 @@ use clip_term::Filter;
 use std::alloc::{AllocError, Global};
 use std::marker::Model;
 
-const BUILTINS: [Builtin; 85] = [
+const BUILTINS: [Builtin; 90] = [
     Builtin::Eval,
     Builtin::Import,
+    Builtin::SetFilterMTMode,
+    Builtin::Prefetch,
+    Builtin::ApplyRange,
     Builtin::Filter(Filter::Y4MSource),
     Builtin::Filter(Filter::BlankClip),
     Builtin::Filter(Filter::Trim),
@@ -51,6 +54,8 @@ const BUILTINS: [Builtin; 85] = [
     Builtin::Filter(Filter::MergeLuma),
     Builtin::Filter(Filter::MergeChroma),
     Builtin::Filter(Filter::YToUV),
+    Builtin::Filter(Filter::TemporalSoften),
+    Builtin::Filter(Filter::GeneralConvolution),
     Builtin::Clip(ClipFn::Width),
     Builtin::Clip(ClipFn::Height),
     Builtin::Clip(ClipFn::FrameCount),

@@ -138,6 +138,48 @@ fn invert(alloc: Global) -> Result<Signature, AllocError>
     Ok(taken)
 }
 
+fn convolution(alloc: Global) -> Result<Signature, AllocError>
+    ensures { IfOk result (λ made. signature_view made ≡ d.convolution) }
+{
+    let mut taken = one(alloc, Kind::Clip)?;
+    let bias = Param::optional(alloc, Kind::Int, "bias")?;
+    taken.params.push(bias)?;
+    let matrix = Param::optional(alloc, Kind::Text, "matrix")?;
+    taken.params.push(matrix)?;
+    Ok(taken)
+}
+
+// What `ApplyRange` takes.
+fn apply_range(alloc: Global) -> Result<Signature, AllocError>
+    ensures { IfOk result (λ made. signature_view made ≡ d.apply_range) }
+{
+    let mut params = clip_and_numbers(alloc, 2)?;
+    params.push(Param::required(alloc, Kind::Text)?)?;
+    Ok(Signature {
+        params,
+        rest: Some(Kind::Val),
+        least: 0,
+    })
+}
+
+// What `SetFilterMTMode` takes.
+fn set_mode(alloc: Global) -> Result<Signature, AllocError>
+    ensures { IfOk result (λ made. signature_view made ≡ d.set_mode) }
+{
+    let mut params = Vec::new(alloc);
+    params.push(Param::required(alloc, Kind::Text)?)?;
+    params.push(Param::required(alloc, Kind::Int)?)?;
+    params.push(Param::optional(alloc, Kind::Bool, "force")?)?;
+    Ok(only(params))
+}
+
+// What `Prefetch` takes.
+fn prefetch(alloc: Global) -> Result<Signature, AllocError>
+    ensures { IfOk result (λ made. signature_view made ≡ d.prefetch) }
+{
+    numbered(alloc, 1, &["frames"])
+}
+
 fn limiter(alloc: Global) -> Result<Signature, AllocError>
     ensures { IfOk result (λ made. signature_view made ≡ d.limiter) }
 {
@@ -168,12 +210,10 @@ fn of_filter(alloc: Global, filter: Filter) -> Result<Vec<Signature>, AllocError
 {
     match filter {
         Filter::BlankClip => blank_clip(alloc),
-        Filter::ApplyRange | Filter::TemporalSoften | Filter::GeneralConvolution => {
-            Ok(Vec::new(alloc))
-        }
         Filter::Y4MSource => alone(alloc, one(alloc, Kind::Text)?),
         Filter::Trim => alone(alloc, numbered(alloc, 1, &["last", "length", "end"])?),
-        Filter::FreezeFrame => alone(alloc, numbered(alloc, 3, &[])?),
+        Filter::FreezeFrame | Filter::TemporalSoften => alone(alloc, numbered(alloc, 3, &[])?),
+        Filter::GeneralConvolution => alone(alloc, convolution(alloc)?),
         Filter::SelectEvery => alone(alloc, listed(alloc, 1)?),
         Filter::Loop => alone(alloc, numbered(alloc, 1, &["start", "end"])?),
         Filter::DuplicateFrame | Filter::DeleteFrame => alone(alloc, listed(alloc, 0)?),
@@ -206,6 +246,9 @@ pub fn signatures(alloc: Global, builtin: Builtin) -> Result<Vec<Signature>, All
         Builtin::Plain(function) => alone(alloc, signature(alloc, function)?),
         Builtin::Clip(_) => alone(alloc, one(alloc, Kind::Clip)?),
         Builtin::Eval | Builtin::Import => alone(alloc, one(alloc, Kind::Text)?),
+        Builtin::SetFilterMTMode => alone(alloc, set_mode(alloc)?),
+        Builtin::Prefetch => alone(alloc, prefetch(alloc)?),
+        Builtin::ApplyRange => alone(alloc, apply_range(alloc)?),
         Builtin::Filter(filter) => of_filter(alloc, filter),
     }
 }

@@ -40,7 +40,12 @@ fn finds_functions_in_any_case(rt: HostRuntime) -> Result<(), Fail> {
         found(&table, "grayscale"),
         Some((Builtin::Filter(Filter::Greyscale), 1))
     );
-    assert_eq!(rt; found(&table, "TemporalSoften"), None);
+    assert_eq!(rt;
+        found(&table, "temporalsoften"),
+        Some((Builtin::Filter(Filter::TemporalSoften), 4))
+    );
+    assert_eq!(rt; found(&table, "ApplyRange"), Some((Builtin::ApplyRange, 4)));
+    assert_eq!(rt; found(&table, "NoSuchFilter"), None);
     assert_eq!(rt; found(&table, ""), None);
     Ok(())
 }

@@ -1,20 +1,22 @@
 // The state of a run.
-ghost use Rattle.std.specs.Prelude.{◌≡◌, ◌∷◌, ◌++◌, ◌<◌, [], length, map, IfOk, Ok, OnOk, option_map};
+ghost use Rattle.std.specs.Prelude.{◌≡◌, Some, ◌∷◌, ◌++◌, ◌<◌, [], length, map, IfOk, Ok, OnOk, option_map};
 ghost use Rattle.std.specs.List.{All};
 ghost use Rattle.fv_plane.specs.Info.{IsLawful};
 ghost use Rattle.avs_tree.specs.View.{function_view};
 ghost use Rattle.clip_term.specs.ClipTerm.{act_of};
 ghost use Rattle.clip_term.specs.Terms.{IsSound, check};
-ghost use Rattle.clip_graph.specs.Plan.{IsMode, IsCounted, infos_among, sources_in};
+ghost use Rattle.clip_graph.specs.Plan.{IsCounted, IsMode, infos_among, sources_in};
+ghost use Rattle.mt_modes.specs.Modes.{mode_in};
 ghost use Rattle.avs_meaning.specs.Filters as f;
 ghost use Rattle.avs_meaning.specs.Meaning as m;
+ghost use Rattle.avs_meaning.specs.Settings as w;
 ghost use Rattle.avs_meaning.specs.State as d;
 ghost use Rattle.avs_state.specs.Answers.{Gives};
 ghost use Rattle.avs_state.specs.States.{state_of, defined_view};
 
 use crate::variables::{set_in, value_in};
 use crate::{ByName, Definition, fault_at};
-use avs_meaning::{ScriptKind, SourceClip, Stop, Variable};
+use avs_meaning::{Crew, ScriptKind, SourceClip, Stop, Variable};
 use avs_tree::Function;
 use avs_values::Value;
 use clip_check::check;
@@ -22,16 +24,19 @@ use clip_graph::{Graph, GraphFault};
 use clip_term::{Filter, Op};
 use fv_io::Text;
 use fv_plane::Info;
+use mt_modes::{ModeFault, ModeTable};
 use std::alloc::{AllocError, Global};
 use std::rc::Rc;
 
-/// The state of a run: variables, functions, the graph of the clips, the sources that were opened, and the units that are
-/// left.
+/// The state of a run: variables, functions, the modes that were set, the workers that were asked for, the graph of the
+/// clips, the sources that were opened, and the units that are left.
 #[derive(Drop)]
 pub struct Machine {
     env: ByName<Variable>,
     globals: ByName<Variable>,
     functions: ByName<Rc<Definition>>,
+    modes: ModeTable,
+    crew: Option<Crew>,
     plan: Graph,
     opened: Vec<SourceClip>,
     units: u32,
@@ -57,14 +62,6 @@ fn infos_among(alloc: Global, plan: &Graph, inputs: &[u32]) -> Result<Vec<Info>,
     Ok(infos)
 }
 
-// The mode of a filter that no call has set.
-fn mode_of(filter: Filter) -> u8
-    ensures mode { result ≡ f.mode_of filter }
-    ensures is_mode { IsMode result }
-{
-    filter.declared().unwrap_or(2)
-}
-
 impl Machine {
     /// The state at the start. It allocates nothing.
     #[tactic(auto, unfolding(crate::specs::States::state_of))]
@@ -75,10 +72,20 @@ impl Machine {
             env: ByName::new(alloc),
             globals: ByName::new(alloc),
             functions: ByName::new(alloc),
+            modes: ModeTable::new(alloc),
+            crew: None,
             plan: Graph::new(alloc),
             opened: Vec::new(alloc),
             units: 1_000_000,
         }
+    }
+
+    /// The workers that the last call of `Prefetch` asked for.
+    #[tactic(auto, unfolding(crate::specs::States::state_of))]
+    pub fn crew(&self) -> Option<Crew>
+        ensures { result ≡ (state_of self.now).crew }
+    {
+        self.crew
     }
 
     /// The graph of the clips.
@@ -268,7 +275,8 @@ impl Machine {
         line: u32,
     ) -> Result<Value, Stop>
         requires sound { IsSound (act_of op) (length inputs.now) }
-        requires counted { IsCounted (act_of op) (sources_in (state_of self.old).plan) (f.mode_of filter) }
+        requires counted { IsCounted (act_of op) (sources_in (state_of self.old).plan)
+            (mode_in (state_of self.old).modes filter) }
         ensures gives { Gives (λ v. v) (f.made here.now filter (act_of op) inputs.now line (state_of self.old)) result
             (state_of self.new) }
         ensures opened { (state_of self.new).opened ≡ (state_of self.old).opened }
@@ -278,9 +286,45 @@ impl Machine {
         }
         let infos = infos_among(alloc, &self.plan, inputs)?;
         match check(&op, &infos) {
-            Ok(info) => self.add(alloc, op, inputs, info, mode_of(filter), here, line),
+            Ok(info) => {
+                let mode = self.modes.mode_for(filter);
+                self.add(alloc, op, inputs, info, mode, here, line)
+            }
             Err(fault) => Err(fault_at(alloc, ScriptKind::Filter(fault), here, line)),
         }
+    }
+
+    /// `SetFilterMTMode` of a mode for the filter of a name, at a line of the text of this name.
+    #[tactic(auto, unfolding(crate::specs::States::state_of))]
+    pub fn set_mode(
+        &mut self,
+        alloc: Global,
+        name: &Text,
+        mode: i32,
+        force: bool,
+        here: &Text,
+        line: u32,
+    ) -> Result<Value, Stop>
+        ensures gives { Gives (λ v. v) (w.set_mode_of here.now name.now mode force line (state_of self.old)) result
+            (state_of self.new) }
+        ensures opened { (state_of self.new).opened ≡ (state_of self.old).opened }
+        ensures plan { (state_of self.new).plan ≡ (state_of self.old).plan }
+    {
+        match self.modes.set(name, mode, force) {
+            Ok(()) => Ok(Value::Undefined),
+            Err(ModeFault::ModeRefused) => {
+                Err(fault_at(alloc, ScriptKind::ModeRefused, here, line))
+            }
+            Err(ModeFault::Memory) => Err(Stop::Memory),
+        }
+    }
+
+    /// Keeps the workers that a call of `Prefetch` asks for.
+    #[tactic(auto, unfolding(crate::specs::States::state_of))]
+    pub fn set_crew(&mut self, crew: Crew)
+        ensures { state_of self.new ≡ record (state_of self.old) { crew = Some crew } }
+    {
+        self.crew = Some(crew);
     }
 
     // Lists a clip that was opened.

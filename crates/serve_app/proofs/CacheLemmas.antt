@@ -40,11 +40,14 @@ among (word ∷ other ∷ rest) cache is = absurd (cc)
 
 by_options : (values : Text → List Text) (options : RenderOptions) → options_with values ≡ Some options → 0 < cache_of options.cache
 by_options values options is =
-    let cache = of_and_then (λ cache. option_and_then (λ threads. option_map (λ plain. record { cache = cache; threads = threads; plain = plain }) (flag_among (values (codes "plain")))) (number_among 1 16 (values (codes "threads")))) (number_among 1 256 (values (codes "cache"))) options is in
-    let threads = of_and_then (λ threads. option_map (λ plain. record { cache = cache.0; threads = threads; plain = plain }) (flag_among (values (codes "plain")))) (number_among 1 16 (values (codes "threads"))) options cache.1.1 in
-    let plain = of_map (λ plain. record { cache = cache.0; threads = threads.0; plain = plain }) (flag_among (values (codes "plain"))) options threads.1.1 in
+    let plains = flag_among (values (codes "plain")) in
+    let reports = flag_among (values (codes "report")) in
+    let cache = of_and_then (λ cache. option_and_then (λ threads. option_and_then (λ plain. option_map (λ report. record { cache = cache; threads = threads; plain = plain; report = report }) reports) plains) (number_among 1 16 (values (codes "threads")))) (number_among 1 256 (values (codes "cache"))) options is in
+    let threads = of_and_then (λ threads. option_and_then (λ plain. option_map (λ report. record { cache = cache.0; threads = threads; plain = plain; report = report }) reports) plains) (number_among 1 16 (values (codes "threads"))) options cache.1.1 in
+    let plain = of_and_then (λ plain. option_map (λ report. record { cache = cache.0; threads = threads.0; plain = plain; report = report }) reports) plains options threads.1.1 in
+    let report = of_map (λ report. record { cache = cache.0; threads = threads.0; plain = plain.0; report = report }) reports options plain.1.1 in
     let held : 0 < cache_of cache.0 = among (values (codes "cache")) cache.0 cache.1.0 in
-    subst (λ (o : RenderOptions). 0 < cache_of o.cache) plain.1.1 held
+    subst (λ (o : RenderOptions). 0 < cache_of o.cache) report.1.1 held
 
 by_render : (values : Text → List Text) (command : Command) → render_with values ≡ Some command → HasCache command
 by_render values command is =

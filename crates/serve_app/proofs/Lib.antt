@@ -4,6 +4,5 @@ mod MeaningLemmas
 mod PickLemmas
 mod PlayLemmas
 mod RunLemmas
-mod SayLemmas
 mod StreamLemmas
 mod TextLemmas

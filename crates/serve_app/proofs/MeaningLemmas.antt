@@ -1,5 +1,5 @@
 -- A script means one thing at most.
-use Rattle.std.proofs.Common.{◌≡◌, ◌∙◌, ℕ, zero, suc, ◌<◌, arith, List, [], ◌∷◌, length, get_or, slice_get, Some, refl, sym, ap}
+use Rattle.std.proofs.Common.{None, Option, ◌≡◌, ◌∙◌, ℕ, zero, suc, ◌<◌, arith, List, [], ◌∷◌, length, get_or, slice_get, Some, refl, sym, ap}
 use Rattle.fv_io.specs.World.{World}
 use Rattle.fv_plane.specs.Clip.{Clip}
 use Rattle.fv_plane.specs.Picture.{Picture}
@@ -7,6 +7,7 @@ use Rattle.y4m_stream.proofs.CallerLemmas.{reads_one_way}
 use Rattle.clip_graph.specs.Plan.{Application}
 use Rattle.prefetch.specs.Clips.{clip_at}
 use Rattle.avs_meaning.specs.Meaning as m
+use Rattle.avs_meaning.specs.Crews.{Numbers}
 use Rattle.avs_meaning.specs.declared.state.SourceClip.{SourceClip}
 use Rattle.avs_expressions.specs.Sources.{sources_of}
 use Rattle.avs_files.specs.Opened.{IsFileOf}
@@ -44,32 +45,40 @@ one_book world sources one other a b =
     same_pictures world item.0.name (get_or one k []) (get_or other k []) (a.each k item.0 item.1) (b.each k item.0 item.1)))
 
 plan_of : m.Meaning → List Application → List Application
-plan_of (m.clip plan root) other = plan
+plan_of (m.clip plan root crew) other = plan
 plan_of (m.wrong fault) other = other
 
 root_of : m.Meaning → ℕ
-root_of (m.clip plan root) = root
+root_of (m.clip plan root crew) = root
 root_of (m.wrong fault) = 0
 
-pub same_plan : (one other : List Application) (i j : ℕ) → m.clip one i ≡ m.clip other j → one ≡ other
+pub same_plan : (one other : List Application) (i j : ℕ) (x y : Option Numbers) → m.clip one i x ≡ m.clip other j y → one ≡ other
 unfolding plan_of
-same_plan one other i j is = ap (λ x. plan_of x []) is
+same_plan one other i j x y is = ap (λ x. plan_of x []) is
 
-pub same_root : (one other : List Application) (i j : ℕ) → m.clip one i ≡ m.clip other j → i ≡ j
+pub same_root : (one other : List Application) (i j : ℕ) (x y : Option Numbers) → m.clip one i x ≡ m.clip other j y → i ≡ j
 unfolding root_of
-same_root one other i j is = ap root_of is
+same_root one other i j x y is = ap root_of is
+
+crew_of : m.Meaning → Option Numbers
+crew_of (m.clip plan root crew) = crew
+crew_of (m.wrong fault) = None
+
+pub same_crew : (one other : List Application) (i j : ℕ) (x y : Option Numbers) → m.clip one i x ≡ m.clip other j y → x ≡ y
+unfolding crew_of
+same_crew one other i j x y is = ap crew_of is
 
 one_clip : (world : World) (name : List ℕ) (one other : Clip) → MeansClip world name one → MeansClip world name other → one ≡ other
 one_clip world name one other a b =
     let same = sym a.means ∙ b.means in
-    let plan = same_plan a.plan b.plan a.root b.root same in
-    let root = same_root a.plan b.plan a.root b.root same in
+    let plan = same_plan a.plan b.plan a.root b.root a.crew b.crew same in
+    let root = same_root a.plan b.plan a.root b.root a.crew b.crew same in
     let first : IsBookOf world (sources_of b.plan) a.book = rw plan at a.is_book in
     let book = one_book world (sources_of b.plan) a.book b.book first b.is_book in
     a.clip_is ∙ ap (λ p. clip_at a.book p a.root) plan ∙ ap (λ i. clip_at a.book b.plan i) root ∙ ap (λ l. clip_at l b.plan b.root) book ∙ sym b.clip_is
 
 pub means_one_thing : MeansOneThing
 means_one_thing world name (a_clip one) (a_clip other) a b = ap a_clip (one_clip world name one other a b)
-means_one_thing world name (a_clip one) (a_fault fault) a b = let no : m.clip a.plan a.root ≡ m.wrong fault = sym a.means ∙ b in cc no
-means_one_thing world name (a_fault fault) (a_clip other) a b = let no : m.clip b.plan b.root ≡ m.wrong fault = sym b.means ∙ a in cc no
+means_one_thing world name (a_clip one) (a_fault fault) a b = let no : m.clip a.plan a.root a.crew ≡ m.wrong fault = sym a.means ∙ b in cc no
+means_one_thing world name (a_fault fault) (a_clip other) a b = let no : m.clip b.plan b.root b.crew ≡ m.wrong fault = sym b.means ∙ a in cc no
 means_one_thing world name (a_fault one) (a_fault other) a b = let same : m.wrong one ≡ m.wrong other = sym a ∙ b in cc

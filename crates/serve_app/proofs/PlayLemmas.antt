@@ -1,5 +1,5 @@
 -- A clip that was put, and what a script means.
-use Rattle.std.proofs.Common.{◌≡◌, ◌∙◌, ◌≤◌, ℕ, zero, suc, arith, Bool, true, false, IsTrue, List, [], ◌∷◌, ◌++◌, length, map, get_or, slice_get, Option, Some, None, Result, Ok, Err, IfOk, OnOk, OnErr, refl, inl, inr, sym, ap, ap₂, subst}
+use Rattle.std.proofs.Common.{◌≡◌, ◌∙◌, ◌≤◌, ℕ, zero, suc, arith, Bool, true, false, IsTrue, List, [], ◌∷◌, ◌++◌, length, map, get_or, slice_get, Option, Some, None, Result, Ok, Err, IfOk, IfErr, OnOk, refl, inl, inr, sym, ap, ap₂, subst}
 use Rattle.std.proofs.lemmas.List.{take_all, length-map}
 use Rattle.std.proofs.lemmas.List.FromFn.{length-range_with_len}
 use Rattle.std.specs.List.{range_with_len}
@@ -24,6 +24,7 @@ use Rattle.clip_frames.specs.Sources.{AreSources, source_infos}
 use Rattle.inst_table.specs.declared.place.Place.{Place}
 use Rattle.inst_table.specs.declared.place.Slot.{Slot}
 use Rattle.graph_text.specs.InfoText.{info_text}
+use Rattle.avs_meaning.specs.Crews.{Numbers, workers, window}
 use Rattle.serve_events.specs.declared.windows.Record.{Record}
 use Rattle.serve_events.specs.Keys.{frame_key}
 use Rattle.serve_core.specs.Sources.{with_told, all_told}
@@ -37,18 +38,18 @@ use Rattle.avs_meaning.specs.declared.state.SourceClip.{SourceClip}
 use Rattle.avs_expressions.specs.Sources.{source_of, sources_of}
 use Rattle.avs_files.specs.Opened.{told_of, IsOpened, AreOpened}
 use Rattle.avs_files.proofs.CallerLemmas.{frames_of, has_clip, infos_listed}
-use Rattle.serve_app.specs.declared.fault.InputFault.TheVariants.{NotThere, Y4m, Changed}
-use Rattle.serve_app.specs.declared.stop.Stop.{Stop}
-use Rattle.serve_app.specs.declared.stop.Stop.TheVariants as of_stop
+use Rattle.serve_stops.specs.declared.fault.InputFault.TheVariants.{NotThere, Y4m, Changed}
+use Rattle.serve_stops.specs.declared.stop.Stop.{Stop}
+use Rattle.serve_stops.specs.declared.stop.Stop.TheVariants as of_stop
 use Rattle.serve_app.specs.Meaning.{meaning_in, HasPictures, IsBookOf, MeansClip}
 use Rattle.serve_app.specs.Info.{IsInfoOf, IsToldInfo, InfoShows}
 use Rattle.serve_app.specs.Clips.{book_told, IsClipOf, SomeFailed, PutsFrames, PutsSome, StreamShows}
 use Rattle.serve_app.specs.Closing.{CountsTable}
-use Rattle.serve_app.specs.Journals.{IsSerial, IsCutShort, CutsShort, IsPlanOf, IsScriptSerial, ScriptCuts}
-use Rattle.serve_app.specs.Playing.{Tells, EndsBefore, PutsClip, PutsInfo}
+use Rattle.serve_app.specs.Journals.{IsSerial, IsCutShort, CutsShort, IsPlanOf, IsScriptSerial, IsRunOf, ScriptCuts}
+use Rattle.serve_app.specs.Playing.{Tells, EndsBefore, PutsClip, PutsInfo, with_graph}
 use Rattle.serve_app.specs.Rendered.{PutsWholeFrames}
 use Rattle.serve_app.specs.Stop.{IsOfScript, ScriptHasClip, RenderShows}
-use Rattle.serve_app.proofs.MeaningLemmas.{same_plan, same_root}
+use Rattle.serve_app.proofs.MeaningLemmas.{same_plan, same_root, same_crew}
 
 -- ---- worlds that are told
 
@@ -140,13 +141,13 @@ module _ {S : Type 0} (of : of_source.Ghosts S) (told : Bool) (world : World) wh
 
 -- ---- the clip of a script
 
-module _ {S : Type 0} (of : of_source.Ghosts S) (told : Bool) (world : World) (script : List ℕ) (plan : List Application) (root : ℕ)
+module _ {S : Type 0} (of : of_source.Ghosts S) (told : Bool) (world : World) (script : List ℕ) (plan : List Application) (root : ℕ) (crew : Option Numbers)
     (listed : List SourceClip) (sources : List (FrameSource S)) (same : sources_of plan ≡ listed) (are : AreOpened of told world listed sources)
-    (means : IsTrue told → meaning_in world script ≡ m.clip plan root) where
+    (means : IsTrue told → meaning_in world script ≡ m.clip plan root crew) where
   a_clip_at : IsTrue told → (clip : Clip) × MeansClip world script clip
   a_clip_at tells =
       let book = a_book of told world listed sources are tells in
-      (clip_at book.0 plan root, record { plan = plan; root = root; means = means tells; book = book.0; is_book = subst (λ l. IsBookOf world l book.0) (sym same) book.1; clip_is = refl })
+      (clip_at book.0 plan root, record { plan = plan; root = root; crew = crew; means = means tells; book = book.0; is_book = subst (λ l. IsBookOf world l book.0) (sym same) book.1; clip_is = refl })
 
   pub has_one : ScriptHasClip (told_of told world) script
   has_one = in_told told world (λ w. (clip : Clip) × MeansClip w script clip) a_clip_at
@@ -154,8 +155,8 @@ module _ {S : Type 0} (of : of_source.Ghosts S) (told : Bool) (world : World) (s
   of_means : IsTrue told → (clip : Clip) → MeansClip world script clip → IsClipOf plan root (book_told of sources) clip
   of_means tells clip is =
       let both = sym is.means ∙ means tells in
-      let plans = same_plan is.plan plan is.root root both in
-      let roots = same_root is.plan plan is.root root both in
+      let plans = same_plan is.plan plan is.root root is.crew crew both in
+      let roots = same_root is.plan plan is.root root is.crew crew both in
       let book : IsBookOf world listed is.book = rw (ap sources_of plans ∙ same) at is.is_book in
       record {
         pictures = is.book;
@@ -195,20 +196,22 @@ module _ {S : Type 0} (of : of_source.Ghosts S) (told : Bool) (world : World) (s
         }))
 
     -- the text of the plan is what is known of the clip
-    told_info : (text : List ℕ) → text ≡ info_text plan root 1 1 → IsTrue told → IsInfoOf world script text
-    told_info text is tells = record { plan = plan; root = root; means = means tells; text_is = is }
+    told_info : (text : List ℕ) → text ≡ info_text plan root (workers crew) (window crew) → IsTrue told → IsInfoOf world script text
+    told_info text is tells = record { plan = plan; root = root; crew = crew; means = means tells; text_is = is }
 
-    pub info_put : (text : List ℕ) → text ≡ info_text plan root 1 1 → Puts sink out put text → InWorld (told_of told world) (λ w. PutsInfo sink w script out put)
+    pub info_put : (text : List ℕ) → text ≡ info_text plan root (workers crew) (window crew) → Puts sink out put text → InWorld (told_of told world) (λ w. PutsInfo sink w script out put)
     info_put text is puts = in_told told world (λ w. PutsInfo sink w script out put) (λ tells. record { text = text; info = told_info text is tells; put = puts })
 
-    pub info_cut : (text : List ℕ) → text ≡ info_text plan root 1 1 → PutsPrefix sink out put text → (other : List ℕ) → IsToldInfo (told_of told world) script other → PutsPrefix sink out put other
+    pub info_cut : (text : List ℕ) → text ≡ info_text plan root (workers crew) (window crew) → PutsPrefix sink out put text → (other : List ℕ) → IsToldInfo (told_of told world) script other → PutsPrefix sink out put other
     info_cut text is cut other too =
         let both = told_same told world too.world too.told_is in
         let info : IsInfoOf world script other = rw (sym both.1) at too.info in
         let same = sym info.means ∙ means both.0 in
-        let plans = same_plan info.plan plan info.root root same in
-        let roots = same_root info.plan plan info.root root same in
-        let texts : text ≡ other = is ∙ ap₂ (λ p r. info_text p r 1 1) (sym plans) (sym roots) ∙ sym info.text_is in
+        let plans = same_plan info.plan plan info.root root info.crew crew same in
+        let roots = same_root info.plan plan info.root root info.crew crew same in
+        let crews = same_crew info.plan plan info.root root info.crew crew same in
+        let texts : text ≡ other = is ∙ ap₂ (λ p r. info_text p r (workers crew) (window crew)) (sym plans) (sym roots)
+        ∙ ap (λ c. info_text info.plan info.root (workers c) (window c)) (sym crews) ∙ sym info.text_is in
         rw texts at cut
 
     some_frames : PutsSome sink plan root (book_told of sources) out put → PutsWholeFrames sink out put (IsOfScript (told_of told world) script) (ScriptHasClip (told_of told world) script)
@@ -232,11 +235,16 @@ module _ {S : Type 0} (of : of_source.Ghosts S) (told : Bool) (world : World) (s
     stream_shown faults table failed fails of_stop.Memory shown = some_frames shown
 
     plan_of : IsPlan plan → IsPlanOf (told_of told world) script plan root
-    plan_of is = record { is_plan = is; means = in_told told world (λ w. meaning_in w script ≡ m.clip plan root) means }
+    plan_of is = record { is_plan = is; crew = crew; means = in_told told world (λ w. meaning_in w script ≡ m.clip plan root crew) means }
 
     -- and of the journal
-    pub script_serial : (capacity : ℕ) (journal : Option Record) → IsPlan plan → IsSerial plan root capacity journal → IsScriptSerial (told_of told world) script capacity journal
+    script_serial : (capacity : ℕ) (journal : Option Record) → IsPlan plan → IsSerial plan root capacity journal → IsScriptSerial (told_of told world) script capacity journal
     script_serial capacity journal is serial = record { plan = plan; root = root; is_plan = plan_of is; serial = serial }
+
+    -- and of the graph that was kept
+    pub script_run : (capacity : ℕ) (journal : Option Record) → IsPlan plan → IsSerial plan root capacity journal → (kept : List Application) → kept ≡ plan → IsRunOf (told_of told world) script capacity journal kept
+    unfolding script_serial
+    script_run capacity journal is serial kept is_kept = record { run = script_serial capacity journal is serial; plan_is = sym is_kept }
 
     pub script_cuts : (capacity : ℕ) (journal : Option Record) → IsPlan plan → CutsShort plan root capacity sink out put journal → ScriptCuts (told_of told world) script capacity sink out put journal
     script_cuts capacity None is cut = tt
@@ -287,11 +295,24 @@ pub both_of : {T E : Type 0} (P Q R : T → Type 0) (result : Result T E) → If
 both_of P Q R (Ok x) p q both = both x p q
 both_of P Q R (Err e) p q both = tt
 
--- what holds where an answer is Ok, and where it is an error
-pub on_ok : {T E P Q : Type 0} (result : Result T E) → OnOk result P → (P → Q) → OnOk result Q
-on_ok (Ok x) p more = more p
-on_ok (Err e) p more = tt
+-- the graph changes nothing else of an answer
+pub ok_with : (P : ℕ → Type 0) (put : Result ℕ Stop) (plan : List Application) → IfOk put P → IfOk (with_graph put plan) (λ all. P all.frames)
+ok_with P (Ok frames) plan p = p
+ok_with P (Err stop) plan p = tt
 
-pub on_err : {T E P Q : Type 0} (result : Result T E) → OnErr result P → (P → Q) → OnErr result Q
-on_err (Ok x) p more = tt
-on_err (Err e) p more = more p
+pub each_with : (P : Type 0) (put : Result ℕ Stop) (plan : List Application) → OnOk put P → OnOk (with_graph put plan) P
+each_with P (Ok frames) plan p = p
+each_with P (Err stop) plan p = tt
+
+pub err_with : (P : Stop → Type 0) (put : Result ℕ Stop) (plan : List Application) → IfErr put P → IfErr (with_graph put plan) P
+err_with P (Ok frames) plan p = tt
+err_with P (Err stop) plan p = p
+
+pub graph_with : (put : Result ℕ Stop) (plan kept : List Application) → plan ≡ kept → IfOk (with_graph put plan) (λ all. all.graph ≡ kept)
+graph_with (Ok frames) plan kept is = is
+graph_with (Err stop) plan kept is = tt
+
+-- the same, where one of them is the same for each value
+pub with_ok : {T E P : Type 0} (Q R : T → Type 0) (result : Result T E) → OnOk result P → IfOk result Q → ((x : T) → P → Q x → R x) → IfOk result R
+with_ok Q R (Ok x) p q both = both x p q
+with_ok Q R (Err e) p q both = tt

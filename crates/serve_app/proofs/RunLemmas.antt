@@ -1,9 +1,9 @@
 -- What a run leaves, from what its parts show.
-use Rattle.std.proofs.Common.{◌≡◌, ◌⊎◌, ℕ, ◌≤◌, List, [], Option, Some, None, Result, Ok, Err, inl, inr, refl, sym, ◌∙◌, ap, ap₂, subst, codes, arith}
+use Rattle.std.proofs.Common.{◌≡◌, ◌⊎◌, ℕ, ◌≤◌, Bool, true, false, List, [], Option, Some, None, Result, Ok, Err, inl, inr, refl, sym, ◌∙◌, ap, ap₂, subst, codes, arith}
 use Rattle.fv_io.specs.declared.files.Files as of_files
 use Rattle.fv_io.specs.declared.sink.Sink.{Ghosts}
 use Rattle.fv_io.specs.Files.{KeepsFiles, FilesFailed}
-use Rattle.fv_io.specs.Sink.{PutsPrefix, IsLater, SinkFailed}
+use Rattle.fv_io.specs.Sink.{Puts, PutsPrefix, IsLater, SinkFailed}
 use Rattle.fv_io.specs.World.{World, InWorld}
 use Rattle.fv_io.specs.Told.{with_piece}
 use Rattle.fv_io.proofs.CallerLemmas.{gets_all, gets_none}
@@ -13,30 +13,35 @@ use Rattle.avs_meaning.specs.Faults.{Fault, input}
 use Rattle.avs_meaning.specs.declared.fault.InputFault.TheVariants as clip_fault
 use Rattle.avs_meaning.specs.declared.fault.ScriptKind.{ScriptKind}
 use Rattle.avs_eval.specs.Evaluates.{Names}
-use Rattle.serve_app.specs.declared.fault.InputFault.TheVariants.{NotThere, Y4m, Changed}
-use Rattle.serve_app.specs.declared.stop.Stop.{Stop}
-use Rattle.serve_app.specs.declared.stop.Stop.TheVariants.{Script, Input, Read, Write, Memory}
-use Rattle.serve_app.specs.StopKinds.{status_of_stop}
+use Rattle.serve_stops.specs.declared.fault.InputFault.TheVariants.{NotThere, Y4m, Changed}
+use Rattle.serve_stops.specs.declared.stop.Stop.{Stop}
+use Rattle.serve_stops.specs.declared.stop.Stop.TheVariants.{Script, Input, Read, Write, Memory}
+use Rattle.serve_stops.specs.StopKinds.{status_of_stop}
 use Rattle.serve_app.specs.Info.{IsInfoOf, IsToldInfo, InfoShows}
 use Rattle.serve_app.specs.Playing.{PutsClip, PutsInfo}
 use Rattle.serve_app.specs.Meaning.{Meaning, a_clip, a_fault, MeansClip, Means, status_of, status_of_fault}
 use Rattle.prefetch.specs.Rendered.{PutsNothing}
 use Rattle.serve_app.specs.Rendered.{PutsWholeFrames}
 use Rattle.serve_app.specs.Stop.{IsOfScript, ScriptHasClip, PutsBefore, IsScriptFault, IsNamedFault, RenderShows}
-use Rattle.serve_app.specs.Lines.{Says, stop_line, usage_line, read_line, write_line, memory_line}
-use Rattle.serve_app.specs.Headline.{EndsByScript, EndsByInput, Causes, Headline, JournalEnds, InfoEnds, Ends}
-use Rattle.serve_app.specs.Journals.{cache_of, IsScriptSerial, ScriptCuts}
+use Rattle.serve_stops.specs.Lines.{Says, stop_line, usage_line, read_line, write_line, memory_line}
+use Rattle.serve_app.specs.Headline.{EndsByScript, EndsByInput, WriteFails, Causes, PutsWhole, Quiet, Unwritten, Headline, JournalEnds, InfoEnds, Ends}
+use Rattle.serve_app.specs.Journals.{cache_of, IsScriptSerial, IsRunOf, IsReport, ScriptCuts}
+use Rattle.serve_stops.specs.Reports.{CutsReport, Reports}
 use Rattle.serve_app.specs.SelfTest.{IsLineOf, IsSelfLine, PutsSelfLine, SelfTestShows, SelfTestEnds}
-use Rattle.serve_app.specs.Run.{HasCache, Does, Finishes}
+use Rattle.serve_app.specs.Run.{HasCache, HasLog, RenderDoes, Does, Finishes}
+use Rattle.clip_graph.specs.Plan.{Application}
+use Rattle.graph_report.specs.Report.{report}
 use Rattle.serve_events.specs.declared.windows.Record.{Record}
+use Rattle.serve_events.specs.Windows.{windows_of}
 use Rattle.command_line.specs.Command.{command_in}
 use Rattle.command_line.specs.declared.command.Command.{Command}
 use Rattle.command_line.specs.declared.command.Command.TheVariants as c
 use Rattle.command_line.specs.declared.command.RenderOptions.{RenderOptions}
 use Rattle.graph_text.specs.InfoText.{info_text}
+use Rattle.avs_meaning.specs.Crews.{workers, window}
 use Rattle.self_test.specs.Digested.{digest_line}
 use Rattle.self_test.specs.Workload.{self_world}
-use Rattle.serve_app.proofs.MeaningLemmas.{means_one_thing, same_plan, same_root}
+use Rattle.serve_app.proofs.MeaningLemmas.{means_one_thing, same_plan, same_root, same_crew}
 use Rattle.serve_app.proofs.TextLemmas.{none_is_prefix, frames_are_prefix}
 
 clip_of : (one other : Clip) → a_clip one ≡ a_clip other → one ≡ other
@@ -94,8 +99,10 @@ module _ {F S K E : Type 0} (files : of_files.Ghosts F S) (sink : Ghosts K) (lin
   read_of Write shown says is = absurd (omega (arith, is))
   read_of Memory shown says is = absurd (omega (arith, is))
 
-  write_of : (stop : Stop) → Cause stop → Says lines err said (stop_line stop) → status_of_stop stop ≡ 5
-      → SinkFailed sink out new × ScriptHasClip (files.world f) script × Says lines err said write_line
+  abbrev Fails : Type 0
+  Fails = WriteFails files sink lines f g out new err said script
+
+  write_of : (stop : Stop) → Cause stop → Says lines err said (stop_line stop) → status_of_stop stop ≡ 5 → Fails
   write_of (Script kind name line) shown says is = absurd (omega (arith, is))
   write_of (Input name fault) shown says is = absurd (omega (arith, is))
   write_of Read shown says is = absurd (omega (arith, is))
@@ -112,60 +119,100 @@ module _ {F S K E : Type 0} (files : of_files.Ghosts F S) (sink : Ghosts K) (lin
   same_status : (world : World) (here meaning : Meaning) → Means world script here → Means world script meaning → status_of here ≡ status_of meaning
   same_status world here meaning one two = ap status_of (means_one_thing world script here meaning one two)
 
-  complete_of : (stop : Stop) → Cause stop → (world : World) (meaning : Meaning) → files.world f ≡ Some world → Means world script meaning
-      → (FilesFailed files f g → ⊥) → (SinkFailed sink out new → ⊥) → (status_of_stop stop ≡ status_of meaning) ⊎ (status_of_stop stop ≡ 6)
-  complete_of (Script kind name line) shown world meaning is means no_fault no_failure =
+  complete_of : (stop : Stop) → Cause stop → Says lines err said (stop_line stop) → (world : World) (meaning : Meaning) → files.world f ≡ Some world → Means world script meaning
+      → (FilesFailed files f g → ⊥) → (Fails → ⊥) → (status_of_stop stop ≡ status_of meaning) ⊎ (status_of_stop stop ≡ 6)
+  complete_of (Script kind name line) shown says world meaning is means no_fault no_failure =
       let wrong = shown.0 world is in
       inl (sym (script_status kind name line wrong.0 wrong.1.0) ∙ same_status world (a_fault wrong.0) meaning wrong.1.1 means)
-  complete_of (Input name NotThere) shown world meaning is means no_fault no_failure = inl (same_status world (a_fault (input name clip_fault.NotThere)) meaning (shown.0 world is) means)
-  complete_of (Input name (Y4m fault)) shown world meaning is means no_fault no_failure = inl (same_status world (a_fault (input name (clip_fault.Y4m fault))) meaning (shown.0 world is) means)
-  complete_of (Input name (Changed frame want got)) shown world meaning is means no_fault no_failure = absurd (shown.0 world is)
-  complete_of Read shown world meaning is means no_fault no_failure = absurd (no_fault shown)
-  complete_of Write shown world meaning is means no_fault no_failure = absurd (no_failure shown.0)
-  complete_of Memory shown world meaning is means no_fault no_failure = inr refl
+  complete_of (Input name NotThere) shown says world meaning is means no_fault no_failure = inl (same_status world (a_fault (input name clip_fault.NotThere)) meaning (shown.0 world is) means)
+  complete_of (Input name (Y4m fault)) shown says world meaning is means no_fault no_failure = inl (same_status world (a_fault (input name (clip_fault.Y4m fault))) meaning (shown.0 world is) means)
+  complete_of (Input name (Changed frame want got)) shown says world meaning is means no_fault no_failure = absurd (shown.0 world is)
+  complete_of Read shown says world meaning is means no_fault no_failure = absurd (no_fault shown)
+  complete_of Write shown says world meaning is means no_fault no_failure = absurd (no_failure (shown.0, shown.1, says))
+  complete_of Memory shown says world meaning is means no_fault no_failure = inr refl
 
-  causes_of : (stop : Stop) → Cause stop → Says lines err said (stop_line stop) → Causes files sink lines f g out new err said script (status_of_stop stop)
-  causes_of stop shown says = record {
-    known = known_of stop;
-    quiet = λ zero. absurd (never_zero stop zero);
-    by_script = script_of stop shown says;
-    by_input = input_of stop shown says;
-    read = read_of stop shown says;
-    write = write_of stop shown says;
-    memory = memory_of stop says;
-    complete = complete_of stop shown;
-  }
+  -- where a failed write to the output shows that a write failed
+  module _ (Well Failed : Type 0) where
+    causes_of : (Fails → Failed) → (stop : Stop) → Cause stop → Says lines err said (stop_line stop) → Causes files sink lines f g out new err said script Well Failed (status_of_stop stop)
+    causes_of fails stop shown says = record {
+      known = known_of stop;
+      quiet = λ zero. absurd (never_zero stop zero);
+      by_script = script_of stop shown says;
+      by_input = input_of stop shown says;
+      read = read_of stop shown says;
+      write = λ is. fails (write_of stop shown says is);
+      memory = memory_of stop says;
+      complete = λ world meaning is means no_fault no_failure. complete_of stop shown says world meaning is means no_fault (λ failed. no_failure (fails failed));
+    }
 
-  -- nothing was wrong
-  causes_of_whole : said ≡ err → ScriptHasClip (files.world f) script → Causes files sink lines f g out new err said script 0
-  causes_of_whole quiet has = record {
-    known = inl refl;
-    quiet = λ zero. quiet;
-    by_script = λ is. absurd (omega (arith, is));
-    by_input = λ is. absurd (omega (arith, is));
-    read = λ is. absurd (omega (arith, is));
-    write = λ is. absurd (omega (arith, is));
-    memory = λ is. absurd (omega (arith, is));
-    complete = λ world meaning is means no_fault no_failure. (let one = has world is in inl (same_status world (a_clip one.0) meaning one.1 means));
-  }
+    -- nothing was wrong
+    causes_of_whole : Well → ScriptHasClip (files.world f) script → Causes files sink lines f g out new err said script Well Failed 0
+    causes_of_whole quiet has = record {
+      known = inl refl;
+      quiet = λ zero. quiet;
+      by_script = λ is. absurd (omega (arith, is));
+      by_input = λ is. absurd (omega (arith, is));
+      read = λ is. absurd (omega (arith, is));
+      write = λ is. absurd (omega (arith, is));
+      memory = λ is. absurd (omega (arith, is));
+      complete = λ world meaning is means no_fault no_failure. (let one = has world is in inl (same_status world (a_clip one.0) meaning one.1 means));
+    }
+
+    -- a write failed after the whole text
+    causes_of_cut : Failed → Causes files sink lines f g out new err said script Well Failed 5
+    causes_of_cut unwritten = record {
+      known = inr (omega arith, omega arith);
+      quiet = λ is. absurd (omega (arith, is));
+      by_script = λ is. absurd (omega (arith, is));
+      by_input = λ is. absurd (omega (arith, is));
+      read = λ is. absurd (omega (arith, is));
+      write = λ is. unwritten;
+      memory = λ is. absurd (omega (arith, is));
+      complete = λ world meaning is means no_fault no_failure. absurd (no_failure unwritten);
+    }
 
   -- ---- a render
 
   has_clip : (frames : ℕ) → InWorld (files.world f) (λ world. PutsClip sink world script out new frames) → ScriptHasClip (files.world f) script
   has_clip frames whole world is = let one = whole world is in (one.clip, one.means)
 
-  pub headline_of_whole : (frames : ℕ) → InWorld (files.world f) (λ world. PutsClip sink world script out new frames) → said ≡ err
-      → Headline files sink lines f g out new err said script 0
-  headline_of_whole frames whole quiet = record {
-    whole = λ zero world is. (let one = whole world is in (one.clip, one.means, one.put));
-    prefix = λ clip is.
-        (let one = whole is.world is.told_is in
-        let same = clip_of one.clip clip (means_one_thing is.world script (a_clip one.clip) (a_clip clip) one.means is.means) in
-        gets_all (sink.bytes out) (sink.bytes new) (stream clip) (rw same at one.put));
-    nothing = λ world is none. (let one = whole world is in absurd (none one.clip one.means));
-    whole_frames = λ which. absurd (omega (arith, which));
-    causes = causes_of_whole quiet (has_clip frames whole);
-  }
+  whole_of : (frames : ℕ) → InWorld (files.world f) (λ world. PutsClip sink world script out new frames) → PutsWhole files sink lines f g out new err said script
+  whole_of frames whole world is = let one = whole world is in (one.clip, one.means, one.put)
+
+  prefix_of_whole : (frames : ℕ) → InWorld (files.world f) (λ world. PutsClip sink world script out new frames) → (clip : Clip) → IsOfScript (files.world f) script clip → PutsPrefix sink out new (stream clip)
+  prefix_of_whole frames whole clip is =
+      let one = whole is.world is.told_is in
+      let same = clip_of one.clip clip (means_one_thing is.world script (a_clip one.clip) (a_clip clip) one.means is.means) in
+      gets_all (sink.bytes out) (sink.bytes new) (stream clip) (rw same at one.put)
+
+  module _ (capacity : ℕ) (journal : Option Record) where
+    abbrev Well : Bool → Type 0
+    Well asked = Quiet files sink lines f g out new err said script capacity journal asked
+
+    abbrev Failed : Bool → Type 0
+    Failed asked = Unwritten files sink lines f g out new err said script capacity journal asked
+
+    abbrev Ended : Bool → ℕ → Type 0
+    Ended asked status = Headline files sink lines f g out new err said script capacity journal asked status
+
+    -- the whole text was put, and what is on `err` shows the status
+    headline_by : (asked : Bool) (status frames : ℕ) → InWorld (files.world f) (λ world. PutsClip sink world script out new frames) → ((status ≡ 0) ⊎ (status ≡ 5))
+        → Causes files sink lines f g out new err said script (Well asked) (Failed asked) status → Ended asked status
+    headline_by asked status frames whole which causes = record {
+      whole = λ zero. whole_of frames whole;
+      prefix = prefix_of_whole frames whole;
+      nothing = λ world is none. (let one = whole world is in absurd (none one.clip one.means));
+      whole_frames = λ other. absurd (omega (arith, which, other));
+      causes = causes;
+    }
+
+    pub headline_of_whole : (asked : Bool) (frames : ℕ) → InWorld (files.world f) (λ world. PutsClip sink world script out new frames) → Well asked → Ended asked 0
+    headline_of_whole asked frames whole quiet = headline_by asked 0 frames whole (inl refl) (causes_of_whole (Well asked) (Failed asked) quiet (has_clip frames whole))
+
+    pub headline_of_cut : (frames : ℕ) → InWorld (files.world f) (λ world. PutsClip sink world script out new frames)
+        → (text : List ℕ) → IsReport (files.world f) script capacity journal text → CutsReport lines err said text → Ended true 5
+    headline_of_cut frames whole text is cut =
+        headline_by true 5 frames whole (inr refl) (causes_of_cut (Well true) (Failed true) (inr (record { whole = whole_of frames whole; text = text; is = is; cut = cut })))
 
   module _ (stop : Stop) where
     abbrev Shown : Type 0
@@ -213,23 +260,30 @@ module _ {F S K E : Type 0} (files : of_files.Ghosts F S) (sink : Ghosts K) (lin
   frames_of Write shown which = absurd (omega (arith, which))
   frames_of Memory shown which = shown
 
-  pub headline_of_stop : (stop : Stop) → Shown stop → Says lines err said (stop_line stop) → Headline files sink lines f g out new err said script (status_of_stop stop)
-  headline_of_stop stop shown says = record {
-    whole = λ zero. absurd (never_zero stop zero);
-    prefix = prefix_of stop shown;
-    nothing = nothing_of stop shown;
-    whole_frames = frames_of stop shown;
-    causes = causes_of stop (cause_of stop shown) says;
-  }
+  module _ (capacity : ℕ) (journal : Option Record) where
+    fails_by : (asked : Bool) → Fails → Failed capacity journal asked
+    fails_by true failed = inl failed
+    fails_by false failed = failed
+
+    pub headline_of_stop : (asked : Bool) (stop : Stop) → Shown stop → Says lines err said (stop_line stop) → Ended capacity journal asked (status_of_stop stop)
+    headline_of_stop asked stop shown says = record {
+      whole = λ zero. absurd (never_zero stop zero);
+      prefix = prefix_of stop shown;
+      nothing = nothing_of stop shown;
+      whole_frames = frames_of stop shown;
+      causes = causes_of (Well capacity journal asked) (Failed capacity journal asked) (fails_by asked) stop (cause_of stop shown) says;
+    }
 
   -- ---- what is known of the clip
 
   one_info : (world : World) (one other : List ℕ) → IsInfoOf world script one → IsInfoOf world script other → one ≡ other
   one_info world one other a b =
       let same = sym a.means ∙ b.means in
-      let plan = same_plan a.plan b.plan a.root b.root same in
-      let root = same_root a.plan b.plan a.root b.root same in
-      a.text_is ∙ ap₂ (λ p r. info_text p r 1 1) plan root ∙ sym b.text_is
+      let plan = same_plan a.plan b.plan a.root b.root a.crew b.crew same in
+      let root = same_root a.plan b.plan a.root b.root a.crew b.crew same in
+      let crew = same_crew a.plan b.plan a.root b.root a.crew b.crew same in
+      a.text_is ∙ ap₂ (λ p r. info_text p r (workers a.crew) (window a.crew)) plan root
+      ∙ ap (λ c. info_text b.plan b.root (workers c) (window c)) crew ∙ sym b.text_is
 
   pub info_of_whole : InWorld (files.world f) (λ world. PutsInfo sink world script out new) → ScriptHasClip (files.world f) script → said ≡ err
       → InfoEnds files sink lines f g out new err said script 0
@@ -240,7 +294,7 @@ module _ {F S K E : Type 0} (files : of_files.Ghosts F S) (sink : Ghosts K) (lin
         gets_all (sink.bytes out) (sink.bytes new) text (rw (one_info is.world one.text text one.info is.info) at one.put));
     nothing = λ world is none. (let one = has world is in absurd (none one.0 one.1));
     unwritten = λ which. absurd (omega (arith, which));
-    causes = causes_of_whole quiet has;
+    causes = causes_of_whole (said ≡ err) Fails quiet has;
   }
 
   module _ (stop : Stop) where
@@ -292,7 +346,7 @@ module _ {F S K E : Type 0} (files : of_files.Ghosts F S) (sink : Ghosts K) (lin
     prefix = info_prefix stop shown;
     nothing = info_nothing stop shown;
     unwritten = info_unwritten stop shown;
-    causes = causes_of stop (info_cause stop shown) says;
+    causes = causes_of (said ≡ err) Fails (λ failed. failed) stop (info_cause stop shown) says;
   }
 
 -- ---- the self test
@@ -342,10 +396,18 @@ module _ {K E : Type 0} (sink : Ghosts K) (lines : Ghosts E) (out new : K) (err 
     memory = λ is. says;
   }
 
+-- a report that was put, or cut short
+pub finishes_reported : {E : Type 0} (lines : Ghosts E) (err said : E) (done : Result (Option (List Application)) Stop) (journal : Option Record) (status : ℕ) (asked : Option (List Application)) (plan : List Application) (log : Record)
+    → done ≡ Ok asked → asked ≡ Some plan → journal ≡ Some log → Reports lines err said (report plan (windows_of log)) status → Finishes lines err said done journal status
+finishes_reported lines err said done journal status asked plan log is some there reports = rw (is, some, there) reports
+
 -- the line that names a cause leaves no fewer faults
-pub said_later : {E : Type 0} (lines : Ghosts E) (err said : E) (done : Result (Unit {0}) Stop) (status : ℕ) → Finishes lines err said done status → IsLater lines err said
-said_later lines err said (Ok u) status is = rw is.1 (omega arith)
-said_later lines err said (Err stop) status is = let says = is.1 in says.later
+pub said_later : {E : Type 0} (lines : Ghosts E) (err said : E) (done : Result (Option (List Application)) Stop) (journal : Option Record) (status : ℕ) → Finishes lines err said done journal status
+    → IsLater lines err said
+said_later lines err said (Ok None) journal status is = rw is.1 (omega arith)
+said_later lines err said (Ok (Some plan)) None status is = absurd is
+said_later lines err said (Ok (Some plan)) (Some log) status is = is.later
+said_later lines err said (Err stop) journal status is = let says = is.1 in says.later
 
 -- the line of a stream that a digest holds
 pub self_line : {K : Type 0} (sink : Ghosts K) (world : World) (script : List ℕ) (out new : K) (frames : ℕ) (bytes line : List ℕ)
@@ -355,13 +417,16 @@ self_line sink world script out new frames bytes line puts none all is =
     let same : bytes ≡ stream puts.clip = cc in
     record { clip = puts.clip; means = puts.means; line_is = is ∙ ap (λ n. digest_line n bytes) puts.frames_are ∙ ap (digest_line (let clip = puts.clip in clip.info.frames)) same }
 
-module _ {F S K E : Type 0} (files : of_files.Ghosts F S) (sink : Ghosts K) (lines : Ghosts E) (f g : F) (out new : K) (err said : E) (script : List ℕ) (journal : Option Record) (capacity status : ℕ) where
-  -- the journal of a whole render, and of one that stopped
-  journal_of_whole : status ≡ 0 → IsScriptSerial (files.world f) script capacity journal → JournalEnds files sink lines f g out new err said script capacity status journal
-  journal_of_whole zero serial = record { serial = λ is. serial; cut = λ more. absurd (more zero) }
+module _ {F S K E : Type 0} (files : of_files.Ghosts F S) (sink : Ghosts K) (lines : Ghosts E) (f g : F) (out new : K) (err said : E) (script : List ℕ) (capacity : ℕ) (journal : Option Record) where
+  abbrev Left : ℕ → Type 0
+  Left status = JournalEnds files sink lines f g out new err said script capacity journal status
 
-  journal_of_stop : (stop : Stop) → status ≡ status_of_stop stop → ScriptCuts (files.world f) script capacity sink out new journal → JournalEnds files sink lines f g out new err said script capacity status journal
-  journal_of_stop stop is cut = record { serial = λ zero. absurd (never_zero stop (sym is ∙ zero)); cut = λ more. cut }
+  -- the journal of a whole render, and of one that stopped
+  journal_of_whole : (status : ℕ) → IsScriptSerial (files.world f) script capacity journal → ScriptCuts (files.world f) script capacity sink out new journal → Left status
+  journal_of_whole status serial cut = record { serial = λ is. serial; cut = λ more. cut }
+
+  journal_of_stop : (stop : Stop) (status : ℕ) → status ≡ status_of_stop stop → ScriptCuts (files.world f) script capacity sink out new journal → Left status
+  journal_of_stop stop status is cut = record { serial = λ zero. absurd (never_zero stop (sym is ∙ zero)); cut = λ more. cut }
 
 -- ---- all commands
 
@@ -374,18 +439,23 @@ module _ {F S K E : Type 0} (files : of_files.Ghosts F S) (sink : Ghosts K) (lin
   not_one status (inl zero) one = omega (arith, zero, one)
   not_one status (inr more) one = omega (arith, more, one)
 
-  ends_of_render : (script : List ℕ) (options : RenderOptions) (status : ℕ) → command_in words ≡ Some (c.Render script options) → Headline files sink lines f g out new err said script status
-      → JournalEnds files sink lines f g out new err said script (cache_of options.cache) status journal → Leaves
+  ends_of_render : (script : List ℕ) (options : RenderOptions) (status : ℕ) → command_in words ≡ Some (c.Render script options)
+      → Headline files sink lines f g out new err said script (cache_of options.cache) journal options.report status
+      → JournalEnds files sink lines f g out new err said script (cache_of options.cache) journal status → Leaves
       → Ends files sink lines f g out new err said words status journal
   ends_of_render script options status asked ends ended leaves = record {
-    render = λ other is. (let same : script ≡ other = (let both : Some (c.Render script options) ≡ Some (c.Render other is.options) = sym asked ∙ is.asked in cc) in
-        subst (λ s. Headline files sink lines f g out new err said s status) same ends);
+    render = λ other others is.
+        (let both : Some (c.Render script options) ≡ Some (c.Render other others) = sym asked ∙ is in
+        let same : script ≡ other = cc in
+        let alike : options ≡ others = cc in
+        subst (λ (o : RenderOptions). Headline files sink lines f g out new err said other (cache_of o.cache) journal o.report status) alike
+        (subst (λ s. Headline files sink lines f g out new err said s (cache_of options.cache) journal options.report status) same ends));
     journal_of = λ other others is.
         (let both : Some (c.Render script options) ≡ Some (c.Render other others) = sym asked ∙ is in
         let same : script ≡ other = cc in
-        let alike : options.cache ≡ others.cache = cc in
-        subst (λ n. JournalEnds files sink lines f g out new err said other (cache_of n) status journal) alike
-        (subst (λ s. JournalEnds files sink lines f g out new err said s (cache_of options.cache) status journal) same ended));
+        let alike : options ≡ others = cc in
+        subst (λ (o : RenderOptions). JournalEnds files sink lines f g out new err said other (cache_of o.cache) journal status) alike
+        (subst (λ s. JournalEnds files sink lines f g out new err said s (cache_of options.cache) journal status) same ended));
     info = λ other is. (let both : Some (c.Render script options) ≡ Some (c.Info other) = sym asked ∙ is in absurd (cc));
     self_test = λ number is. (let both : Some (c.Render script options) ≡ Some (c.SelfTest number) = sym asked ∙ is in absurd (cc));
     refused = λ none. (let both : Some (c.Render script options) ≡ None = sym asked ∙ none in absurd (cc));
@@ -398,7 +468,7 @@ module _ {F S K E : Type 0} (files : of_files.Ghosts F S) (sink : Ghosts K) (lin
   ends_of_info : (script : List ℕ) (status : ℕ) → command_in words ≡ Some (c.Info script) → InfoEnds files sink lines f g out new err said script status → Leaves
       → Ends files sink lines f g out new err said words status journal
   ends_of_info script status asked ends leaves = record {
-    render = λ other is. (let both : Some (c.Info script) ≡ Some (c.Render other is.options) = sym asked ∙ is.asked in absurd (cc));
+    render = λ other others is. (let both : Some (c.Info script) ≡ Some (c.Render other others) = sym asked ∙ is in absurd (cc));
     journal_of = λ other others is. (let both : Some (c.Info script) ≡ Some (c.Render other others) = sym asked ∙ is in absurd (cc));
     info = λ other is. (let same : script ≡ other = (let both : Some (c.Info script) ≡ Some (c.Info other) = sym asked ∙ is in cc) in
         subst (λ s. InfoEnds files sink lines f g out new err said s status) same ends);
@@ -418,7 +488,7 @@ module _ {F S K E : Type 0} (files : of_files.Ghosts F S) (sink : Ghosts K) (lin
   ends_of_self_test : (number status : ℕ) → command_in words ≡ Some (c.SelfTest number) → SelfTestEnds sink lines out new err said number status → g ≡ f → Leaves
       → Ends files sink lines f g out new err said words status journal
   ends_of_self_test number status asked ends stay leaves = record {
-    render = λ other is. (let both : Some (c.SelfTest number) ≡ Some (c.Render other is.options) = sym asked ∙ is.asked in absurd (cc));
+    render = λ other others is. (let both : Some (c.SelfTest number) ≡ Some (c.Render other others) = sym asked ∙ is in absurd (cc));
     journal_of = λ other others is. (let both : Some (c.SelfTest number) ≡ Some (c.Render other others) = sym asked ∙ is in absurd (cc));
     info = λ other is. (let both : Some (c.SelfTest number) ≡ Some (c.Info other) = sym asked ∙ is in absurd (cc));
     self_test = λ other is. (let same : number ≡ other = (let both : Some (c.SelfTest number) ≡ Some (c.SelfTest other) = sym asked ∙ is in cc) in
@@ -430,27 +500,76 @@ module _ {F S K E : Type 0} (files : of_files.Ghosts F S) (sink : Ghosts K) (lin
     later_lines = leaves.2;
   }
 
+  -- a render by what was done and what was said of it
+  module _ (script : List ℕ) (options : RenderOptions) where
+    abbrev Rendered : ℕ → Type 0
+    Rendered status = Headline files sink lines f g out new err said script (cache_of options.cache) journal options.report status
+
+    quietly : (frames status : ℕ) → InWorld (files.world f) (λ world. PutsClip sink world script out new frames) → options.report ≡ false → status ≡ 0 → said ≡ err → Rendered status
+    quietly frames status whole unasked zero quiet =
+        subst Rendered (sym zero) (headline_of_whole files sink lines f g out new err said script (cache_of options.cache) journal options.report frames whole
+        (subst (Quiet files sink lines f g out new err said script (cache_of options.cache) journal) (sym unasked) quiet))
+
+    reported : (frames status : ℕ) (text : List ℕ) → InWorld (files.world f) (λ world. PutsClip sink world script out new frames) → options.report ≡ true
+        → IsReport (files.world f) script (cache_of options.cache) journal text → ((status ≡ 0) × Puts lines err said text) ⊎ ((status ≡ 5) × CutsReport lines err said text) → Rendered status
+    reported frames status text whole asked is (inl put) =
+        subst Rendered (sym put.0) (headline_of_whole files sink lines f g out new err said script (cache_of options.cache) journal options.report frames whole
+        (subst (Quiet files sink lines f g out new err said script (cache_of options.cache) journal) (sym asked) (record { text = text; is = is; put = put.1 })))
+    reported frames status text whole asked is (inr cut) =
+        subst Rendered (sym cut.0) (subst (λ b. Headline files sink lines f g out new err said script (cache_of options.cache) journal b 5) (sym asked)
+        (headline_of_cut files sink lines f g out new err said script (cache_of options.cache) journal frames whole text is cut.1))
+
+    -- the report is that of the journal
+    report_is : (log : Record) (plan : List Application) → journal ≡ Some log → IsRunOf (files.world f) script (cache_of options.cache) journal plan
+        → IsReport (files.world f) script (cache_of options.cache) journal (report plan (windows_of log))
+    report_is log plan there is =
+        let run = is.run in
+        let serial = run.serial in
+        let both : Some log ≡ Some serial.log = sym there ∙ serial.there in
+        let same : log ≡ serial.log = cc in
+        record { run = run; text_is = ap₂ (λ (p : List Application) (l : Record). report p (windows_of l)) (sym is.plan_is) same }
+
+  ends_of_done : (script : List ℕ) (options : RenderOptions) (done : Result (Option (List Application)) Stop) (log : Option Record) (status : ℕ) → journal ≡ log → command_in words ≡ Some (c.Render script options)
+      → RenderDoes files sink f g out new journal script options done → ScriptCuts (files.world f) script (cache_of options.cache) sink out new journal
+      → Finishes lines err said done log status → Leaves → Ends files sink lines f g out new err said words status journal
+  ends_of_done script options (Ok None) log status there asked (unasked, whole, serial) cut (none, quiet) leaves =
+      ends_of_render script options status asked (quietly script options whole.0 status whole.1 unasked none quiet)
+      (journal_of_whole files sink lines f g out new err said script (cache_of options.cache) journal status serial cut) leaves
+  ends_of_done script options (Ok (Some plan)) None status there asked done cut said_so leaves = absurd said_so
+  ends_of_done script options (Ok (Some plan)) (Some log) status there asked (with_report, whole, is) cut said_so leaves =
+      ends_of_render script options status asked (reported script options whole.0 status (report plan (windows_of log)) whole.1 with_report (report_is script options log plan there is) said_so.ends)
+      (journal_of_whole files sink lines f g out new err said script (cache_of options.cache) journal status is.run cut) leaves
+  ends_of_done script options (Err stop) log status there asked shown cut (is, says) leaves =
+      ends_of_render script options status asked (subst (Rendered script options) (sym is) (headline_of_stop files sink lines f g out new err said script (cache_of options.cache) journal options.report stop shown says))
+      (journal_of_stop files sink lines f g out new err said script (cache_of options.cache) journal stop status is cut) leaves
+
   -- by what was done and what was said of it
-  pub ends_of : (command : Command) (done : Result (Unit {0}) Stop) (status : ℕ) → command_in words ≡ Some command → Does files sink f g out new journal command done
-      → Finishes lines err said done status → Leaves → Ends files sink lines f g out new err said words status journal
-  ends_of (c.Render script options) (Ok u) status asked done said_so leaves =
-      ends_of_render script options status asked (subst (λ n. Headline files sink lines f g out new err said script n) (sym said_so.0)
-      (headline_of_whole files sink lines f g out new err said script done.0.0 done.0.1 said_so.1)) (journal_of_whole files sink lines f g out new err said script journal (cache_of options.cache) status said_so.0 done.1) leaves
-  ends_of (c.Render script options) (Err stop) status asked done said_so leaves =
-      ends_of_render script options status asked (subst (λ n. Headline files sink lines f g out new err said script n) (sym said_so.0)
-      (headline_of_stop files sink lines f g out new err said script stop done.0 said_so.1)) (journal_of_stop files sink lines f g out new err said script journal (cache_of options.cache) status stop said_so.0 done.1) leaves
-  ends_of (c.Info script) (Ok u) status asked done said_so leaves =
+  pub ends_of : (command : Command) (done : Result (Option (List Application)) Stop) (status : ℕ) → command_in words ≡ Some command → Does files sink f g out new journal command done
+      → Finishes lines err said done journal status → Leaves → Ends files sink lines f g out new err said words status journal
+  ends_of (c.Render script options) done status asked (does, cut) said_so leaves = ends_of_done script options done journal status refl asked does cut said_so leaves
+  ends_of (c.Info script) (Ok None) status asked done said_so leaves =
       ends_of_info script status asked (subst (λ n. InfoEnds files sink lines f g out new err said script n) (sym said_so.0)
       (info_of_whole files sink lines f g out new err said script done.0 done.1 said_so.1)) leaves
+  ends_of (c.Info script) (Ok (Some plan)) status asked done said_so leaves = absurd done
   ends_of (c.Info script) (Err stop) status asked done said_so leaves =
       ends_of_info script status asked (subst (λ n. InfoEnds files sink lines f g out new err said script n) (sym said_so.0)
       (info_of_stop files sink lines f g out new err said script stop done said_so.1)) leaves
-  ends_of (c.SelfTest number) (Ok u) status asked done said_so leaves =
+  ends_of (c.SelfTest number) (Ok None) status asked done said_so leaves =
       ends_of_self_test number status asked (subst (λ n. SelfTestEnds sink lines out new err said number n) (sym said_so.0)
       (self_test_of_whole sink lines out new err said number done.0 said_so.1)) done.1 leaves
+  ends_of (c.SelfTest number) (Ok (Some plan)) status asked done said_so leaves = absurd done
   ends_of (c.SelfTest number) (Err stop) status asked done said_so leaves =
       ends_of_self_test number status asked (subst (λ n. SelfTestEnds sink lines out new err said number n) (sym said_so.0)
       (self_test_of_stop sink lines out new err said number stop done.0 said_so.1)) done.1 leaves
+
+-- a report is asked for only of a journal that is there
+module _ {F S K : Type 0} (files : of_files.Ghosts F S) (sink : Ghosts K) (f g : F) (out new : K) (journal : Option Record) where
+  pub has_log : (command : Command) (done : Result (Option (List Application)) Stop) → Does files sink f g out new journal command done → HasLog done journal
+  has_log command (Ok None) does = tt
+  has_log command (Err stop) does = tt
+  has_log (c.Render script options) (Ok (Some plan)) does = let is = does.0.2 in let run = is.run in let serial = run.serial in subst (HasLog (Ok (Some plan))) (sym serial.there) tt
+  has_log (c.Info script) (Ok (Some plan)) does = absurd does
+  has_log (c.SelfTest number) (Ok (Some plan)) does = absurd does
 
 module _ {F S K E : Type 0} (files : of_files.Ghosts F S) (sink : Ghosts K) (lines : Ghosts E) (f : F) (out : K) (err said : E) (words : List (List ℕ)) where
   -- what is left untouched
@@ -463,10 +582,10 @@ module _ {F S K E : Type 0} (files : of_files.Ghosts F S) (sink : Ghosts K) (lin
   memory_done (c.Info script) = refl
   memory_done (c.SelfTest number) = (refl, refl)
 
-  pub ends_of_memory : (command : Option Command) → command_in words ≡ command → (status : ℕ) → Finishes lines err said (Err Memory) status
+  pub ends_of_memory : (command : Option Command) → command_in words ≡ command → (status : ℕ) → Finishes lines err said (Err Memory) None status
       → Ends files sink lines f f out out err said words status None
   ends_of_memory None none status said_so = record {
-    render = λ other is. (let both : None ≡ Some (c.Render other is.options) = sym none ∙ is.asked in absurd (cc));
+    render = λ other others is. (let both : None ≡ Some (c.Render other others) = sym none ∙ is in absurd (cc));
     journal_of = λ other others is. (let both : None ≡ Some (c.Render other others) = sym none ∙ is in absurd (cc));
     info = λ other is. (let both : None ≡ Some (c.Info other) = sym none ∙ is in absurd (cc));
     self_test = λ number is. (let both : None ≡ Some (c.SelfTest number) = sym none ∙ is in absurd (cc));
@@ -482,7 +601,7 @@ module _ {F S K E : Type 0} (files : of_files.Ghosts F S) (sink : Ghosts K) (lin
 
   pub ends_of_usage : command_in words ≡ None → Says lines err said usage_line → Ends files sink lines f f out out err said words 1 None
   ends_of_usage none says = record {
-    render = λ other is. (let both : None ≡ Some (c.Render other is.options) = sym none ∙ is.asked in absurd (cc));
+    render = λ other others is. (let both : None ≡ Some (c.Render other others) = sym none ∙ is in absurd (cc));
     journal_of = λ other others is. (let both : None ≡ Some (c.Render other others) = sym none ∙ is in absurd (cc));
     info = λ other is. (let both : None ≡ Some (c.Info other) = sym none ∙ is in absurd (cc));
     self_test = λ number is. (let both : None ≡ Some (c.SelfTest number) = sym none ∙ is in absurd (cc));

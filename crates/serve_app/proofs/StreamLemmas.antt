@@ -1,6 +1,8 @@
 -- What was put of a clip, from what a render of its core leaves.
-use Rattle.std.proofs.Common.{◌≡◌, ◌∙◌, ◌⊎◌, ℕ, ◌≤◌, true, List, ◌++◌, take, map, Option, Some, refl, inl, inr, sym, ap, subst, arith}
+use Rattle.std.proofs.Common.{◌≡◌, ◌∙◌, ◌⊎◌, ℕ, zero, suc, ◌≤◌, ◌==◌, min, Bool, true, false, List, [], ◌++◌, take, map, Option, Some, refl, inl, inr, sym, ap, subst, arith}
 use Rattle.std.proofs.lemmas.List.FromFn.{length-map-range_with_len, take-map-range_with_len}
+use Rattle.std.proofs.lemmas.Bool.{eqb-true, eqb-false}
+use Rattle.std.proofs.lemmas.List.{append-nil}
 use Rattle.fv_io.specs.Faults.{HasRisen}
 use Rattle.fv_io.specs.declared.source.Source as of_source
 use Rattle.fv_io.specs.declared.sink.Sink.{Ghosts}
@@ -22,6 +24,7 @@ use Rattle.inst_table.specs.Places.{shared_place}
 use Rattle.serve_events.specs.declared.event.Stop.TheVariants as worker
 use Rattle.serve_events.specs.declared.windows.Record.{Record}
 use Rattle.serve_events.specs.Keys.{frame_key}
+use Rattle.serve_events.specs.SerialRun.{SerialWindows, one_more_window, windows_after}
 use Rattle.serve_events.specs.Windows.{WindowEvents, windows_of}
 use Rattle.serve_core.specs.CoreValue.{CoreValue}
 use Rattle.serve_core.specs.Sources.{book_of, faults_of as faults_in}
@@ -33,12 +36,13 @@ use Rattle.serve_worker.specs.Made.{EndsThere}
 use Rattle.prefetch.specs.declared.stops.RenderStop.{RenderStop}
 use Rattle.prefetch.specs.declared.stops.RenderStop.TheVariants.{Stopped, Write, Memory}
 use Rattle.prefetch.specs.Clips.{pictures_from, clip_at}
+use Rattle.prefetch.specs.Journal.{IsJournal, IsWholeJournal}
 use Rattle.prefetch.specs.Rendered.{Begins}
 use Rattle.prefetch.specs.Windows.{frames_at, pictures_text, PutsFirst, RendersAll, RenderStops}
 use Rattle.prefetch.proofs.TextLemmas.{text_of_part}
-use Rattle.serve_app.specs.declared.fault.InputFault.TheVariants.{Changed}
-use Rattle.serve_app.specs.declared.stop.Stop.{Stop}
-use Rattle.serve_app.specs.declared.stop.Stop.TheVariants as of_stop
+use Rattle.serve_stops.specs.declared.fault.InputFault.TheVariants.{Changed}
+use Rattle.serve_stops.specs.declared.stop.Stop.{Stop}
+use Rattle.serve_stops.specs.declared.stop.Stop.TheVariants as of_stop
 use Rattle.serve_app.specs.Clips.{IsClipOf, SomeFailed, PutsFrames, PutsSome, StreamShows}
 use Rattle.serve_app.specs.Journals.{PutsCount, IsCutShort}
 use Rattle.serve_app.specs.Rendered.{EndsInFrame}
@@ -50,6 +54,33 @@ begins_first book plan root n few = record {
   info = refl;
   pictures = sym (ap (λ k. take k (pictures_from book plan root 0 (frames_at plan root))) (length-map-range_with_len (λ i. key_picture book plan (frame_key root i)) 0 n)
       ∙ take-map-range_with_len (λ i. key_picture book plan (frame_key root i)) 0 (frames_at plan root) n few);
+}
+
+-- windows of one output go up to the last output
+next_of : (plan : List Application) (root capacity total : ℕ) (done : SerialWindows) (k : ℕ) → done.next ≡ min k total → (one_more_window plan root capacity 1 total done).next ≡ min (suc k) total
+next_of plan root capacity total done k is = by_test (done.next == total) refl
+  where
+    by_test : (b : Bool) → (done.next == total) ≡ b → (one_more_window plan root capacity 1 total done).next ≡ min (suc k) total
+    by_test true last = let all : done.next ≡ total = eqb-true done.next total last in rw last (omega (arith, is, all))
+    by_test false more = let less : done.next ≡ total → ⊥ = eqb-false done.next total more in rw more (omega (arith, is, less))
+
+next_after : (plan : List Application) (root capacity total k : ℕ) → (windows_after k plan root capacity 1 total []).next ≡ min k total
+next_after plan root capacity total zero = omega arith
+next_after plan root capacity total (suc k) = next_of plan root capacity total (windows_after k plan root capacity 1 total []) k (next_after plan root capacity total k)
+
+-- the whole serial run is a beginning of it
+begins_itself : (plan : List Application) (root capacity total : ℕ) (windows : List WindowEvents) → IsWholeJournal plan root capacity 1 total windows → IsJournal plan root capacity 1 total windows total
+begins_itself plan root capacity total windows whole = record {
+  whole = windows;
+  rest = [];
+  windows_are = sym (append-nil windows);
+  first = record {
+    most = total;
+    few = omega arith;
+    windows_are = sym whole;
+    next_is = let next = next_after plan root capacity total total in omega (arith, next);
+  };
+  last = inl refl;
 }
 
 -- a source that exceeds its number has failed
@@ -159,6 +190,16 @@ module _ {S K : Type 0} (of : of_source.Ghosts S) (sink : Ghosts K) (c : CoreVal
   cut_short log d (Stopped why) later shown = record { n = shown.count; few = shown.few; windows = shown.journal; put = inl (count_put shown.count shown.few shown.put) }
   cut_short log d Write later shown = record { n = shown.count; few = shown.few; windows = shown.journal; put = inr (omega (arith, later, shown.failed)) }
   cut_short log d Memory later shown = record { n = shown.count; few = shown.few; windows = shown.journal; put = inl (count_put shown.count shown.few shown.put) }
+
+  -- the whole serial run begins the serial run
+  pub whole_short : (log : Record) (d : CoreValue (Instance S)) → RendersAll holds_of (feed_of of) (faults_of of) Ends c sink mid new 1 (windows_of log) d
+      → IsCutShort c.fixed.plan c.fixed.root c.fixed.capacity sink old new log
+  whole_short log d all = record {
+    n = frames_at c.fixed.plan c.fixed.root;
+    few = omega arith;
+    windows = begins_itself c.fixed.plan c.fixed.root c.fixed.capacity (frames_at c.fixed.plan c.fixed.root) (windows_of log) all.journal;
+    put = inl (count_put (frames_at c.fixed.plan c.fixed.root) (omega arith) all.put);
+  }
 
 -- a render, whatever it ended by, leaves a core between windows
 module _ {K : Type 0} (sink : Ghosts K) (old new : K) where

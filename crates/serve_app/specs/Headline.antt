@@ -1,7 +1,7 @@
 -- The headline: what a run of the program promises. A render that ends with status 0 has written exactly the text of
 -- the clip that the script means. Any other ending has written a prefix of that text, or nothing where there is no
 -- clip. Each status has the cause that it names.
-use Rattle.std.specs.Prelude.{◌≡◌, ◌⊎◌, ℕ, ◌≤◌, List, Option, Some, None}
+use Rattle.std.specs.Prelude.{◌≡◌, ◌⊎◌, ℕ, ◌≤◌, Bool, true, false, List, Option, Some, None}
 use Rattle.fv_io.specs.declared.files.Files as of_files
 use Rattle.fv_io.specs.declared.sink.Sink.{Ghosts}
 use Rattle.fv_io.specs.Files.{KeepsFiles, FilesFailed}
@@ -11,19 +11,19 @@ use Rattle.fv_plane.specs.Clip.{Clip}
 use Rattle.y4m_stream.specs.Stream.{stream}
 use Rattle.avs_meaning.specs.declared.fault.ScriptKind.{ScriptKind}
 use Rattle.command_line.specs.Command.{command_in}
-use Rattle.command_line.specs.declared.command.Command.TheVariants.{Render}
 use Rattle.command_line.specs.declared.command.RenderOptions.{RenderOptions}
 use Rattle.serve_events.specs.declared.windows.Record.{Record}
-use Rattle.serve_app.specs.declared.fault.InputFault.{InputFault}
+use Rattle.serve_stops.specs.declared.fault.InputFault.{InputFault}
 use Rattle.serve_app.specs.Words.{IsRender, IsInfo, IsSelfTest}
 use Rattle.serve_app.specs.Meaning.{Meaning, MeansClip, Means, status_of}
 use Rattle.serve_app.specs.Info.{IsInfoOf, IsToldInfo}
-use Rattle.serve_app.specs.Journals.{cache_of, IsScriptSerial, ScriptCuts}
+use Rattle.serve_app.specs.Journals.{cache_of, IsScriptSerial, IsReport, ScriptCuts}
+use Rattle.serve_stops.specs.Reports.{CutsReport}
 use Rattle.serve_app.specs.SelfTest.{SelfTestEnds}
 use Rattle.prefetch.specs.Rendered.{PutsNothing}
 use Rattle.serve_app.specs.Rendered.{PutsWholeFrames}
 use Rattle.serve_app.specs.Stop.{IsOfScript, ScriptHasClip, PutsBefore, IsScriptFault, IsNamedFault}
-use Rattle.serve_app.specs.Lines.{Says, usage_line, read_line, write_line, memory_line, script_line, input_line}
+use Rattle.serve_stops.specs.Lines.{Says, usage_line, read_line, write_line, memory_line, script_line, input_line}
 
 module _ {F S K E : Type 0} (files : of_files.Ghosts F S) (sink : Ghosts K) (lines : Ghosts E)
     (f g : F) (out new : K) (err said : E) where
@@ -45,35 +45,68 @@ module _ {F S K E : Type 0} (files : of_files.Ghosts F S) (sink : Ghosts K) (lin
       pub line : Says lines err said (input_line name fault)
       pub put : PutsBefore sink out new fault
 
-    -- the causes of the statuses of a script, and the lines that name them
-    pub record Causes (status : ℕ) : Type 0 where
+    -- a write to the output failed
+    abbrev pub WriteFails : Type 0
+    WriteFails = SinkFailed sink out new × ScriptHasClip (files.world f) script × Says lines err said write_line
+
+    -- the causes of the statuses of a script, and the lines that name them: what shows that nothing was wrong, and what
+    -- that a write failed
+    pub record Causes (Quiet Unwritten : Type 0) (status : ℕ) : Type 0 where
       pub known : (status ≡ 0) ⊎ (2 ≤ status) × (status ≤ 6)
-      pub quiet : status ≡ 0 → said ≡ err
+      pub quiet : status ≡ 0 → Quiet
       pub by_script : status ≡ 2 → EndsByScript
       pub by_input : status ≡ 3 → EndsByInput
       pub read : status ≡ 4 → FilesFailed files f g × Says lines err said read_line
-      pub write : status ≡ 5 → SinkFailed sink out new × ScriptHasClip (files.world f) script × Says lines err said write_line
+      pub write : status ≡ 5 → Unwritten
       pub memory : status ≡ 6 → Says lines err said memory_line
       -- where nothing failed the status is that of what the script means, or memory ran out
       pub complete : (world : World) (meaning : Meaning) → files.world f ≡ Some world → Means world script meaning
-          → (FilesFailed files f g → ⊥) → (SinkFailed sink out new → ⊥) → (status ≡ status_of meaning) ⊎ (status ≡ 6)
+          → (FilesFailed files f g → ⊥) → (Unwritten → ⊥) → (status ≡ status_of meaning) ⊎ (status ≡ 6)
 
-    -- a render of the script
-    pub record Headline (status : ℕ) : Type 0 where
-      -- the text: the whole, or a prefix; nothing where there is no clip; whole frames where no write failed
-      pub whole : status ≡ 0 → InWorld (files.world f) (λ world.
-          (clip : Clip) × MeansClip world script clip × Puts sink out new (stream clip))
-      pub prefix : (clip : Clip) → IsOfScript (files.world f) script clip → PutsPrefix sink out new (stream clip)
-      pub nothing : InWorld (files.world f) (λ world.
-          ((clip : Clip) → MeansClip world script clip → ⊥) → PutsNothing sink out new)
-      pub whole_frames : (status ≡ 4) ⊎ (status ≡ 6)
-          → PutsWholeFrames sink out new (IsOfScript (files.world f) script) (ScriptHasClip (files.world f) script)
-      pub causes : Causes status
+    -- the whole text of the clip is on the output
+    abbrev pub PutsWhole : Type 0
+    PutsWhole = InWorld (files.world f) (λ world.
+        (clip : Clip) × MeansClip world script clip × Puts sink out new (stream clip))
 
-    -- its journal, for a cache of so many frames: the serial run, or the beginning of it
-    pub record JournalEnds (capacity status : ℕ) (journal : Option Record) : Type 0 where
-      pub serial : status ≡ 0 → IsScriptSerial (files.world f) script capacity journal
-      pub cut : (status ≡ 0 → ⊥) → ScriptCuts (files.world f) script capacity sink out new journal
+    -- a render of the script, with a cache of so many frames, that leaves this journal
+    module _ (capacity : ℕ) (journal : Option Record) where
+      -- the report of the journal was put
+      pub record PutsReport : Type 0 where
+        pub text : List ℕ
+        pub is : IsReport (files.world f) script capacity journal text
+        pub put : Puts lines err said text
+
+      -- the whole text was put, and then the report was cut short
+      pub record EndsInReport : Type 0 where
+        pub whole : PutsWhole
+        pub text : List ℕ
+        pub is : IsReport (files.world f) script capacity journal text
+        pub cut : CutsReport lines err said text
+
+      -- what is on `err` where all went well, by whether a report is asked for
+      abbrev pub Quiet : Bool → Type 0
+      Quiet true = PutsReport
+      Quiet false = said ≡ err
+
+      -- and what shows that a write failed
+      abbrev pub Unwritten : Bool → Type 0
+      Unwritten true = WriteFails ⊎ EndsInReport
+      Unwritten false = WriteFails
+
+      pub record Headline (report : Bool) (status : ℕ) : Type 0 where
+        -- the text: the whole, or a prefix; nothing where there is no clip; whole frames where no write failed
+        pub whole : status ≡ 0 → PutsWhole
+        pub prefix : (clip : Clip) → IsOfScript (files.world f) script clip → PutsPrefix sink out new (stream clip)
+        pub nothing : InWorld (files.world f) (λ world.
+            ((clip : Clip) → MeansClip world script clip → ⊥) → PutsNothing sink out new)
+        pub whole_frames : (status ≡ 4) ⊎ (status ≡ 6)
+            → PutsWholeFrames sink out new (IsOfScript (files.world f) script) (ScriptHasClip (files.world f) script)
+        pub causes : Causes (Quiet report) (Unwritten report) status
+
+      -- the journal: the serial run, or the beginning of it
+      pub record JournalEnds (status : ℕ) : Type 0 where
+        pub serial : status ≡ 0 → IsScriptSerial (files.world f) script capacity journal
+        pub cut : (status ≡ 0 → ⊥) → ScriptCuts (files.world f) script capacity sink out new journal
 
     -- what is known of the script's clip
     pub record InfoEnds (status : ℕ) : Type 0 where
@@ -84,7 +117,7 @@ module _ {F S K E : Type 0} (files : of_files.Ghosts F S) (sink : Ghosts K) (lin
       pub nothing : InWorld (files.world f) (λ world.
           ((clip : Clip) → MeansClip world script clip → ⊥) → PutsNothing sink out new)
       pub unwritten : (status ≡ 4) ⊎ (status ≡ 6) → PutsNothing sink out new
-      pub causes : Causes status
+      pub causes : Causes (said ≡ err) WriteFails status
 
   -- the words break the rules: nothing is touched but for the line
   pub record IsRefused (status : ℕ) : Type 0 where
@@ -94,9 +127,10 @@ module _ {F S K E : Type 0} (files : of_files.Ghosts F S) (sink : Ghosts K) (lin
 
   -- what a run leaves, by what the words ask for
   pub record Ends (words : List (List ℕ)) (status : ℕ) (journal : Option Record) : Type 0 where
-    pub render : (script : List ℕ) → IsRender words script → Headline script status
-    pub journal_of : (script : List ℕ) (options : RenderOptions) → command_in words ≡ Some (Render script options)
-        → JournalEnds script (cache_of options.cache) status journal
+    pub render : (script : List ℕ) (options : RenderOptions) → IsRender words script options
+        → Headline script (cache_of options.cache) journal options.report status
+    pub journal_of : (script : List ℕ) (options : RenderOptions) → IsRender words script options
+        → JournalEnds script (cache_of options.cache) journal status
     pub info : (script : List ℕ) → IsInfo words script → InfoEnds script status
     pub self_test : (number : ℕ) → IsSelfTest words number → SelfTestEnds sink lines out new err said number status × (g ≡ f)
     pub refused : command_in words ≡ None → IsRefused status

@@ -6,19 +6,21 @@ use Rattle.fv_io.specs.World.{World}
 use Rattle.clip_graph.specs.Plan.{Application}
 use Rattle.prefetch.specs.Rendered.{PutsNothing}
 use Rattle.graph_text.specs.InfoText.{info_text}
+use Rattle.avs_meaning.specs.Crews.{Numbers, workers, window}
 use Rattle.avs_meaning.specs.Meaning as m
-use Rattle.serve_app.specs.declared.fault.InputFault.TheVariants.{NotThere, Y4m, Changed}
-use Rattle.serve_app.specs.declared.stop.Stop.{Stop}
-use Rattle.serve_app.specs.declared.stop.Stop.TheVariants as of_stop
+use Rattle.serve_stops.specs.declared.fault.InputFault.TheVariants.{NotThere, Y4m, Changed}
+use Rattle.serve_stops.specs.declared.stop.Stop.{Stop}
+use Rattle.serve_stops.specs.declared.stop.Stop.TheVariants as of_stop
 use Rattle.serve_app.specs.Meaning.{meaning_in}
 use Rattle.serve_app.specs.Stop.{IsScriptFault, IsNamedFault, ScriptHasClip}
 
--- the text of the plan and the root that the script means. One worker makes windows of one frame
+-- the text of the plan, the root and the workers that the script means
 pub record IsInfoOf (world : World) (script text : List ℕ) : Type 0 where
   pub plan : List Application
   pub root : ℕ
-  pub means : meaning_in world script ≡ m.clip plan root
-  pub text_is : text ≡ info_text plan root 1 1
+  pub crew : Option Numbers
+  pub means : meaning_in world script ≡ m.clip plan root crew
+  pub text_is : text ≡ info_text plan root (workers crew) (window crew)
 
 -- a world is told, and this is the text of the script's clip in it
 pub record IsToldInfo (told : Option World) (script text : List ℕ) : Type 0 where

@@ -8,8 +8,10 @@ use Rattle.y4m_stream.specs.Stream.{stream}
 use Rattle.clip_graph.specs.Plan.{Application, IsPlan}
 use Rattle.serve_events.specs.declared.windows.Record.{Record}
 use Rattle.serve_events.specs.Windows.{windows_of}
+use Rattle.graph_report.specs.Report.{report}
 use Rattle.prefetch.specs.Journal.{IsJournal, IsWholeJournal}
 use Rattle.prefetch.specs.Windows.{frames_at}
+use Rattle.avs_meaning.specs.Crews.{Numbers}
 use Rattle.avs_meaning.specs.Meaning as m
 use Rattle.serve_app.specs.Meaning.{meaning_in}
 
@@ -47,7 +49,8 @@ module _ (plan : List Application) (root capacity : ℕ) where
 -- a plan, and where a world is told the one that the script means, with the place of its clip
 pub record IsPlanOf (told : Option World) (script : List ℕ) (plan : List Application) (root : ℕ) : Type 0 where
   pub is_plan : IsPlan plan
-  pub means : InWorld told (λ world. meaning_in world script ≡ m.clip plan root)
+  pub crew : Option Numbers
+  pub means : InWorld told (λ world. meaning_in world script ≡ m.clip plan root crew)
 
 module _ (told : Option World) (script : List ℕ) (capacity : ℕ) where
   -- the journal is the serial run of the script's plan
@@ -56,6 +59,16 @@ module _ (told : Option World) (script : List ℕ) (capacity : ℕ) where
     pub root : ℕ
     pub is_plan : IsPlanOf told script plan root
     pub serial : IsSerial plan root capacity journal
+
+  -- it is that of this plan
+  pub record IsRunOf (journal : Option Record) (plan : List Application) : Type 0 where
+    pub run : IsScriptSerial journal
+    pub plan_is : run.plan ≡ plan
+
+  -- the report of the journal by the script's plan
+  pub record IsReport (journal : Option Record) (text : List ℕ) : Type 0 where
+    pub run : IsScriptSerial journal
+    pub text_is : text ≡ report run.plan (windows_of run.serial.log)
 
   module _ {K : Type 0} (sink : Ghosts K) (old new : K) where
     -- the journal is the beginning of it

@@ -1,14 +1,12 @@
 pub mod Words
 pub mod Meaning
 pub mod Rendered
-pub mod StopKinds
 pub mod Stop
 pub mod Clips
 pub mod Closing
 pub mod Journals
 pub mod Streams
 pub mod Playing
-pub mod Lines
 pub mod Info
 pub mod SelfTest
 pub mod Run

@@ -1,5 +1,5 @@
 -- What a script means in a world of files: a clip, or its first fault.
-use Rattle.std.specs.Prelude.{◌≡◌, ℕ, List, length, slice_get, slice_index_or, [], Some}
+use Rattle.std.specs.Prelude.{◌≡◌, ℕ, List, length, slice_get, slice_index_or, [], Option, Some}
 use Rattle.fv_io.specs.World.{World}
 use Rattle.fv_plane.specs.Clip.{Clip}
 use Rattle.fv_plane.specs.Picture.{Picture}
@@ -7,6 +7,7 @@ use Rattle.clip_graph.specs.Plan.{Application}
 use Rattle.prefetch.specs.Clips.{clip_at}
 use Rattle.avs_load.specs.Load.{script_of}
 use Rattle.avs_meaning.specs.Faults.{Fault, script, refused, input}
+use Rattle.avs_meaning.specs.Crews.{Numbers}
 use Rattle.avs_meaning.specs.Meaning as m
 use Rattle.avs_meaning.specs.Outside.{outside_of}
 use Rattle.avs_meaning.specs.declared.state.SourceClip.{SourceClip}
@@ -32,7 +33,8 @@ pub record IsBookOf (world : World) (sources : List SourceClip) (book : List (Li
 pub record MeansClip (world : World) (name : List ℕ) (clip : Clip) : Type 0 where
   pub plan : List Application
   pub root : ℕ
-  pub means : meaning_in world name ≡ m.clip plan root
+  pub crew : Option Numbers
+  pub means : meaning_in world name ≡ m.clip plan root crew
   pub book : List (List Picture)
   pub is_book : IsBookOf world (sources_of plan) book
   pub clip_is : clip ≡ clip_at book plan root

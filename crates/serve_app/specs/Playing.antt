@@ -11,17 +11,19 @@ use Rattle.avs_meaning.specs.Meaning as m
 use Rattle.avs_meaning.specs.declared.fault.InputFault.TheVariants as i
 use Rattle.avs_eval.specs.Evaluates.{Names}
 use Rattle.avs_eval.specs.declared.evaluation.Opened.{Opened}
+use Rattle.clip_graph.specs.Plan.{Application}
+use Rattle.serve_app.specs.declared.play.Whole.{Whole}
 use Rattle.serve_app.specs.Info.{IsInfoOf}
 use Rattle.serve_app.specs.Meaning.{MeansClip}
-use Rattle.serve_app.specs.declared.fault.InputFault.TheVariants.{NotThere, Y4m, Changed}
-use Rattle.serve_app.specs.declared.stop.Stop.{Stop}
-use Rattle.serve_app.specs.declared.stop.Stop.TheVariants as of_stop
+use Rattle.serve_stops.specs.declared.fault.InputFault.TheVariants.{NotThere, Y4m, Changed}
+use Rattle.serve_stops.specs.declared.stop.Stop.{Stop}
+use Rattle.serve_stops.specs.declared.stop.Stop.TheVariants as of_stop
 
 -- ---- evaluation
 
 -- the answer is the script's meaning
 abbrev pub Tells : m.Meaning → Result Opened Stop → Type 0
-Tells meaning (Ok opened) = meaning ≡ m.clip opened.graph opened.root
+Tells meaning (Ok opened) = meaning ≡ m.clip opened.graph opened.root opened.prefetch
 Tells meaning (Err (of_stop.Script kind name line)) = (fault : Fault) × (Names kind name line fault × (meaning ≡ m.wrong fault))
 Tells meaning (Err (of_stop.Input name NotThere)) = meaning ≡ m.wrong (input name i.NotThere)
 Tells meaning (Err (of_stop.Input name (Y4m fault))) = meaning ≡ m.wrong (input name (i.Y4m fault))
@@ -38,6 +40,11 @@ EndsBefore before now (Err (of_stop.Input name (Changed frame want got))) = ⊥
 EndsBefore before now _ = Unit {0}
 
 -- ---- what was put
+
+-- the answer of a render, with its plan where all frames were put
+abbrev pub with_graph : Result ℕ Stop → List Application → Result Whole Stop
+with_graph (Ok frames) plan = Ok (record { frames = frames; graph = plan })
+with_graph (Err stop) plan = Err stop
 
 -- the stream of the clip that the script means in this world, of so many frames, was put
 pub record PutsClip {K : Type 0} (sink : Ghosts K) (world : World) (script : List ℕ) (old new : K) (frames : ℕ) : Type 0 where

@@ -1,18 +1,23 @@
 -- What a command does, and what is said of it.
-use Rattle.std.specs.Prelude.{◌≡◌, ℕ, ◌<◌, Option, Result, Ok, Err}
+use Rattle.std.specs.Prelude.{◌≡◌, ℕ, ◌<◌, true, false, List, Option, Some, None, Result, Ok, Err}
 use Rattle.fv_io.specs.declared.files.Files as of_files
 use Rattle.fv_io.specs.declared.sink.Sink.{Ghosts}
 use Rattle.fv_io.specs.Files.{FilesFailed}
 use Rattle.fv_io.specs.World.{InWorld}
 use Rattle.command_line.specs.declared.command.Command.{Command}
 use Rattle.command_line.specs.declared.command.Command.TheVariants.{Render, Info, SelfTest}
-use Rattle.serve_app.specs.declared.stop.Stop.{Stop}
-use Rattle.serve_app.specs.StopKinds.{status_of_stop}
+use Rattle.command_line.specs.declared.command.RenderOptions.{RenderOptions}
+use Rattle.clip_graph.specs.Plan.{Application}
+use Rattle.graph_report.specs.Report.{report}
+use Rattle.serve_stops.specs.declared.stop.Stop.{Stop}
+use Rattle.serve_stops.specs.StopKinds.{status_of_stop}
 use Rattle.serve_events.specs.declared.windows.Record.{Record}
+use Rattle.serve_events.specs.Windows.{windows_of}
 use Rattle.serve_app.specs.Info.{InfoShows}
-use Rattle.serve_app.specs.Journals.{cache_of, IsScriptSerial, ScriptCuts}
-use Rattle.serve_app.specs.Lines.{Says, stop_line}
+use Rattle.serve_app.specs.Journals.{cache_of, IsScriptSerial, IsRunOf, ScriptCuts}
+use Rattle.serve_stops.specs.Lines.{Says, stop_line}
 use Rattle.serve_app.specs.Playing.{PutsClip, PutsInfo}
+use Rattle.serve_stops.specs.Reports.{Reports}
 use Rattle.serve_app.specs.SelfTest.{PutsSelfLine, SelfTestShows}
 use Rattle.serve_app.specs.Stop.{RenderShows, ScriptHasClip}
 
@@ -22,21 +27,41 @@ HasCache (Render script options) = 0 < cache_of options.cache
 HasCache (Info script) = Unit {0}
 HasCache (SelfTest number) = Unit {0}
 
--- what each command shows at its end
+-- what each command shows at its end. Where a report is asked for, it answers the plan of the journal
 module _ {F S K : Type 0} (files : of_files.Ghosts F S) (sink : Ghosts K) (f g : F) (out new : K) (journal : Option Record) where
-  abbrev pub Does : Command → Result (Unit {0}) Stop → Type 0
-  Does (Render script options) (Ok u) =
-      ((frames : ℕ) × InWorld (files.world f) (λ world. PutsClip sink world script out new frames))
+  -- the clip of the script was put
+  abbrev pub PutsAll : List ℕ → Type 0
+  PutsAll script = (frames : ℕ) × InWorld (files.world f) (λ world. PutsClip sink world script out new frames)
+
+  abbrev pub RenderDoes : List ℕ → RenderOptions → Result (Option (List Application)) Stop → Type 0
+  RenderDoes script options (Ok None) = (options.report ≡ false) × PutsAll script
       × IsScriptSerial (files.world f) script (cache_of options.cache) journal
-  Does (Render script options) (Err stop) = RenderShows (FilesFailed files f g) sink (files.world f) script out new stop
+  RenderDoes script options (Ok (Some plan)) = (options.report ≡ true) × PutsAll script
+      × IsRunOf (files.world f) script (cache_of options.cache) journal plan
+  RenderDoes script options (Err stop) = RenderShows (FilesFailed files f g) sink (files.world f) script out new stop
+
+  abbrev pub Does : Command → Result (Option (List Application)) Stop → Type 0
+  Does (Render script options) done = RenderDoes script options done
       × ScriptCuts (files.world f) script (cache_of options.cache) sink out new journal
-  Does (Info script) (Ok u) =
+  Does (Info script) (Ok None) =
       InWorld (files.world f) (λ world. PutsInfo sink world script out new) × ScriptHasClip (files.world f) script
+  Does (Info script) (Ok (Some plan)) = ⊥
   Does (Info script) (Err stop) = InfoShows (FilesFailed files f g) sink (files.world f) script out new stop
-  Does (SelfTest number) (Ok u) = PutsSelfLine sink out new number × (g ≡ f)
+  Does (SelfTest number) (Ok None) = PutsSelfLine sink out new number × (g ≡ f)
+  Does (SelfTest number) (Ok (Some plan)) = ⊥
   Does (SelfTest number) (Err stop) = SelfTestShows sink out new number stop × (g ≡ f)
 
--- the status of what was done, and its line
-abbrev pub Finishes : {E : Type 0} → Ghosts E → E → E → Result (Unit {0}) Stop → ℕ → Type 0
-Finishes lines err said (Ok u) status = (status ≡ 0) × (said ≡ err)
-Finishes lines err said (Err stop) status = (status ≡ status_of_stop stop) × Says lines err said (stop_line stop)
+-- a report is asked for only of a journal that is there
+abbrev pub HasLog : Result (Option (List Application)) Stop → Option Record → Type 0
+HasLog (Ok (Some plan)) None = ⊥
+HasLog (Ok (Some plan)) (Some log) = Unit {0}
+HasLog (Ok None) journal = Unit {0}
+HasLog (Err stop) journal = Unit {0}
+
+-- the status of what was done, and its report or its line
+module _ {E : Type 0} (lines : Ghosts E) (err said : E) where
+  abbrev pub Finishes : Result (Option (List Application)) Stop → Option Record → ℕ → Type 0
+  Finishes (Ok None) journal status = (status ≡ 0) × (said ≡ err)
+  Finishes (Ok (Some plan)) None status = ⊥
+  Finishes (Ok (Some plan)) (Some log) status = Reports lines err said (report plan (windows_of log)) status
+  Finishes (Err stop) journal status = (status ≡ status_of_stop stop) × Says lines err said (stop_line stop)

@@ -5,9 +5,8 @@ use Rattle.command_line.specs.declared.command.RenderOptions.{RenderOptions}
 use Rattle.command_line.specs.declared.command.Command.TheVariants.{Render, Info, SelfTest}
 
 -- the words ask for a render of this script
-pub record IsRender (words : List (List ℕ)) (script : List ℕ) : Type 0 where
-  pub options : RenderOptions
-  pub asked : command_in words ≡ Some (Render script options)
+abbrev pub IsRender : List (List ℕ) → List ℕ → RenderOptions → Type 0
+IsRender words script options = command_in words ≡ Some (Render script options)
 
 -- the words ask what is known of the clip of this script
 abbrev pub IsInfo : List (List ℕ) → List ℕ → Type 0

@@ -11,9 +11,9 @@ ghost use Rattle.serve_app.specs.Stop.{ScriptHasClip};
 
 use crate::closing::close_host;
 use crate::play::tell;
-use crate::stop::Stop;
 use avs_files::{FileHost, HeldFiles, Known, Lent};
 use fv_io::{Files, Sink, Text};
+use serve_stops::Stop;
 use std::alloc::Global;
 use std::marker::{Brand, PhantomData};
 

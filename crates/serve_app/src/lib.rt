@@ -4,20 +4,18 @@
 #![tactic(auto)]
 
 mod closing;
-mod fault;
 mod info;
 pub mod laws;
 mod play;
 mod render;
 mod run;
-mod say;
-mod stop;
+mod shared;
 mod stream;
 mod test_run;
 #[cfg(test)]
 mod tests;
 
-pub use fault::InputFault;
 pub use run::{Ending, run_plain};
 pub use self_test::workload;
 pub use serve_events::{Event, Record, Windowed};
+pub use serve_stops::InputFault;

@@ -1,27 +1,27 @@
 // The clip of a script, rendered over files.
-ghost use Rattle.std.specs.Prelude.{◌≡◌, ◌≤◌, ◌<◌, None, IfOk, IfErr, OnOk, OnErr};
+ghost use Rattle.std.specs.Prelude.{◌≡◌, ◌≤◌, ◌<◌, None, IfOk, IfErr};
 ghost use Rattle.fv_io.specs.Faults.{HasRisen};
 ghost use Rattle.fv_io.specs.Files.{KeepsFiles, FilesFailed};
 ghost use Rattle.fv_io.specs.Sink.{IsLater};
 ghost use Rattle.fv_io.specs.World.{InWorld};
 ghost use Rattle.avs_files.specs.Opened.{told_of};
-ghost use Rattle.serve_app.specs.Journals.{IsScriptSerial, ScriptCuts};
+ghost use Rattle.serve_app.specs.Journals.{IsRunOf, ScriptCuts};
 ghost use Rattle.serve_app.specs.Playing.{PutsClip};
 ghost use Rattle.serve_app.specs.Stop.{RenderShows};
 
 use crate::closing::{close_host, close_table};
-use crate::play::{evaluate, put_opened};
-use crate::stop::Stop;
+use crate::play::{Whole, evaluate, put_opened};
 use avs_files::{FileHost, HeldFiles, Known, Lent, close_all};
 use fv_io::{Files, Sink, Text};
 use serve_events::Record;
+use serve_stops::Stop;
 use std::alloc::Global;
 use std::marker::{Brand, PhantomData};
 
 // Renders over files of which this is known, closes what was opened, and gives the files back.
 fn render_in<H: HeldFiles, W: Known, K: Sink>(
     alloc: Global,
-    answer: &mut Result<u32, Stop>,
+    answer: &mut Result<Whole, Stop>,
     files: H,
     of: PhantomData<W>,
     out: &mut K,
@@ -34,13 +34,12 @@ fn render_in<H: HeldFiles, W: Known, K: Sink>(
     requires given { H.given files ≡ W.given }
     requires cache { 0 < cache }
     requires none { journal.old ≡ None }
-    ensures whole { IfOk answer.new (λ frames. InWorld (told_of W.told W.world) (λ world.
-        PutsClip K.Sink world script.now out.old out.new frames)) }
+    ensures whole { IfOk answer.new (λ all. InWorld (told_of W.told W.world) (λ world.
+        PutsClip K.Sink world script.now out.old out.new all.frames)) }
     ensures stop { IfErr answer.new (RenderShows (HasRisen (H.faults files) (H.faults result)) K.Sink
         (told_of W.told W.world) script.now out.old out.new) }
-    ensures serial { OnOk answer.new (IsScriptSerial (told_of W.told W.world) script.now cache journal.new) }
-    ensures cut { OnErr answer.new (ScriptCuts (told_of W.told W.world) script.now cache K.Sink out.old out.new
-        journal.new) }
+    ensures serial { IfOk answer.new (λ all. IsRunOf (told_of W.told W.world) script.now cache journal.new all.graph) }
+    ensures cut { ScriptCuts (told_of W.told W.world) script.now cache K.Sink out.old out.new journal.new }
     ensures world { H.world result ≡ told_of W.told W.world }
     ensures borrow { H.borrow result ≡ W.borrow }
     ensures given { H.given result ≡ W.given }
@@ -73,7 +72,7 @@ fn render_in<H: HeldFiles, W: Known, K: Sink>(
 #[tactic(auto, using(crate::proofs::PickLemmas::picked))]
 fn render_held<H: HeldFiles, K: Sink>(
     alloc: Global,
-    answer: &mut Result<u32, Stop>,
+    answer: &mut Result<Whole, Stop>,
     files: H,
     out: &mut K,
     script: &Text,
@@ -82,12 +81,12 @@ fn render_held<H: HeldFiles, K: Sink>(
 ) -> H
     requires cache { 0 < cache }
     requires none { journal.old ≡ None }
-    ensures whole { IfOk answer.new (λ frames. InWorld (H.world files) (λ world.
-        PutsClip K.Sink world script.now out.old out.new frames)) }
+    ensures whole { IfOk answer.new (λ all. InWorld (H.world files) (λ world.
+        PutsClip K.Sink world script.now out.old out.new all.frames)) }
     ensures stop { IfErr answer.new (RenderShows (HasRisen (H.faults files) (H.faults result)) K.Sink
         (H.world files) script.now out.old out.new) }
-    ensures serial { OnOk answer.new (IsScriptSerial (H.world files) script.now cache journal.new) }
-    ensures cut { OnErr answer.new (ScriptCuts (H.world files) script.now cache K.Sink out.old out.new journal.new) }
+    ensures serial { IfOk answer.new (λ all. IsRunOf (H.world files) script.now cache journal.new all.graph) }
+    ensures cut { ScriptCuts (H.world files) script.now cache K.Sink out.old out.new journal.new }
     ensures world { H.world result ≡ H.world files }
     ensures borrow { H.borrow result ≡ H.borrow files }
     ensures given { H.given result ≡ H.given files }
@@ -107,7 +106,7 @@ fn render_held<H: HeldFiles, K: Sink>(
 }
 
 /// Renders the clip of a script: it evaluates the script, and puts the head and the frames of its clip, with a cache of
-/// so many frames. It answers the number of frames, leaves the journal, and closes every file that it opened.
+/// so many frames. It answers the number of frames and the graph, leaves the journal, and closes every file that it opened.
 pub(crate) fn render<F: Files, K: Sink>(
     alloc: Global,
     files: &mut F,
@@ -115,15 +114,15 @@ pub(crate) fn render<F: Files, K: Sink>(
     script: &Text,
     cache: u32,
     journal: &mut Option<Record>,
-) -> Result<u32, Stop>
+) -> Result<Whole, Stop>
     requires cache { 0 < cache }
     requires none { journal.old ≡ None }
-    ensures whole { IfOk result (λ frames. InWorld (F.world files.old) (λ world.
-        PutsClip K.Sink world script.now out.old out.new frames)) }
+    ensures whole { IfOk result (λ all. InWorld (F.world files.old) (λ world.
+        PutsClip K.Sink world script.now out.old out.new all.frames)) }
     ensures stop { IfErr result (RenderShows (FilesFailed F.Files files.old files.new) K.Sink (F.world files.old)
         script.now out.old out.new) }
-    ensures serial { OnOk result (IsScriptSerial (F.world files.old) script.now cache journal.new) }
-    ensures cut { OnErr result (ScriptCuts (F.world files.old) script.now cache K.Sink out.old out.new journal.new) }
+    ensures serial { IfOk result (λ all. IsRunOf (F.world files.old) script.now cache journal.new all.graph) }
+    ensures cut { ScriptCuts (F.world files.old) script.now cache K.Sink out.old out.new journal.new }
     ensures keeps { KeepsFiles F.Files files.old files.new }
     ensures later { IsLater K.Sink out.old out.new }
 {

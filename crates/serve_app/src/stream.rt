@@ -13,8 +13,6 @@ ghost use Rattle.serve_app.specs.Clips.{PutsFrames, StreamShows};
 ghost use Rattle.serve_app.specs.Journals.{IsSerial, CutsShort};
 ghost use Rattle.serve_app.specs.Streams.{HeadStops, NamesSource, ToldAs};
 
-use crate::fault::InputFault;
-use crate::stop::Stop;
 use clip_graph::Graph;
 use clip_term::Op;
 use fv_io::{Failed, Sink, Source, Text};
@@ -22,6 +20,7 @@ use fv_plane::Info;
 use prefetch::{RenderStop, render_plain};
 use serve_core::Core;
 use serve_events::{Record, Stop as WorkerStop};
+use serve_stops::{InputFault, Stop};
 use serve_worker::Instance;
 use std::alloc::{AllocError, Global};
 use y4m_stream::print_head;
@@ -106,8 +105,8 @@ pub(crate) fn put_clip<S: Source, K: Sink>(
     ensures stop { IfErr result (StreamShows K.Sink core.old.fixed.plan core.old.fixed.root
         (book_of (feed_of S.Source) core.old.fixed.plan core.old.table) out.old out.new (faults_of S.Source) core.new.table) }
     ensures serial { OnOk result (IsSerial core.old.fixed.plan core.old.fixed.root core.old.fixed.capacity journal.new) }
-    ensures cut { OnErr result (CutsShort core.old.fixed.plan core.old.fixed.root core.old.fixed.capacity K.Sink
-        out.old out.new journal.new) }
+    ensures cut { CutsShort core.old.fixed.plan core.old.fixed.root core.old.fixed.capacity K.Sink
+        out.old out.new journal.new }
     ensures free { AllFree core.new.table }
     ensures held { held_in holds_of core.new.table ≡ held_in holds_of core.old.table }
     ensures unclaimed { core.new.claims ≡ [] }

@@ -4,9 +4,9 @@ ghost use Rattle.fv_io.specs.Sink.{IsLater};
 ghost use Rattle.serve_app.specs.SelfTest.{IsSelfLine, PutsSelfLine, SelfTestShows};
 
 use crate::render::render;
-use crate::stop::Stop;
 use fv_io::{Failed, Sink, Text};
 use self_test::{DigestSink, workload};
+use serve_stops::Stop;
 use std::alloc::{AllocError, Global};
 
 // How many frames the cache holds.
@@ -21,7 +21,7 @@ fn line_of(alloc: Global, number: u32) -> Result<String, AllocError>
     let mut sink = DigestSink::new();
     let mut journal = None;
     match render(alloc, &mut files, &mut sink, &script, CACHE, &mut journal) {
-        Ok(frames) => sink.line(alloc, frames),
+        Ok(all) => sink.line(alloc, all.frames),
         Err(_) => Err(AllocError),
     }
 }

@@ -10,7 +10,10 @@ use std::test::Fail;
 const CLIP: &[u8] =
     b"YUV4MPEG2 W1 H1 F25:1 Ip A1:1 Cmono\nFRAME\n\x00FRAME\n\x01FRAME\n\x02FRAME\n\x03";
 
-// Its merge with its reverse.
+// The merge of the clip with its reverse.
+const TWICE: &[u8] = b"c = Y4MSource(\"m4.y4m\")\nMerge(c, c.Reverse)";
+
+// Its text.
 const AGAIN: &[u8] =
     b"YUV4MPEG2 W1 H1 F25:1 Ip A1:1 Cmono\nFRAME\n\x02FRAME\n\x02FRAME\n\x02FRAME\n\x02";
 
@@ -187,7 +190,7 @@ fn words_break_the_rules(rt: HostRuntime) -> Result<(), Fail> {
         &["render", "s.avs", "x"],
         &["Render", "s.avs"],
         &["render", "-x"],
-        &["render", "s.avs", "--report"],
+        &["render", "s.avs", "--reports"],
         &["render", "s.avs", "--cache", "0"],
         &["render", "s.avs", "--cache=257"],
         &["render", "s.avs", "--plain", "--plain"],
@@ -238,6 +241,10 @@ fn info_tells_of_a_clip(rt: HostRuntime) -> Result<(), Fail> {
             "a = Y4MSource(\"m4.y4m\")\nb = a.Reverse\nMerge(b, a)",
             "clip 1x1 Y8 25:1 frames 4\n0 Y4MSource 3\n1 Reverse 1 0\n2 Merge 1 1 0\nroot 2\nprefetch 1 1\n",
         ),
+        (
+            "SetFilterMTMode(\"FlipVertical\", 3, true)\nY4MSource(\"m4.y4m\").FlipVertical.Prefetch(4)",
+            "clip 1x1 Y8 25:1 frames 4\n0 Y4MSource 3\n1 FlipVertical 3 0\nroot 1\nprefetch 4 8\n",
+        ),
     ] {
         let mut files = script_and_clip(alloc, "s.avs", script.as_bytes(), 64, &[])?;
         let (status, out, err) = run(alloc, words, &mut files, (999, 99))?;
@@ -281,7 +288,7 @@ fn is_wrong(
 #[test]
 fn scripts_have_faults(rt: HostRuntime) -> Result<(), Fail> {
     let alloc = rt.alloc();
-    let rows: [(&[u8], u32, &str); 19] = [
+    let rows: [(&[u8], u32, &str); 20] = [
         (b"Y4MSource(\"\xff\")", 0, "NotUtf8"),
         (b"\xff", 0, "NotUtf8"),
         (b"\"abc", 1, "OpenString"),
@@ -301,7 +308,8 @@ fn scripts_have_faults(rt: HostRuntime) -> Result<(), Fail> {
             "NestLimit",
         ),
         (b"", 1, "NotClip"),
-        (b"BlankClip().Prefetch", 1, "Unbuilt"),
+        (b"BlankClip().Prefetch(17)", 1, "PrefetchRange"),
+        (b"SetFilterMTMode(\"x\", 4)", 1, "ModeRefused"),
         (b"a = 1\nb", 2, "UnknownName"),
         (b"Assert(false, \"no\")", 1, "AssertFailed: no"),
         (b"BlankClip(width=1)", 1, "NotWholeChroma"),
@@ -370,34 +378,54 @@ fn an_input_changes_while_it_is_read(rt: HostRuntime) -> Result<(), Fail> {
     Ok(())
 }
 
-// A clip whose frames are each asked for twice ends with this status, with so many bytes of its text on `out`. The source
-// fails where it goes back once more after so many times.
-fn made_again(
-    rt: &impl Abort,
-    alloc: Global,
-    cache: &str,
-    rewinds: u32,
-    want: (u8, usize),
-) -> Result<(), Fail> {
-    let script: &[u8] = b"c = Y4MSource(\"m4.y4m\")\nMerge(c, c.Reverse)";
-    let trip = Trip::Rewind { rewinds };
-    let mut files = script_and_clip(alloc, "s.avs", script, 64, &[trip])?;
-    let words: &[&str] = &["render", "--cache", cache, "s.avs"];
-    let (status, out, _) = run(alloc, words, &mut files, (99, 99))?;
-    assert_eq!(rt; status, want.0);
-    assert!(rt; out.bytes() == start(AGAIN, want.1));
-    assert_eq!(rt; files.given(), 0);
-    Ok(())
-}
-
-// A cache of one frame makes some frames again.
+// A clip whose frames are each asked for twice. A cache of one frame makes some of them again. The source fails where it
+// goes back once more after so many times.
 #[test]
 fn a_small_cache_makes_frames_again(rt: HostRuntime) -> Result<(), Fail> {
     let alloc = rt.alloc();
-    made_again(&rt, alloc, "256", 9, (0, 64))?;
-    made_again(&rt, alloc, "1", 9, (0, 64))?;
-    made_again(&rt, alloc, "256", 2, (0, 64))?;
-    made_again(&rt, alloc, "1", 2, (4, 50))?;
+    for (cache, rewinds, status, text) in [
+        ("256", 9, 0, 64),
+        ("1", 9, 0, 64),
+        ("256", 2, 0, 64),
+        ("1", 2, 4, 50),
+    ] {
+        let trip = Trip::Rewind { rewinds };
+        let mut files = script_and_clip(alloc, "s.avs", TWICE, 64, &[trip])?;
+        let words: &[&str] = &["render", "--cache", cache, "s.avs"];
+        let (ended, out, _) = run(alloc, words, &mut files, (99, 99))?;
+        assert_eq!(rt; ended, status);
+        assert!(rt; out.bytes() == start(AGAIN, text));
+        assert_eq!(rt; files.given(), 0);
+    }
+    Ok(())
+}
+
+// The report comes after the whole text. Where there is no room for it the status is 5; where a render ends early there is
+// none.
+#[test]
+fn a_render_tells_its_report(rt: HostRuntime) -> Result<(), Fail> {
+    let alloc = rt.alloc();
+    let large =
+        "0 Y4MSource made 4 hit 4 evicted 0 entered 4\n1 Reverse made 4 hit 0 evicted 0 entered 0\n\
+        2 Merge made 4 hit 0 evicted 0 entered 0\n";
+    let small =
+        "0 Y4MSource made 8 hit 0 evicted 8 entered 8\n1 Reverse made 4 hit 0 evicted 4 entered 0\n\
+        2 Merge made 4 hit 0 evicted 3 entered 0\n";
+    for (cache, room, status, line) in [
+        ("256", (99, 999), 0, large),
+        ("1", (99, 999), 0, small),
+        ("1", (99, 60), 5, small),
+        ("1", (99, 0), 5, small),
+        ("1", (60, 999), 5, "write fault\n"),
+    ] {
+        let mut files = script_and_clip(alloc, "s.avs", TWICE, 64, &[])?;
+        let words: &[&str] = &["render", "--report", "--cache", cache, "s.avs"];
+        let (ended, out, err) = run(alloc, words, &mut files, room)?;
+        assert_eq!(rt; ended, status);
+        assert!(rt; out.bytes() == start(AGAIN, room.0));
+        assert!(rt; err.bytes() == start(line.as_bytes(), room.1));
+        assert_eq!(rt; files.given(), 0);
+    }
     Ok(())
 }
 
@@ -458,6 +486,11 @@ fn a_render_leaves_its_journal(rt: HostRuntime) -> Result<(), Fail> {
     Ok(())
 }
 
+// A read fails at this place, after so many rewinds.
+fn reads_to(rewinds: u32, place: u64) -> Trip {
+    Trip::Read { rewinds, place }
+}
+
 #[test]
 fn the_outside_fails(rt: HostRuntime) -> Result<(), Fail> {
     let alloc = rt.alloc();
@@ -474,10 +507,7 @@ fn the_outside_fails(rt: HostRuntime) -> Result<(), Fail> {
     ends(&rt, alloc, RENDER, &mut files, (99, 99), (0, 64, ""))?;
     assert_eq!(rt; files.faults(), 0);
     // A read of the script fails.
-    let trip = Trip::Read {
-        rewinds: 0,
-        place: 7,
-    };
+    let trip = reads_to(0, 7);
     let mut files = script_and_clip(alloc, "s.avs", SCRIPT, 64, &[])?;
     files.add(
         Text::from_str(alloc, "s.avs")?,
@@ -489,49 +519,13 @@ fn the_outside_fails(rt: HostRuntime) -> Result<(), Fail> {
     ends(&rt, alloc, RENDER, &mut files, (99, 99), want)?;
     assert_eq!(rt; files.faults(), 1);
     for (trip, text) in [
-        (
-            Trip::Read {
-                rewinds: 0,
-                place: 0,
-            },
-            0,
-        ),
-        (
-            Trip::Read {
-                rewinds: 0,
-                place: 64,
-            },
-            0,
-        ),
+        (reads_to(0, 0), 0),
+        (reads_to(0, 64), 0),
         (Trip::Rewind { rewinds: 0 }, 36),
-        (
-            Trip::Read {
-                rewinds: 1,
-                place: 0,
-            },
-            36,
-        ),
-        (
-            Trip::Read {
-                rewinds: 1,
-                place: 51,
-            },
-            50,
-        ),
-        (
-            Trip::Read {
-                rewinds: 1,
-                place: 56,
-            },
-            50,
-        ),
-        (
-            Trip::Read {
-                rewinds: 1,
-                place: 63,
-            },
-            57,
-        ),
+        (reads_to(1, 0), 36),
+        (reads_to(1, 51), 50),
+        (reads_to(1, 56), 50),
+        (reads_to(1, 63), 57),
     ] {
         let mut files = script_and_clip(alloc, "s.avs", SCRIPT, 64, &[trip])?;
         let want = (4, text, "read fault\n");

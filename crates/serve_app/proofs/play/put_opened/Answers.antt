@@ -1,5 +1,5 @@
 -- The core stands for what its sources tell.
-use Rattle.std.proofs.Common.{◌≡◌, ◌∙◌, ◌+◌, ◌++◌, length, sym, ap, subst, rules}
+use Rattle.std.proofs.Common.{◌≡◌, ◌∙◌, ◌+◌, ◌++◌, length, OnOk, sym, ap, subst, rules}
 use Rattle.std.specs.Arc.{arc_value}
 use Rattle.std.proofs.lemmas.List.{length-append}
 use Rattle.serve_core.specs.Sources.{book_of, faults_of as faults_in}
@@ -11,6 +11,8 @@ use Rattle.serve_worker.specs.Instances.{feed_of, faults_of}
 use Rattle.serve_worker.proofs.CallerLemmas.{told_book, count_held}
 use Rattle.serve_worker.proofs.Tables.{all_free, none_leased}
 use Rattle.serve_app.specs.Clips.{book_told}
+use Rattle.serve_app.specs.Journals.{IsSerial}
+use Rattle.serve_app.proofs.PlayLemmas.{ok_with, each_with, err_with, graph_with}
 use Rattle.serve_app.proofs.play.put_opened.Goals as goal
 use Rattle.serve_app.proofs.play.put_opened.Given.{Over}
 use Rattle.serve_app.proofs.play.put_opened.Goals.{After-into_table}
@@ -23,6 +25,9 @@ returns-in_default-new-clause-free g c = all_free c.furnish.new.table c.in-Ok.en
 
 pub returns-in_default-new-2-clause-free : goal.returns-in_default-new-2-clause-free
 returns-in_default-new-2-clause-free g c = all_free c.furnish.new.table c.in-Ok.ensures.leases
+
+pub returns-in_default-try_clone-clause-free : goal.returns-in_default-try_clone-clause-free
+returns-in_default-try_clone-clause-free g c = all_free c.furnish.new.table c.in-Ok.ensures.leases
 
 pub put_clip-put-requires-clause-stands : goal.put_clip-put-requires-clause-stands
 put_clip-put-requires-clause-stands g c =
@@ -52,14 +57,22 @@ book_is g c =
 pub returns-clause-put : goal.returns-clause-put
 returns-clause-put g c =
     let put = c.put_clip-put.ensures.put in
-    rw (root_is g c) at (rw (plan_is g c) at (rw (book_is g c) at put))
+    rw c.with_graph-whole.ensures (ok_with _ c.put_clip-put.result _ (rw (root_is g c) at (rw (plan_is g c) at (rw (book_is g c) at put))))
 
 pub returns-clause-frames : goal.returns-clause-frames
-returns-clause-frames g c = rw (root_is g c) at (rw (plan_is g c) at c.put_clip-put.ensures.frames)
+returns-clause-frames g c = rw c.with_graph-whole.ensures (ok_with _ c.put_clip-put.result _ (rw (root_is g c) at (rw (plan_is g c) at c.put_clip-put.ensures.frames)))
+
+pub returns-clause-graph : goal.returns-clause-graph
+returns-clause-graph g c = rw c.with_graph-whole.ensures (graph_with c.put_clip-put.result _ c.args.opened.graph (search rules))
+
+pub returns-clause-serial : goal.returns-clause-serial
+returns-clause-serial g c =
+    let each : OnOk c.put_clip-put.result (IsSerial c.args.opened.graph c.args.opened.root c.args.cache c.put_clip-put.new.journal) = search rules in
+    rw c.with_graph-whole.ensures (each_with _ c.put_clip-put.result _ each)
 
 pub returns-clause-stop : goal.returns-clause-stop
 returns-clause-stop g c =
-    rw (sym c.into_table.ensures) at (rw (root_is g c) at (rw (plan_is g c) at (rw (book_is g c) at c.put_clip-put.ensures.stop)))
+    rw c.with_graph-whole.ensures (err_with _ c.put_clip-put.result _ (rw (sym c.into_table.ensures) at (rw (root_is g c) at (rw (plan_is g c) at (rw (book_is g c) at c.put_clip-put.ensures.stop)))))
 
 pub returns-clause-all : goal.returns-clause-all
 returns-clause-all g c =

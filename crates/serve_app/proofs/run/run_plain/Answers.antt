@@ -1,17 +1,22 @@
 -- Each ending has its cause.
 use Rattle.std.proofs.Common.{◌∙◌, refl, sym}
 use Rattle.serve_app.proofs.CacheLemmas.{has_cache}
-use Rattle.serve_app.proofs.RunLemmas.{ends_of, ends_of_memory, said_later}
+use Rattle.serve_app.proofs.RunLemmas.{ends_of, ends_of_memory, has_log, said_later}
 use Rattle.serve_app.proofs.run.run_plain.Goals as goal
 
 pub run_command-done-requires-clause-cache : goal.run_command-done-requires-clause-cache
 run_command-done-requires-clause-cache g c = λ lifetimes longer. has_cache c.args.words.now c.in-Ok-Some.command (sym c.in-Ok-Some.ensures ∙ c.in-Ok-Some.field-0-is)
 
+pub finish-status-requires : goal.finish-status-requires
+finish-status-requires g c =
+    has_log g.F.Files g.K.Sink c.args.files.now c.run_command-done.new.files c.args.out.now c.run_command-done.new.out c.run_command-done.new.journal c.in-Ok-Some.command c.run_command-done.result
+    c.run_command-done.ensures.does
+
 pub returns-in-Ok-Some : goal.returns-in-Ok-Some
 returns-in-Ok-Some g c =
     ends_of g.F.Files g.K.Sink g.E.Sink c.args.files.now c.run_command-done.new.files c.args.out.now c.run_command-done.new.out c.args.err.now c.finish-status.new.err c.args.words.now
     c.run_command-done.new.journal c.in-Ok-Some.command c.run_command-done.result c.finish-status.result (sym c.in-Ok-Some.ensures ∙ c.in-Ok-Some.field-0-is) c.run_command-done.ensures.does c.finish-status.ensures
-    (c.run_command-done.ensures.keeps, c.run_command-done.ensures.later, said_later g.E.Sink c.args.err.now c.finish-status.new.err c.run_command-done.result c.finish-status.result c.finish-status.ensures)
+    (c.run_command-done.ensures.keeps, c.run_command-done.ensures.later, said_later g.E.Sink c.args.err.now c.finish-status.new.err c.run_command-done.result c.run_command-done.new.journal c.finish-status.result c.finish-status.ensures)
 
 pub returns-in-Err : goal.returns-in-Err
 returns-in-Err g c =

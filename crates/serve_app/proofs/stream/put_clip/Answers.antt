@@ -2,7 +2,7 @@
 use Rattle.std.proofs.Common.{◌≡◌, sym, rules}
 use Rattle.clip_graph.specs.Plan.{application_at}
 use Rattle.serve_worker.proofs.Tables.{all_free}
-use Rattle.serve_app.proofs.StreamLemmas.{all_put, stream_stops, cut_short, head_stops}
+use Rattle.serve_app.proofs.StreamLemmas.{all_put, stream_stops, cut_short, whole_short, head_stops}
 use Rattle.serve_app.proofs.stream.put_clip.Goals as goal
 
 pub returns-in-Err-clause-stop : goal.returns-in-Err-clause-stop
@@ -30,3 +30,9 @@ returns-in-Err-done-clause-cut g c =
     let same : c.node.result.now.info ≡ (application_at c.args.core.now.fixed.plan c.args.core.now.fixed.root).info = search rules in
     cut_short g.S.Source g.K.Sink c.args.core.now c.args.out.now c.put_head.new.out c.render_plain-done.new.out c.requires.stands (rw same at c.in-Ok.ensures.put)
     c.render_plain-done.new.journal c.render_plain-done.new.core c.in-Err-done.stop c.put_head.ensures.later c.in-Err-done.ensures.stop
+
+pub returns-in-Ok-done-clause-cut : goal.returns-in-Ok-done-clause-cut
+returns-in-Ok-done-clause-cut g c =
+    let same : c.node.result.now.info ≡ (application_at c.args.core.now.fixed.plan c.args.core.now.fixed.root).info = search rules in
+    whole_short g.S.Source g.K.Sink c.args.core.now c.args.out.now c.put_head.new.out c.render_plain-done.new.out c.requires.stands (rw same at c.in-Ok.ensures.put)
+    c.render_plain-done.new.journal c.render_plain-done.new.core c.in-Ok-done.ensures.ok

@@ -1,0 +1,66 @@
+-- What ApplyRange calls is called as if it stood there by itself: the bound on its arguments changes nothing.
+use Rattle.std.proofs.Common.{◌≡◌, ℕ, zero, suc, ◌<◌, ◌≤◌, ◌+◌, List, [], ◌∷◌, length, map, Option, Some, None, Ok, Err, refl, ap, arith}
+use Rattle.std.proofs.lemmas.List.{length-map}
+use Rattle.avs_tree.specs.Tree.{Block}
+use Rattle.avs_values.specs.Binding.{Bound}
+use Rattle.avs_values.specs.Values.{Text}
+use Rattle.avs_values.specs.declared.binding.Given.{Given}
+use Rattle.avs_values.specs.declared.value.Value.{Value}
+use Rattle.avs_values.specs.declared.value.Value.TheVariants as v
+use Rattle.avs_meaning.proofs.TextArguments.{HasForm, has_form}
+use Rattle.avs_meaning.specs.Calls.{Callee, user, builtin, takes, Fit, fit_or_last, unnamed}
+use Rattle.avs_meaning.specs.Expressions.{Caller, called, ranged_by, applied, apply_by, call_within, apply}
+use Rattle.avs_meaning.specs.Filters.{ranged}
+use Rattle.avs_meaning.specs.Outside.{Outside}
+use Rattle.avs_meaning.specs.State.{State, Outcome, Run, and_then}
+use Rattle.avs_meaning.specs.declared.builtin.Builtin.TheVariants as b
+
+-- what follows gives the same
+followed : {X Y : Type 0} (o : Outcome X) (f g : X → Run Y) → ((x : X) (s : State) → f x s ≡ g x s) → and_then o f ≡ and_then o g
+followed (Ok ended) f g same = same ended.0 ended.1
+followed (Err fault) f g same = refl
+
+-- The two call alike with fewer arguments than these.
+abbrev pub Alike : Caller → Caller → ℕ → Type 0
+Alike again other count = (c : Callee) (args : List Given) (here : Text) (line : ℕ) (s : State) → length args < count → again c args here line s ≡ other c args here line s
+
+range_alike : (again other : Caller) (count : ℕ) → Alike again other count → (values rest : List Value) (here : Text) (line : ℕ) (s : State) → length rest + 3 ≤ count
+    → ranged_by again values rest here line s ≡ ranged_by other values rest here line s
+range_alike again other count same (v.Clip i ∷ v.Int first ∷ v.Int last ∷ v.Text word ∷ []) rest here line s few =
+    let args = map unnamed (v.Clip i ∷ rest) in
+    let fewer : length args < count = let e : length args ≡ suc (length rest) = length-map (v.Clip i ∷ rest) unnamed in omega arith in
+    ap (λ o. and_then o (ranged here i first last line)) (followed (called here word line s) (λ c. again c args here line) (λ c. other c args here line) (λ c t. same c args here line t fewer))
+range_alike again other count same _ rest here line s few = refl
+
+module _ (outside : Outside) (depth : ℕ) (deeper : Text → Block → Run Value) where
+  applied_alike : (again other : Caller) (count : ℕ) → Alike again other count → (c : Callee) (sig : ℕ) (bound : Bound) (here : Text) (line : ℕ) (s : State) → HasForm c count bound
+      → applied outside depth deeper again c sig bound here line s ≡ applied outside depth deeper other c sig bound here line s
+  applied_alike again other count same (user d) sig bound here line s has = refl
+  applied_alike again other count same (builtin b.ApplyRange) sig bound here line s has = range_alike again other count same bound.values bound.rest here line s has.1
+  applied_alike again other count same (builtin _) sig bound here line s has = refl
+
+  apply_by_alike : (again other : Caller) (args : List Given) (last : Option Value) → Alike again other (length args) → (c : Callee) (o : Fit) (here : Text) (line : ℕ) (s : State) → fit_or_last (takes c) args last ≡ o
+      → apply_by outside depth deeper again o c here line s ≡ apply_by outside depth deeper other o c here line s
+  apply_by_alike again other args last same c (Some found) here line s is = applied_alike again other (length args) same c found.0 found.1 here line s (has_form c args last found.0 found.1 is)
+  apply_by_alike again other args last same c None here line s is = refl
+
+  within_alike : (j k count : ℕ) → count ≤ j → count ≤ k → Alike (call_within outside depth deeper j) (call_within outside depth deeper k) count
+  unfolding call_within
+  within_alike zero k count few fewer = λ c args here line s less. absurd (omega arith)
+  within_alike (suc j) zero count few fewer = λ c args here line s less. absurd (omega arith)
+  within_alike (suc j) (suc k) count few fewer = λ c args here line s less.
+      apply_by_alike (call_within outside depth deeper j) (call_within outside depth deeper k) args None (within_alike j k (length args) (omega arith) (omega arith)) c (fit_or_last (takes c) args None) here line s refl
+
+  -- a call whose arguments are tried as they are
+  abbrev pub direct : Caller
+  direct c args here line = apply outside depth deeper c args None here line
+
+  within_direct : (k : ℕ) → Alike (call_within outside depth deeper k) direct k
+  unfolding call_within
+  within_direct k = λ c args here line s less.
+      within_alike k (suc (length args)) (suc (length args)) (omega arith) (omega arith) c args here line s (omega arith)
+
+  pub apply_direct : (c : Callee) (args : List Given) (last : Option Value) (here : Text) (line : ℕ) (s : State)
+      → apply outside depth deeper c args last here line s ≡ apply_by outside depth deeper direct (fit_or_last (takes c) args last) c here line s
+  apply_direct c args last here line s =
+      apply_by_alike (call_within outside depth deeper (length args)) direct args last (within_direct (length args)) c (fit_or_last (takes c) args last) here line s refl

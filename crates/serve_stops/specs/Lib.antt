@@ -1,0 +1,3 @@
+pub mod StopKinds
+pub mod Lines
+pub mod Reports
