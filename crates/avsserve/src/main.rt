@@ -23,8 +23,16 @@ fn words_of(rt: &HostRuntime, alloc: Global) -> Result<Vec<Text>, AllocError> {
     Ok(words)
 }
 
+// Has the memory of frames used again. A freed block that is larger than all that were freed before goes back to the
+// system, and the next one is mapped anew, page by page. So a large one is freed at the start, in which nothing is
+// written. Where there is no room for it, frames are made more slowly.
+fn keep_freed_memory(alloc: Global) {
+    let _ = Vec::<u8>::with_capacity(alloc, 31 << 20);
+}
+
 fn main(rt: HostRuntime) -> ExitCode {
     let alloc = rt.alloc();
+    keep_freed_memory(alloc);
     let mut err = RealSink::new(rt.stderr());
     let Ok(words) = words_of(&rt, alloc) else {
         let _ = err.put(b"no memory\n");

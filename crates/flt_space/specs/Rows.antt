@@ -1,8 +1,10 @@
 -- The rows that makers put.
 use Rattle.std.specs.Prelude.{◌≡◌, ℕ, ◌+◌, ◌*◌, ◌-◌, ◌<◌, List, ◌++◌, length, replicate, take, drop, slice_index}
-use Rattle.fv_plane.specs.Format.{plane_height}
-use Rattle.fv_plane.specs.Look.{Look}
-use Rattle.fv_plane.specs.Picture.{Picture, row_of}
+use Rattle.fv_plane.specs.Format.{plane_width, plane_height}
+use Rattle.fv_plane.specs.Look.{Look, look_in}
+use Rattle.fv_plane.specs.Picture.{Picture, row_of, sample_of}
+use Rattle.clip_term.specs.declared.op.SpaceOp.{SpaceOp}
+use Rattle.clip_term.specs.Space.{space_at}
 
 -- by plane and place
 abbrev pub rows_upside_down : Picture → ℕ → ℕ → List ℕ
@@ -20,3 +22,18 @@ covered left right value row = padded left value (take (length row - right - lef
 abbrev pub HasRows : Look → ℕ → ℕ → ℕ → ℕ → List ℕ → Type 0
 HasRows at p y count width rows =
     (k x : ℕ) → k < count → x < width → slice_index rows (k * width + x) ≡ at p x (y + k)
+
+-- column x of a turned plane is a row of the picture, and row y of it a column, which these name by the plane's sizes
+abbrev pub turned_at : (ℕ → ℕ → ℕ) → (ℕ → ℕ → ℕ) → Picture → Look
+turned_at row column input p x y =
+    sample_of input.planes p (column (plane_width input.shape p) y) (row (plane_height input.shape p) x)
+
+abbrev pub Turns : SpaceOp → (ℕ → ℕ → ℕ) → (ℕ → ℕ → ℕ) → Picture → Type 0
+Turns op row column input =
+    (p x y : ℕ) → space_at op input.shape (look_in input) p x y ≡ turned_at row column input p x y
+
+-- the first columns of rows of a turned plane that lie side by side, from row y on
+abbrev pub HasColumns : (ℕ → ℕ → ℕ) → (ℕ → ℕ → ℕ) → Picture → ℕ → ℕ → ℕ → ℕ → List ℕ → Type 0
+HasColumns row column input p y count columns rows =
+    (k x : ℕ) → k < count → x < columns
+    → slice_index rows (k * plane_height input.shape p + x) ≡ turned_at row column input p x (y + k)

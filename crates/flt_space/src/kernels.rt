@@ -1,5 +1,6 @@
-// What is done to the samples of a row. Plain loops over slices, which the compiler turns into vector instructions.
-ghost use Rattle.std.specs.Prelude.{◌≡◌, ◌-◌, ◌+◌, ◌≤◌, EachIndex, length, slice_index};
+// What is done to the samples of a row, or of a block. Plain loops over slices, which the compiler turns into vector
+// instructions.
+ghost use Rattle.std.specs.Prelude.{◌≡◌, ◌-◌, ◌+◌, ◌*◌, ◌<◌, ◌≤◌, ℕ, EachIndex, length, slice_index};
 ghost use Rattle.clip_term.specs.Space.{limited};
 ghost use Rattle.flt_space.specs.Rows.{padded, covered};
 
@@ -53,4 +54,27 @@ pub fn cover_row(row: &[u8], left: usize, right: usize, value: u8, out: &mut [u8
     ensures { out.new ≡ covered left right value row.now }
 {
     pad_row(&row[left..row.len() - right], left, value, out);
+}
+
+// The halves of a block, sample by sample in turn.
+fn interleave(block: &[u8; 256], out: &mut [u8; 256])
+    ensures even { (k : ℕ) → k < 128 → slice_index out.new (2 * k) ≡ slice_index block.now k }
+    ensures odd { (k : ℕ) → k < 128 → slice_index out.new (2 * k + 1) ≡ slice_index block.now (k + 128) }
+{
+    for k in 0..128 {
+        out[2 * k] = block[k];
+        out[2 * k + 1] = block[k + 128];
+    }
+}
+
+/// The rows of a block of 16 rows of 16 samples become its columns. Each of the four steps takes a bit of a sample's place
+/// from its front to its end.
+pub fn transpose(block: &mut [u8; 256])
+    ensures { (k i : ℕ) → k < 16 → i < 16 → slice_index block.new (16 * k + i) ≡ slice_index block.old (16 * i + k) }
+{
+    let mut other = [0; 256];
+    interleave(block, &mut other);
+    interleave(&other, block);
+    interleave(block, &mut other);
+    interleave(&other, block);
 }

@@ -1,5 +1,5 @@
 // Pictures turned on their side.
-ghost use Rattle.std.specs.Prelude.{◌≡◌, ◌<◌, ◌≤◌, ◌+◌, ◌*◌, ◌-◌, ◌^◌, ℕ, None, IfOk, length, slice_index};
+ghost use Rattle.std.specs.Prelude.{◌≡◌, ◌<◌, ◌≤◌, ◌+◌, ◌*◌, ◌-◌, ◌%◌, ◌^◌, ℕ, None, IfOk, length, slice_index};
 ghost use Rattle.fv_plane.specs.Format.{IsLegal, planes, plane_width, plane_height};
 ghost use Rattle.fv_plane.specs.Look.{look_in};
 ghost use Rattle.fv_plane.specs.Picture.{sample_of};
@@ -7,13 +7,14 @@ ghost use Rattle.fv_plane.specs.Refusals.{first_fault};
 ghost use Rattle.clip_term.specs.declared.op.SpaceOp.{SpaceOp};
 ghost use Rattle.clip_term.specs.declared.op.SpaceOp.TheVariants.{TurnLeft, TurnRight};
 ghost use Rattle.clip_term.specs.Space.{space_at, space_picture, space_refusals, space_shape};
-ghost use Rattle.flt_space.specs.Rows.{HasRows};
+ghost use Rattle.flt_space.specs.Rows.{HasRows, HasColumns, Turns};
 
+use crate::kernels::transpose;
 use fv_plane::{Frame, FrameBuilder, Shape};
 use std::alloc::{AllocError, Global};
 
 // How many rows are made at a time. Columns that lie beside each other are read together, since they share cache lines.
-const AT_A_TIME: u32 = 16;
+const AT_A_TIME: u32 = 64;
 
 // The place of a column in one of rows that lie side by side.
 fn place(row: usize, width: usize, column: usize, rows: usize) -> usize
@@ -36,20 +37,32 @@ fn on_side(shape: Shape) -> Shape
     }
 }
 
-// A turn to one side.
+// A turn to one side: a column of the turned plane is a row of the input, and a row of it a column.
 trait Turn {
     ghost op: { SpaceOp };
 
-    // Writes rows of the turned plane from row `y` on, which lie side by side.
-    fn fill_rows(input: &Frame, plane: u32, y: u32, count: u32, out: &mut [u8])
-        requires plane { plane < planes input.now.shape.kind }
-        requires inside { y + count ≤ plane_width input.now.shape plane }
-        requires few { count ≤ 16 }
-        requires high { plane_height input.now.shape plane ≤ 65535 }
-        requires whole { length out.old ≡ count * plane_height input.now.shape plane }
-        ensures long { length out.new ≡ length out.old }
-        ensures rows { HasRows (space_at op input.now.shape (look_in input.now)) plane y count
-            (plane_height input.now.shape plane) out.new };
+    // The row of a plane of this height that column x becomes.
+    ghost row_of: { ℕ → ℕ → ℕ };
+
+    // The column of a plane of this width that row y becomes.
+    ghost column_of: { ℕ → ℕ → ℕ };
+
+    fn row(height: u32, x: u32) -> u32
+        requires { x < height }
+        ensures value { result ≡ row_of height x }
+        ensures inside { result < height };
+
+    fn column(width: u32, y: u32) -> u32
+        requires { y < width }
+        ensures value { result ≡ column_of width y }
+        ensures inside { result < width };
+
+    // The first of the 16 columns that the rows from y on become.
+    fn first_column(width: u32, y: u32) -> u32
+        requires { y + 16 ≤ width }
+        ensures inside { result + 16 ≤ width }
+        ensures low { (k : ℕ) → k < 16 → result ≤ column_of width (y + k) }
+        ensures high { (k : ℕ) → k < 16 → column_of width (y + k) < result + 16 };
 }
 
 struct ToLeft;
@@ -57,16 +70,20 @@ struct ToLeft;
 impl Turn for ToLeft {
     ghost op = { TurnLeft };
 
-    fn fill_rows(input: &Frame, plane: u32, y: u32, count: u32, out: &mut [u8]) {
-        let width = input.shape().plane_width(plane);
-        let height = input.shape().plane_height(plane);
-        for x in 0..height {
-            let row = input.row(plane, x);
-            for k in 0..count {
-                let at = place(k as usize, height as usize, x as usize, count as usize);
-                out[at] = row[(width - 1 - (y + k)) as usize];
-            }
-        }
+    ghost row_of = { λ height x. x };
+
+    ghost column_of = { λ width y. width - 1 - y };
+
+    fn row(_: u32, x: u32) -> u32 {
+        x
+    }
+
+    fn column(width: u32, y: u32) -> u32 {
+        width - 1 - y
+    }
+
+    fn first_column(width: u32, y: u32) -> u32 {
+        width - 16 - y
     }
 }
 
@@ -75,21 +92,156 @@ struct ToRight;
 impl Turn for ToRight {
     ghost op = { TurnRight };
 
-    fn fill_rows(input: &Frame, plane: u32, y: u32, count: u32, out: &mut [u8]) {
-        let height = input.shape().plane_height(plane);
-        for x in 0..height {
-            let row = input.row(plane, height - 1 - x);
-            for k in 0..count {
-                let at = place(k as usize, height as usize, x as usize, count as usize);
-                out[at] = row[(y + k) as usize];
-            }
+    ghost row_of = { λ height x. height - 1 - x };
+
+    ghost column_of = { λ width y. y };
+
+    fn row(height: u32, x: u32) -> u32 {
+        height - 1 - x
+    }
+
+    fn column(_: u32, y: u32) -> u32 {
+        y
+    }
+
+    fn first_column(_: u32, y: u32) -> u32 {
+        y
+    }
+}
+
+// Reads 16 samples, from a column on, of each of the rows that 16 columns of the turned plane are.
+fn read_block<T: Turn>(input: &Frame, plane: u32, column: u32, x: u32, block: &mut [u8; 256])
+    requires plane { plane < planes input.now.shape.kind }
+    requires across { column + 16 ≤ plane_width input.now.shape plane }
+    requires down { x + 16 ≤ plane_height input.now.shape plane }
+    ensures { (k i : ℕ) → k < 16 → i < 16 → slice_index block.new (16 * i + k)
+        ≡ sample_of input.now.planes plane (column + k) (T.row_of (plane_height input.now.shape plane) (x + i)) }
+{
+    let height = input.shape().plane_height(plane);
+    let column = column as usize;
+    for i in 0..16 {
+        let row = input.row(plane, T::row(height, x + i));
+        let at = 16 * i as usize;
+        block[at..at + 16].copy_from_slice(&row[column..column + 16]);
+    }
+}
+
+// Makes 16 columns, from x on, of 16 rows, from `top` on, of those that lie side by side from row y of the turned plane on.
+fn turn_block<T: Turn>(
+    input: &Frame,
+    plane: u32,
+    y: u32,
+    count: u32,
+    top: u32,
+    x: u32,
+    out: &mut [u8],
+)
+    requires plane { plane < planes input.now.shape.kind }
+    requires across { y + count ≤ plane_width input.now.shape plane }
+    requires down { x + 16 ≤ plane_height input.now.shape plane }
+    requires inside { top + 16 ≤ count }
+    requires few { count ≤ 64 }
+    requires high { plane_height input.now.shape plane ≤ 65535 }
+    requires whole { length out.old ≡ count * plane_height input.now.shape plane }
+    requires above { HasColumns T.row_of T.column_of input.now plane y top (x + 16) out.old }
+    requires before { HasColumns T.row_of T.column_of input.now plane y count x out.old }
+    ensures whole { length out.new ≡ length out.old }
+    ensures more { HasColumns T.row_of T.column_of input.now plane y (top + 16) (x + 16) out.new }
+    ensures before { HasColumns T.row_of T.column_of input.now plane y count x out.new }
+{
+    let width = input.shape().plane_width(plane);
+    let height = input.shape().plane_height(plane) as usize;
+    let first = T::first_column(width, y + top);
+    let mut block = [0; 256];
+    read_block::<T>(input, plane, first, x, &mut block);
+    transpose(&mut block);
+    for k in 0..16 {
+        let from = 16 * (T::column(width, y + top + k) - first) as usize;
+        let at = (top + k) as usize * height + x as usize;
+        out[at..at + 16].copy_from_slice(&block[from..from + 16]);
+    }
+}
+
+// Makes the columns, from x on, of rows of the turned plane.
+fn turn_columns<T: Turn>(input: &Frame, plane: u32, y: u32, count: u32, x: u32, out: &mut [u8])
+    requires plane { plane < planes input.now.shape.kind }
+    requires inside { y + count ≤ plane_width input.now.shape plane }
+    requires few { count ≤ 64 }
+    requires high { plane_height input.now.shape plane ≤ 65535 }
+    requires whole { length out.old ≡ count * plane_height input.now.shape plane }
+    requires before { HasColumns T.row_of T.column_of input.now plane y count x out.old }
+    ensures whole { length out.new ≡ length out.old }
+    ensures all { HasColumns T.row_of T.column_of input.now plane y count (plane_height input.now.shape plane) out.new }
+{
+    let width = input.shape().plane_width(plane);
+    let height = input.shape().plane_height(plane);
+    for x in x..height {
+        let row = input.row(plane, T::row(height, x));
+        for k in 0..count {
+            let at = place(k as usize, height as usize, x as usize, count as usize);
+            out[at] = row[T::column(width, y + k) as usize];
         }
     }
 }
 
+// Makes 16 columns, from x on, of rows of the turned plane.
+fn turn_across<T: Turn>(input: &Frame, plane: u32, y: u32, count: u32, x: u32, out: &mut [u8])
+    requires plane { plane < planes input.now.shape.kind }
+    requires across { y + count ≤ plane_width input.now.shape plane }
+    requires down { x + 16 ≤ plane_height input.now.shape plane }
+    requires blocks { count % 16 ≡ 0 }
+    requires few { count ≤ 64 }
+    requires high { plane_height input.now.shape plane ≤ 65535 }
+    requires whole { length out.old ≡ count * plane_height input.now.shape plane }
+    requires before { HasColumns T.row_of T.column_of input.now plane y count x out.old }
+    ensures whole { length out.new ≡ length out.old }
+    ensures more { HasColumns T.row_of T.column_of input.now plane y count (x + 16) out.new }
+{
+    for block in 0..count / 16 {
+        turn_block::<T>(input, plane, y, count, 16 * block, x, out);
+    }
+}
+
+// Makes rows of the turned plane, but for its last columns, and answers at which column these begin.
+fn turn_blocks<T: Turn>(input: &Frame, plane: u32, y: u32, count: u32, out: &mut [u8]) -> u32
+    requires plane { plane < planes input.now.shape.kind }
+    requires inside { y + count ≤ plane_width input.now.shape plane }
+    requires blocks { count % 16 ≡ 0 }
+    requires few { count ≤ 64 }
+    requires high { plane_height input.now.shape plane ≤ 65535 }
+    requires whole { length out.old ≡ count * plane_height input.now.shape plane }
+    ensures whole { length out.new ≡ length out.old }
+    ensures inside { result ≤ plane_height input.now.shape plane }
+    ensures done { HasColumns T.row_of T.column_of input.now plane y count result out.new }
+{
+    let blocks = input.shape().plane_height(plane) / 16;
+    for block in 0..blocks {
+        turn_across::<T>(input, plane, y, count, 16 * block, out);
+    }
+    16 * blocks
+}
+
+// Makes rows of the turned plane from row `y` on, which lie side by side.
+fn turn_rows<T: Turn>(input: &Frame, plane: u32, y: u32, count: u32, out: &mut [u8])
+    requires plane { plane < planes input.now.shape.kind }
+    requires inside { y + count ≤ plane_width input.now.shape plane }
+    requires few { count ≤ 64 }
+    requires high { plane_height input.now.shape plane ≤ 65535 }
+    requires whole { length out.old ≡ count * plane_height input.now.shape plane }
+    ensures whole { length out.new ≡ length out.old }
+    ensures rows { HasColumns T.row_of T.column_of input.now plane y count (plane_height input.now.shape plane) out.new }
+{
+    let made = if count % 16 == 0 {
+        turn_blocks::<T>(input, plane, y, count, out)
+    } else {
+        0
+    };
+    turn_columns::<T>(input, plane, y, count, made, out);
+}
+
 // How many bytes rows of this width have.
 fn size_of(count: u32, width: u32) -> usize
-    requires few { count ≤ 16 }
+    requires few { count ≤ 64 }
     requires wide { width ≤ 65535 }
     ensures { result ≡ count * width }
 {
@@ -106,15 +258,16 @@ fn turned_rows<T: Turn>(
 ) -> Result<Vec<u8>, AllocError>
     requires plane { plane < planes input.now.shape.kind }
     requires inside { y + count ≤ plane_width input.now.shape plane }
-    requires few { count ≤ 16 }
+    requires few { count ≤ 64 }
     requires high { plane_height input.now.shape plane ≤ 65535 }
+    requires turns { Turns T.op T.row_of T.column_of input.now }
     ensures long { IfOk result (λ rows. length rows.items ≡ count * plane_height input.now.shape plane) }
     ensures rows { IfOk result (λ rows. HasRows (space_at T.op input.now.shape (look_in input.now)) plane y count
         (plane_height input.now.shape plane) rows.items) }
 {
     let size = size_of(count, input.shape().plane_height(plane));
     let mut rows = vec![in alloc; 0u8; size]?;
-    T::fill_rows(input, plane, y, count, rows.as_mut_slice());
+    turn_rows::<T>(input, plane, y, count, rows.as_mut_slice());
     Ok(rows)
 }
 
@@ -122,6 +275,7 @@ fn turned_rows<T: Turn>(
 fn make_turned<T: Turn>(alloc: Global, input: &Frame) -> Result<Frame, AllocError>
     requires accepted { first_fault (space_refusals TurnLeft input.now.shape) ≡ None }
     requires side { space_shape T.op input.now.shape ≡ space_shape TurnLeft input.now.shape }
+    requires turns { Turns T.op T.row_of T.column_of input.now }
     requires legal { IsLegal (space_shape TurnLeft input.now.shape) }
     ensures { IfOk result (λ made. made ≡ space_picture T.op input.now) }
 {

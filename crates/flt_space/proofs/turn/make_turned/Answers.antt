@@ -1,7 +1,7 @@
-use Rattle.std.proofs.Common.{rules, ◌≡◌, ◌∙◌, ◌<◌, ◌+◌, ◌*◌, arith, ap, sym, refl, length, get_or}
+use Rattle.std.proofs.Common.{rules, ◌≡◌, ◌∙◌, ◌+◌, ◌*◌, arith, ap, sym, refl, length, get_or}
 use Rattle.fv_plane.specs.declared.format.Shape.{Shape}
 use Rattle.fv_plane.specs.Bytes.{rows_of_bytes}
-use Rattle.fv_plane.specs.Format.{planes, plane_width, plane_height, row_bytes}
+use Rattle.fv_plane.specs.Format.{plane_width, plane_height, row_bytes}
 use Rattle.fv_plane.specs.Look.{look_in, row_from}
 use Rattle.fv_plane.proofs.FillLemmas.{filled_plane, filled_done}
 use Rattle.fv_plane.proofs.WholePlaneLemmas.{rows_listed, filled_rows}

@@ -1,0 +1,27 @@
+use Rattle.std.proofs.Common.{rules, ◌≡◌, ◌∙◌, ℕ, ◌+◌, ◌*◌, ◌-◌, ◌<◌, List, length, get_or, ap, arith, refl}
+use Rattle.std.proofs.lemmas.List.Edits.{get_or-between}
+use Rattle.fv_plane.specs.Bytes.{bytes_of_row}
+use Rattle.fv_plane.specs.Format.{plane_height}
+use Rattle.fv_plane.specs.Picture.{sample_of}
+use Rattle.flt_space.proofs.BlockLemmas.{block_more, length_part, length_written}
+use Rattle.flt_space.proofs.turn.read_block.Goals as goal
+
+pub loop-i-preserved : goal.loop-i-preserved
+unfolding bytes_of_row
+loop-i-preserved g c =
+    let input = c.args.input.now in
+    let p = c.args.plane in
+    let row : List ℕ = c.row-row.result.now in
+    let part : List ℕ = c.copy_from_slice.new.self in
+    let want : ℕ → ℕ → ℕ = λ k i. sample_of input.planes p (c.args.column + k) (g.T.Turn.row_of (plane_height input.shape p) (c.args.x + i)) in
+    let high : c.plane_height-height.result ≡ plane_height input.shape p = search rules in
+    let line : c.row.result ≡ g.T.Turn.row_of (plane_height input.shape p) (c.args.x + c.loop-i.i) = c.row.ensures.value ∙ ap (λ h. g.T.Turn.row_of h (c.args.x + c.loop-i.i)) high in
+    let sixteen : 16 * c.loop-i.i + 16 - 16 * c.loop-i.i ≡ 16 = omega arith in
+    let long : length part ≡ 16 * c.loop-i.i + 16 - 16 * c.loop-i.i
+    = c.copy_from_slice.ensures.len ∙ length_part (16 * c.loop-i.i) (16 * c.loop-i.i + 16 - 16 * c.loop-i.i) c.loop-i.block (omega (arith, c.loop-i.invariant.0)) in
+    let seen : (n : ℕ) → n < 16 → get_or part n 0 ≡ want n c.loop-i.i = λ n less.
+    ap (λ l. get_or l n 0) c.copy_from_slice.ensures.after ∙ get_or-between row c.args.column (c.args.column + 16) n 0 (omega arith)
+    ∙ ap (λ l. get_or l (c.args.column + n) 0) c.row-row.ensures.row ∙ ap (λ z. sample_of input.planes p (c.args.column + n) z) line in (
+      length_written (16 * c.loop-i.i) (16 * c.loop-i.i + 16 - 16 * c.loop-i.i) c.loop-i.block part long (omega (arith, c.loop-i.invariant.0)) ∙ c.loop-i.invariant.0,
+      block_more c.loop-i.block part want c.loop-i.i (16 * c.loop-i.i) (16 * c.loop-i.i + 16 - 16 * c.loop-i.i) c.loop-i.invariant.0 (omega arith) refl sixteen long seen c.loop-i.invariant.1,
+    )

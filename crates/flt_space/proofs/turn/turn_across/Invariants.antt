@@ -1,0 +1,11 @@
+use Rattle.std.proofs.Common.{◌≡◌, ◌+◌, ◌*◌, length}
+use Rattle.fv_plane.specs.Format.{plane_height}
+use Rattle.flt_space.specs.Rows.{HasColumns}
+use Rattle.flt_space.proofs.turn.turn_across.Given as goal
+
+abbrev pub invariant-loop-block : goal.invariant-loop-block
+invariant-loop-block g l = record {
+  long : length l.out ≡ l.count * plane_height l.input.shape l.plane;
+  above : HasColumns g.T.Turn.row_of g.T.Turn.column_of l.input l.plane l.y (16 * l.block) (l.x + 16) l.out;
+  before : HasColumns g.T.Turn.row_of g.T.Turn.column_of l.input l.plane l.y l.count l.x l.out;
+}
