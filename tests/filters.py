@@ -31,6 +31,8 @@ SIZES = {
     "YV24": [(1, 1), (5, 3)],
     "YV411": [(4, 1), (12, 3)],
 }
+# Wider than the blocks in which samples are moved, and no multiple of them.
+BLOCKS = [("Y8", 131, 70), ("Y8", 16, 33), ("Y8", 80, 16), ("YV12", 160, 98), ("YV16", 96, 40), ("YV24", 65, 17), ("YV411", 128, 20)]
 BLACK = 0x108080
 
 
@@ -513,6 +515,12 @@ def main():
                 for call, want in rows:
                     done = run(folder, f"{before}{call}\n")
                     report.compare(f"{kind} {width}x{height} {call}", done, 0, want.stream(), "")
+        for kind, width, height in BLOCKS:
+            c = at_random(dice, kind, width, height, 2)
+            before = put(folder, c=c)
+            for call, want in space_rows(c):
+                done = run(folder, f"{before}{call}\n")
+                report.compare(f"{kind} {width}x{height} {call}", done, 0, want.stream(), "")
         for (u, v, y), want in plane_rows(dice):
             done = run(folder, put(folder, u=u, v=v, y=y) + "YToUV(u, v, y)\n")
             report.compare(f"YToUV to {want.kind}", done, 0, want.stream(), "")
