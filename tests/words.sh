@@ -10,7 +10,7 @@ trap 'rm -rf "$room"' EXIT
 cp examples/tiny.y4m "$room"
 cd "$room"
 usage='usage: avsserve render SCRIPT [--cache C] [--threads T] [--report] [--plain] | info SCRIPT | selftest NUMBER'
-for script in s.avs -x.avs --plain - render; do
+for script in s.avs -x.avs --plain --report -- - render; do
     echo 'Y4MSource("tiny.y4m").Reverse' >"./$script"
 done
 "$program" render s.avs >wanted.y4m
@@ -45,34 +45,53 @@ accepts render --threads 0000000001 --plain s.avs --cache 008
 accepts render s.avs --
 accepts render -- -x.avs
 accepts render --plain -- --plain
+accepts render --plain -- -x.avs
+accepts render -- --
 accepts render -
-accepts render render
+accepts render render --plain
+accepts render s.avs --report
+accepts render --report s.avs --plain
+accepts render -- --report
+accepts render --report -- --report
 
 refuses
 refuses render
 refuses Render s.avs
 refuses -- render s.avs
+refuses - s.avs
+refuses "" s.avs
 refuses --help
 refuses --version
 refuses help
 refuses render --help
 refuses render s.avs s.avs
 refuses render -x.avs
+refuses render s.avs -h
 refuses render s.avs -- --plain
+refuses render -- s.avs s.avs
+refuses render --=
+refuses render --report
+refuses render s.avs --report s.avs
+refuses render s.avs -- --report
 for option in --cach=8 --Cache=8 -c --cache --cache= --cache=0 --cache=257 --cache=+8 --cache=-8 --cache=00000000008 \
-    --threads=0 --threads=17 --threads=two --plain=1 --plain= --report=1; do
+    --threads=0 --threads=17 --threads=two --plain=1 --plain= --report=1 --report= --reports; do
     refuses render s.avs "$option"
     refuses render "$option" s.avs
 done
 refuses render s.avs --cache -8
 refuses render s.avs --cache --plain
 refuses render s.avs --cache 8 --cache 8
+refuses render s.avs --cache --
+refuses render s.avs --threads=1 --threads=1
 refuses render s.avs --plain --plain
+refuses render s.avs --report --report
 refuses info
 refuses info s.avs --plain
 refuses info s.avs --cache 8
+refuses info s.avs --report
 refuses selftest
 refuses selftest x
 refuses selftest 4294967296
 refuses selftest 1 2
+refuses selftest 1 --report
 echo "words: $runs runs ended as they should"

@@ -22,5 +22,3 @@ pub use stop::Stop;
 pub use table::{Row, Table};
 pub use takes::signatures;
 
-#[cfg(test)]
-mod tests;

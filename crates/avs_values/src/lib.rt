@@ -27,5 +27,3 @@ pub use plain_fn::PlainFn;
 pub use takes::signature;
 pub use value::{Kind, Value};
 
-#[cfg(test)]
-mod tests;

@@ -7,8 +7,6 @@
 mod command;
 mod numbers;
 mod parser;
-#[cfg(test)]
-mod tests;
 mod words;
 
 pub use command::{Command, RenderOptions};

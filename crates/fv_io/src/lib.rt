@@ -9,8 +9,6 @@ mod memory;
 mod reading;
 mod sink;
 mod source;
-#[cfg(test)]
-mod tests;
 mod text;
 
 pub use files::{FetchFault, Files};

@@ -7,8 +7,6 @@
 mod files;
 mod sink;
 mod source;
-#[cfg(test)]
-mod tests;
 
 pub use files::RealFiles;
 pub use sink::RealSink;

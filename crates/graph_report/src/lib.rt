@@ -6,7 +6,5 @@
 
 mod counts;
 mod lines;
-#[cfg(test)]
-mod tests;
 
 pub use lines::put_report;

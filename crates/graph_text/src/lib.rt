@@ -6,8 +6,6 @@
 
 mod info;
 mod names;
-#[cfg(test)]
-mod tests;
 mod text;
 
 pub use info::info_text;

@@ -7,8 +7,6 @@
 mod digest;
 mod files;
 mod put_log;
-#[cfg(test)]
-mod tests;
 
 pub use digest::DigestSink;
 pub use files::workload;

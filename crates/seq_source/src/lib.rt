@@ -7,8 +7,6 @@
 mod fault;
 mod reading;
 mod seq_source;
-#[cfg(test)]
-mod tests;
 
 pub use fault::SeqFault;
 pub use seq_source::SeqSource;

@@ -12,8 +12,6 @@ mod run;
 mod shared;
 mod stream;
 mod test_run;
-#[cfg(test)]
-mod tests;
 
 pub use run::{Ending, run_plain};
 pub use self_test::workload;

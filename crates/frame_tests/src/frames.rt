@@ -1,0 +1,38 @@
+// Frames share their bytes, and give them back.
+use fv_plane::{Colour, Frame, PixelType, Shape};
+use std::test::Fail;
+
+// More shares than memory would hold as copies.
+#[test]
+fn shares_frames(rt: HostRuntime) -> Result<(), Fail> {
+    let alloc = rt.alloc();
+    let shape = Shape {
+        kind: PixelType::Y8,
+        width: 4096,
+        height: 4096,
+    };
+    let frame = Frame::blank(alloc, shape, Colour { y: 7, u: 0, v: 0 })?;
+    let mut shares = Vec::new(alloc);
+    for _ in 0..1_000 {
+        shares.push(frame.share()?)?;
+    }
+    assert!(rt; frame.into_vec().is_none());
+    Ok(())
+}
+
+#[test]
+fn gives_back_what_it_was_made_of(rt: HostRuntime) -> Result<(), Fail> {
+    let alloc = rt.alloc();
+    let shape = Shape {
+        kind: PixelType::YV12,
+        width: 2,
+        height: 2,
+    };
+    let bytes = Vec::from_slice(alloc, &[0, 0, 1, 2, 3, 4, 5, 6])?;
+    let frame = Frame::from_vec(bytes, 2, shape)?;
+    let share = frame.share()?;
+    assert!(rt; frame.into_vec().is_none());
+    let kept = share.into_vec();
+    assert_eq!(rt; kept.map_or(0, |bytes| bytes.len()), 8);
+    Ok(())
+}

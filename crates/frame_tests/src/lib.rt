@@ -1,0 +1,9 @@
+//! Tests of the outside in memory, of frames, of streams and of sources of frames: what no clause says.
+//!
+//! They stand apart from the crates that they call, so that those are proved once.
+#![tactic(auto)]
+
+#[cfg(test)]
+mod frames;
+#[cfg(test)]
+mod sources;
