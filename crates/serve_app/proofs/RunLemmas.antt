@@ -13,31 +13,31 @@ use Rattle.avs_meaning.specs.Faults.{Fault, input}
 use Rattle.avs_meaning.specs.declared.fault.InputFault.TheVariants as clip_fault
 use Rattle.avs_meaning.specs.declared.fault.ScriptKind.{ScriptKind}
 use Rattle.avs_eval.specs.Evaluates.{Names}
-use Rattle.serve_stops.specs.declared.fault.InputFault.TheVariants.{NotThere, Y4m, Changed}
-use Rattle.serve_stops.specs.declared.stop.Stop.{Stop}
-use Rattle.serve_stops.specs.declared.stop.Stop.TheVariants.{Script, Input, Read, Write, Memory}
-use Rattle.serve_stops.specs.StopKinds.{status_of_stop}
+use Rattle.serve_text.specs.declared.fault.InputFault.TheVariants.{NotThere, Y4m, Changed}
+use Rattle.serve_text.specs.declared.stop.Stop.{Stop}
+use Rattle.serve_text.specs.declared.stop.Stop.TheVariants.{Script, Input, Read, Write, Memory}
+use Rattle.serve_text.specs.StopKinds.{status_of_stop}
 use Rattle.serve_app.specs.Info.{IsInfoOf, IsToldInfo, InfoShows}
 use Rattle.serve_app.specs.Playing.{PutsClip, PutsInfo}
 use Rattle.serve_app.specs.Meaning.{Meaning, a_clip, a_fault, MeansClip, Means, status_of, status_of_fault}
 use Rattle.prefetch.specs.Rendered.{PutsNothing}
 use Rattle.serve_app.specs.Rendered.{PutsWholeFrames}
 use Rattle.serve_app.specs.Stop.{IsOfScript, ScriptHasClip, PutsBefore, IsScriptFault, IsNamedFault, RenderShows}
-use Rattle.serve_stops.specs.Lines.{Says, stop_line, usage_line, read_line, write_line, memory_line}
+use Rattle.serve_text.specs.Lines.{Says, stop_line, usage_line, read_line, write_line, memory_line}
 use Rattle.serve_app.specs.Headline.{EndsByScript, EndsByInput, WriteFails, Causes, PutsWhole, Quiet, Unwritten, Headline, JournalEnds, InfoEnds, Ends}
 use Rattle.serve_app.specs.Journals.{cache_of, IsScriptSerial, IsRunOf, IsReport, ScriptCuts}
-use Rattle.serve_stops.specs.Reports.{CutsReport, Reports}
+use Rattle.serve_text.specs.Reports.{CutsReport, Reports}
 use Rattle.serve_app.specs.SelfTest.{IsLineOf, IsSelfLine, PutsSelfLine, SelfTestShows, SelfTestEnds}
 use Rattle.serve_app.specs.Run.{HasCache, HasLog, RenderDoes, Does, Finishes}
 use Rattle.clip_graph.specs.Plan.{Application}
-use Rattle.graph_report.specs.Report.{report}
+use Rattle.serve_text.specs.Report.{report}
 use Rattle.serve_events.specs.declared.windows.Record.{Record}
 use Rattle.serve_events.specs.Windows.{windows_of}
 use Rattle.command_line.specs.Command.{command_in}
 use Rattle.command_line.specs.declared.command.Command.{Command}
 use Rattle.command_line.specs.declared.command.Command.TheVariants as c
 use Rattle.command_line.specs.declared.command.RenderOptions.{RenderOptions}
-use Rattle.graph_text.specs.InfoText.{info_text}
+use Rattle.serve_text.specs.InfoText.{info_text}
 use Rattle.avs_meaning.specs.Crews.{workers, window}
 use Rattle.self_test.specs.Digested.{digest_line}
 use Rattle.self_test.specs.Workload.{self_world}

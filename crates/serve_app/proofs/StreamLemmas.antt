@@ -40,9 +40,9 @@ use Rattle.prefetch.specs.Journal.{IsJournal, IsWholeJournal}
 use Rattle.prefetch.specs.Rendered.{Begins}
 use Rattle.prefetch.specs.Windows.{frames_at, pictures_text, PutsFirst, RendersAll, RenderStops}
 use Rattle.prefetch.proofs.TextLemmas.{text_of_part}
-use Rattle.serve_stops.specs.declared.fault.InputFault.TheVariants.{Changed}
-use Rattle.serve_stops.specs.declared.stop.Stop.{Stop}
-use Rattle.serve_stops.specs.declared.stop.Stop.TheVariants as of_stop
+use Rattle.serve_text.specs.declared.fault.InputFault.TheVariants.{Changed}
+use Rattle.serve_text.specs.declared.stop.Stop.{Stop}
+use Rattle.serve_text.specs.declared.stop.Stop.TheVariants as of_stop
 use Rattle.serve_app.specs.Clips.{IsClipOf, SomeFailed, PutsFrames, PutsSome, StreamShows}
 use Rattle.serve_app.specs.Journals.{PutsCount, IsCutShort}
 use Rattle.serve_app.specs.Rendered.{EndsInFrame}

@@ -16,9 +16,9 @@ use Rattle.serve_core.specs.Sources.{all_told}
 use Rattle.serve_core.specs.Stands.{Book}
 use Rattle.prefetch.specs.Clips.{clip_at}
 use Rattle.prefetch.specs.Rendered.{Begins, PutsNothing}
-use Rattle.serve_stops.specs.declared.fault.InputFault.TheVariants.{NotThere, Y4m, Changed}
-use Rattle.serve_stops.specs.declared.stop.Stop.{Stop}
-use Rattle.serve_stops.specs.declared.stop.Stop.TheVariants as of_stop
+use Rattle.serve_text.specs.declared.fault.InputFault.TheVariants.{NotThere, Y4m, Changed}
+use Rattle.serve_text.specs.declared.stop.Stop.{Stop}
+use Rattle.serve_text.specs.declared.stop.Stop.TheVariants as of_stop
 use Rattle.serve_app.specs.Rendered.{PutsWholeFrames, EndsInFrame}
 
 -- the frames of each source by its number, where all are told

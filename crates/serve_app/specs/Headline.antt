@@ -13,17 +13,17 @@ use Rattle.avs_meaning.specs.declared.fault.ScriptKind.{ScriptKind}
 use Rattle.command_line.specs.Command.{command_in}
 use Rattle.command_line.specs.declared.command.RenderOptions.{RenderOptions}
 use Rattle.serve_events.specs.declared.windows.Record.{Record}
-use Rattle.serve_stops.specs.declared.fault.InputFault.{InputFault}
+use Rattle.serve_text.specs.declared.fault.InputFault.{InputFault}
 use Rattle.serve_app.specs.Words.{IsRender, IsInfo, IsSelfTest}
 use Rattle.serve_app.specs.Meaning.{Meaning, MeansClip, Means, status_of}
 use Rattle.serve_app.specs.Info.{IsInfoOf, IsToldInfo}
 use Rattle.serve_app.specs.Journals.{cache_of, IsScriptSerial, IsReport, ScriptCuts}
-use Rattle.serve_stops.specs.Reports.{CutsReport}
+use Rattle.serve_text.specs.Reports.{CutsReport}
 use Rattle.serve_app.specs.SelfTest.{SelfTestEnds}
 use Rattle.prefetch.specs.Rendered.{PutsNothing}
 use Rattle.serve_app.specs.Rendered.{PutsWholeFrames}
 use Rattle.serve_app.specs.Stop.{IsOfScript, ScriptHasClip, PutsBefore, IsScriptFault, IsNamedFault}
-use Rattle.serve_stops.specs.Lines.{Says, usage_line, read_line, write_line, memory_line, script_line, input_line}
+use Rattle.serve_text.specs.Lines.{Says, usage_line, read_line, write_line, memory_line, script_line, input_line}
 
 module _ {F S K E : Type 0} (files : of_files.Ghosts F S) (sink : Ghosts K) (lines : Ghosts E)
     (f g : F) (out new : K) (err said : E) where

@@ -5,12 +5,12 @@ use Rattle.fv_io.specs.Sink.{PutsPrefix, SinkFailed}
 use Rattle.fv_io.specs.World.{World}
 use Rattle.clip_graph.specs.Plan.{Application}
 use Rattle.prefetch.specs.Rendered.{PutsNothing}
-use Rattle.graph_text.specs.InfoText.{info_text}
+use Rattle.serve_text.specs.InfoText.{info_text}
 use Rattle.avs_meaning.specs.Crews.{Numbers, workers, window}
 use Rattle.avs_meaning.specs.Meaning as m
-use Rattle.serve_stops.specs.declared.fault.InputFault.TheVariants.{NotThere, Y4m, Changed}
-use Rattle.serve_stops.specs.declared.stop.Stop.{Stop}
-use Rattle.serve_stops.specs.declared.stop.Stop.TheVariants as of_stop
+use Rattle.serve_text.specs.declared.fault.InputFault.TheVariants.{NotThere, Y4m, Changed}
+use Rattle.serve_text.specs.declared.stop.Stop.{Stop}
+use Rattle.serve_text.specs.declared.stop.Stop.TheVariants as of_stop
 use Rattle.serve_app.specs.Meaning.{meaning_in}
 use Rattle.serve_app.specs.Stop.{IsScriptFault, IsNamedFault, ScriptHasClip}
 

@@ -8,7 +8,7 @@ use Rattle.y4m_stream.specs.Stream.{stream}
 use Rattle.clip_graph.specs.Plan.{Application, IsPlan}
 use Rattle.serve_events.specs.declared.windows.Record.{Record}
 use Rattle.serve_events.specs.Windows.{windows_of}
-use Rattle.graph_report.specs.Report.{report}
+use Rattle.serve_text.specs.Report.{report}
 use Rattle.prefetch.specs.Journal.{IsJournal, IsWholeJournal}
 use Rattle.prefetch.specs.Windows.{frames_at}
 use Rattle.avs_meaning.specs.Crews.{Numbers}

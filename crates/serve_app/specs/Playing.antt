@@ -15,9 +15,9 @@ use Rattle.clip_graph.specs.Plan.{Application}
 use Rattle.serve_app.specs.declared.play.Whole.{Whole}
 use Rattle.serve_app.specs.Info.{IsInfoOf}
 use Rattle.serve_app.specs.Meaning.{MeansClip}
-use Rattle.serve_stops.specs.declared.fault.InputFault.TheVariants.{NotThere, Y4m, Changed}
-use Rattle.serve_stops.specs.declared.stop.Stop.{Stop}
-use Rattle.serve_stops.specs.declared.stop.Stop.TheVariants as of_stop
+use Rattle.serve_text.specs.declared.fault.InputFault.TheVariants.{NotThere, Y4m, Changed}
+use Rattle.serve_text.specs.declared.stop.Stop.{Stop}
+use Rattle.serve_text.specs.declared.stop.Stop.TheVariants as of_stop
 
 -- ---- evaluation
 

@@ -8,16 +8,16 @@ use Rattle.command_line.specs.declared.command.Command.{Command}
 use Rattle.command_line.specs.declared.command.Command.TheVariants.{Render, Info, SelfTest}
 use Rattle.command_line.specs.declared.command.RenderOptions.{RenderOptions}
 use Rattle.clip_graph.specs.Plan.{Application}
-use Rattle.graph_report.specs.Report.{report}
-use Rattle.serve_stops.specs.declared.stop.Stop.{Stop}
-use Rattle.serve_stops.specs.StopKinds.{status_of_stop}
+use Rattle.serve_text.specs.Report.{report}
+use Rattle.serve_text.specs.declared.stop.Stop.{Stop}
+use Rattle.serve_text.specs.StopKinds.{status_of_stop}
 use Rattle.serve_events.specs.declared.windows.Record.{Record}
 use Rattle.serve_events.specs.Windows.{windows_of}
 use Rattle.serve_app.specs.Info.{InfoShows}
 use Rattle.serve_app.specs.Journals.{cache_of, IsScriptSerial, IsRunOf, ScriptCuts}
-use Rattle.serve_stops.specs.Lines.{Says, stop_line}
+use Rattle.serve_text.specs.Lines.{Says, stop_line}
 use Rattle.serve_app.specs.Playing.{PutsClip, PutsInfo}
-use Rattle.serve_stops.specs.Reports.{Reports}
+use Rattle.serve_text.specs.Reports.{Reports}
 use Rattle.serve_app.specs.SelfTest.{PutsSelfLine, SelfTestShows}
 use Rattle.serve_app.specs.Stop.{RenderShows, ScriptHasClip}
 

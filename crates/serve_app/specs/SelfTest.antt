@@ -8,9 +8,9 @@ use Rattle.y4m_stream.specs.Stream.{stream}
 use Rattle.self_test.specs.Workload.{self_world}
 use Rattle.self_test.specs.Digested.{digest_line}
 use Rattle.prefetch.specs.Rendered.{PutsNothing}
-use Rattle.serve_stops.specs.declared.stop.Stop.{Stop}
-use Rattle.serve_stops.specs.declared.stop.Stop.TheVariants as of_stop
-use Rattle.serve_stops.specs.Lines.{Says, write_line, memory_line}
+use Rattle.serve_text.specs.declared.stop.Stop.{Stop}
+use Rattle.serve_text.specs.declared.stop.Stop.TheVariants as of_stop
+use Rattle.serve_text.specs.Lines.{Says, write_line, memory_line}
 use Rattle.serve_app.specs.Meaning.{MeansClip}
 
 -- the line that tells the stream of the clip that a script means in a world

@@ -9,10 +9,10 @@ use Rattle.avs_meaning.specs.Faults.{Fault, input}
 use Rattle.avs_meaning.specs.declared.fault.InputFault.TheVariants as i
 use Rattle.avs_meaning.specs.declared.fault.ScriptKind.{ScriptKind}
 use Rattle.avs_eval.specs.Evaluates.{Names}
-use Rattle.serve_stops.specs.declared.fault.InputFault.{InputFault}
-use Rattle.serve_stops.specs.declared.fault.InputFault.TheVariants.{NotThere, Y4m, Changed}
-use Rattle.serve_stops.specs.declared.stop.Stop.{Stop}
-use Rattle.serve_stops.specs.declared.stop.Stop.TheVariants as of_stop
+use Rattle.serve_text.specs.declared.fault.InputFault.{InputFault}
+use Rattle.serve_text.specs.declared.fault.InputFault.TheVariants.{NotThere, Y4m, Changed}
+use Rattle.serve_text.specs.declared.stop.Stop.{Stop}
+use Rattle.serve_text.specs.declared.stop.Stop.TheVariants as of_stop
 use Rattle.serve_app.specs.Meaning.{MeansClip, Means, a_fault}
 use Rattle.serve_app.specs.Rendered.{PutsWholeFrames, PutsFront, EndsInFrame}
 

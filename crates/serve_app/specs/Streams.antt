@@ -8,9 +8,9 @@ use Rattle.serve_events.specs.declared.event.Stop.TheVariants as worker
 use Rattle.serve_events.specs.Own.{names_source}
 use Rattle.prefetch.specs.declared.stops.RenderStop.{RenderStop}
 use Rattle.prefetch.specs.declared.stops.RenderStop.TheVariants.{Stopped, Write, Memory}
-use Rattle.serve_stops.specs.declared.fault.InputFault.TheVariants.{Changed}
-use Rattle.serve_stops.specs.declared.stop.Stop.{Stop}
-use Rattle.serve_stops.specs.declared.stop.Stop.TheVariants as of_stop
+use Rattle.serve_text.specs.declared.fault.InputFault.TheVariants.{Changed}
+use Rattle.serve_text.specs.declared.stop.Stop.{Stop}
+use Rattle.serve_text.specs.declared.stop.Stop.TheVariants as of_stop
 
 -- why a head was not put whole
 abbrev pub HeadStops : {K : Type 0} → Ghosts K → K → K → List ℕ → Stop → Type 0

@@ -13,7 +13,7 @@ use crate::closing::close_host;
 use crate::play::tell;
 use avs_files::{FileHost, HeldFiles, Known, Lent};
 use fv_io::{Files, Sink, Text};
-use serve_stops::Stop;
+use serve_text::Stop;
 use std::alloc::Global;
 use std::marker::{Brand, PhantomData};
 

@@ -14,7 +14,7 @@ use crate::play::{Whole, evaluate, put_opened};
 use avs_files::{FileHost, HeldFiles, Known, Lent, close_all};
 use fv_io::{Files, Sink, Text};
 use serve_events::Record;
-use serve_stops::Stop;
+use serve_text::Stop;
 use std::alloc::Global;
 use std::marker::{Brand, PhantomData};
 

@@ -13,7 +13,7 @@ use crate::test_run::put_self_test;
 use command_line::{Command, command_of};
 use fv_io::{Files, Sink, Text};
 use serve_events::Record;
-use serve_stops::{Stop, put_report_of, say_stop, say_usage};
+use serve_text::{Stop, put_report_of, say_stop, say_usage};
 use std::alloc::{AllocError, Global};
 
 // How many frames the cache holds where the words don't say it.

@@ -20,7 +20,7 @@ use fv_plane::Info;
 use prefetch::{RenderStop, render_plain};
 use serve_core::Core;
 use serve_events::{Record, Stop as WorkerStop};
-use serve_stops::{InputFault, Stop};
+use serve_text::{InputFault, Stop};
 use serve_worker::Instance;
 use std::alloc::{AllocError, Global};
 use y4m_stream::print_head;

@@ -6,7 +6,7 @@ ghost use Rattle.serve_app.specs.SelfTest.{IsSelfLine, PutsSelfLine, SelfTestSho
 use crate::render::render;
 use fv_io::{Failed, Sink, Text};
 use self_test::{DigestSink, workload};
-use serve_stops::Stop;
+use serve_text::Stop;
 use std::alloc::{AllocError, Global};
 
 // How many frames the cache holds.

@@ -1,3 +1,0 @@
-pub mod Report
-pub mod Counts
-pub mod Lines

@@ -1,3 +1,0 @@
-pub mod StopKinds
-pub mod Lines
-pub mod Reports

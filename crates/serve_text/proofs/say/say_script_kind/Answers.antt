@@ -1,0 +1,6 @@
+-- The pieces are the line.
+use Rattle.serve_text.proofs.SayLemmas.{says_as}
+use Rattle.serve_text.proofs.say.say_script_kind.Goals as goal
+
+pub returns : goal.returns
+returns g c = says_as g.E.Sink c.args.err.now c.say.new.err _ _ (rw (c.as_str.ensures, c.format-line.ensures.text)) c.say.ensures

@@ -1,0 +1,24 @@
+//! The texts of the program: a graph of filters, the report of a render, and why a run ends early.
+//!
+//! `info_text` is exactly the text that `specs/InfoText.antt` gives, and `put_report` puts exactly that of
+//! `specs/Report.antt`, a line for each node, without memory. Each stop has an exit status and one line
+//! (`specs/Lines.antt`); a report that was cut short has the line of a failed write after it (`specs/Reports.antt`).
+#![tactic(auto)]
+
+mod counts;
+mod fault;
+mod info;
+mod lines;
+mod names;
+mod report;
+mod say;
+mod stop;
+mod text;
+
+pub use fault::InputFault;
+pub use info::info_text;
+pub use lines::put_report;
+pub use names::filter_of;
+pub use report::put_report_of;
+pub use say::{say_stop, say_usage};
+pub use stop::Stop;
