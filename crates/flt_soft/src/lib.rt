@@ -18,5 +18,3 @@ pub use make::make_soft;
 pub use matrix::{MatrixFault, read_matrix};
 pub use scratch::Scratch;
 
-#[cfg(test)]
-mod tests;

@@ -3,6 +3,7 @@ use avs_lex::lex;
 use avs_parse::parse;
 use avs_print::print;
 use avs_tree::Script;
+use fv_io::Text;
 use std::alloc::Global;
 use std::test::Fail;
 
@@ -16,7 +17,7 @@ fn tree(alloc: Global, text: &str) -> Result<Script, Fail> {
 }
 
 // What is printed of a script, and of that again.
-fn printed_twice(alloc: Global, text: &str) -> Result<(String, String), Fail> {
+fn printed_twice(alloc: Global, text: &str) -> Result<(Text, Text), Fail> {
     let first = print(alloc, &tree(alloc, text)?)?;
     let second = print(alloc, &tree(alloc, first.as_str())?)?;
     Ok((first, second))
