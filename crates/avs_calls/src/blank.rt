@@ -1,5 +1,5 @@
 // `BlankClip`: its arguments, their refusals, and the clip that they make.
-ghost use Rattle.std.specs.Prelude.{◌≡◌, ◌≤◌, option_map};
+ghost use Rattle.std.specs.Prelude.{◌≡◌, ◌≤◌, option_map, OnOk};
 ghost use Rattle.fv_plane.specs.Refusals.{first_fault};
 ghost use Rattle.fv_plane.specs.Info.{IsPar};
 ghost use Rattle.clip_term.specs.Blank as b;
@@ -7,6 +7,7 @@ ghost use Rattle.clip_term.specs.Refusals.{part_of, no_colour};
 ghost use Rattle.clip_term.specs.Texts.{format_named};
 ghost use Rattle.avs_meaning.specs.Filters as f;
 ghost use Rattle.avs_state.specs.Answers.{Gives};
+ghost use Rattle.avs_state.specs.Sources.{sources_of};
 ghost use Rattle.avs_state.specs.States.{state_of};
 ghost use Rattle.avs_calls.specs.Views.{args_view, text_given};
 
@@ -218,9 +219,10 @@ fn blank_like(
     line: u32,
 ) -> Result<Value, Stop>
     requires par { IsPar base.now.par }
-    ensures gives { Gives (λ x. x) (f.blank_like here.now base.now (args_view args.now) line (state_of machine.old)) result
-        (state_of machine.new) }
+    ensures gives { Gives (λ x. x) (f.blank_like here.now base.now (args_view args.now) line (state_of machine.old))
+        result (state_of machine.new) }
     ensures opened { (state_of machine.new).opened ≡ (state_of machine.old).opened }
+    ensures sources { OnOk result (sources_of (state_of machine.new).plan ≡ sources_of (state_of machine.old).plan) }
 {
     if let Some(fault) = refusal(base, args) {
         return Err(fault_at(alloc, ScriptKind::Filter(fault), here, line));
@@ -246,10 +248,10 @@ fn blank_of(
     here: &Text,
     line: u32,
 ) -> Result<Value, Stop>
-    ensures gives { Gives (λ x. x)
-        (f.blank_of here.now (option_map (λ value. value.now) clip.entry) (args_view args.now) line (state_of machine.old)) result
-        (state_of machine.new) }
+    ensures gives { Gives (λ x. x) (f.blank_of here.now (option_map (λ value. value.now) clip.entry) (args_view
+        args.now) line (state_of machine.old)) result (state_of machine.new) }
     ensures opened { (state_of machine.new).opened ≡ (state_of machine.old).opened }
+    ensures sources { OnOk result (sources_of (state_of machine.new).plan ≡ sources_of (state_of machine.old).plan) }
 {
     match clip {
         Some(Value::Clip(i)) => {
@@ -273,6 +275,7 @@ pub(crate) fn blank(
     ensures gives { Gives (λ x. x) (f.blank here.now signature values.now line (state_of machine.old)) result
         (state_of machine.new) }
     ensures opened { (state_of machine.new).opened ≡ (state_of machine.old).opened }
+    ensures sources { OnOk result (sources_of (state_of machine.new).plan ≡ sources_of (state_of machine.old).plan) }
 {
     if signature == 0 {
         let args = BlankArgs::of(values, 0);

@@ -1,10 +1,11 @@
 // The filters, with their bound arguments.
-ghost use Rattle.std.specs.Prelude.{◌≡◌, ◌≤◌, ◌++◌};
+ghost use Rattle.std.specs.Prelude.{◌≡◌, ◌≤◌, ◌++◌, OnOk};
 ghost use Rattle.avs_values.specs.Views.{bound_view};
 ghost use Rattle.avs_meaning.specs.Arguments as a;
 ghost use Rattle.avs_meaning.specs.Filters as f;
 ghost use Rattle.avs_meaning.specs.Outside.{Outside};
 ghost use Rattle.avs_state.specs.Answers.{Gives};
+ghost use Rattle.avs_state.specs.Sources.{sources_of};
 ghost use Rattle.avs_state.specs.States.{state_of};
 
 use crate::arguments::add_clips;
@@ -18,6 +19,7 @@ use fv_io::Text;
 use std::alloc::Global;
 
 // Applies a filter to clips, of which the first has so many frames.
+#[tactic(auto, using(crate::proofs::TakesLemmas::takes_none))]
 fn apply_to(
     alloc: Global,
     machine: &mut Machine,
@@ -29,10 +31,11 @@ fn apply_to(
     line: u32,
 ) -> Result<Value, Stop>
     requires { frames ≤ 1000000 }
-    ensures gives { Gives (λ x. x)
-        (f.applied_by here.now (a.read given.now.values.items (a.numbers_among given.now.rest.items) frames filter) filter
-        inputs.now line (state_of machine.old)) result (state_of machine.new) }
+    ensures gives { Gives (λ x. x) (f.applied_by here.now (a.read given.now.values.items (a.numbers_among
+        given.now.rest.items) frames filter) filter inputs.now line (state_of machine.old)) result (state_of
+        machine.new) }
     ensures opened { (state_of machine.new).opened ≡ (state_of machine.old).opened }
+    ensures sources { OnOk result (sources_of (state_of machine.new).plan ≡ sources_of (state_of machine.old).plan) }
 {
     let op = match read(alloc, given, frames, filter) {
         Ok(op) => op,
@@ -59,6 +62,7 @@ fn apply(
         (a.clips_among given.now.values.items ++ a.clips_among given.now.rest.items) line (state_of machine.old)) result
         (state_of machine.new) }
     ensures opened { (state_of machine.new).opened ≡ (state_of machine.old).opened }
+    ensures sources { OnOk result (sources_of (state_of machine.new).plan ≡ sources_of (state_of machine.old).plan) }
 {
     let mut inputs = Vec::new(alloc);
     add_clips(&mut inputs, &given.values)?;
@@ -94,6 +98,7 @@ pub fn filter(
         (f.filtered here.now outside filter signature (bound_view given.now) line (state_of machine.old)) result
         (state_of machine.new) }
     ensures opened { (state_of machine.new).opened ≡ (state_of machine.old).opened }
+    ensures sources { OnOk result (sources_of (state_of machine.new).plan ≡ sources_of (state_of machine.old).plan) }
 {
     if let Filter::BlankClip = filter {
         return blank(alloc, machine, signature, &given.values, here, line);
@@ -115,6 +120,7 @@ pub fn ranged(
     ensures gives { Gives (λ x. x) (f.ranged here.now clip first last line shown.now (state_of machine.old)) result
         (state_of machine.new) }
     ensures opened { (state_of machine.new).opened ≡ (state_of machine.old).opened }
+    ensures sources { OnOk result (sources_of (state_of machine.new).plan ≡ sources_of (state_of machine.old).plan) }
 {
     match shown {
         Value::Clip(shown) => machine.make(

@@ -1,1 +1,6 @@
+mod Failures
+mod Rows
+mod BodyLemmas
+mod CallLemmas
+mod Turns
 mod RunLemmas

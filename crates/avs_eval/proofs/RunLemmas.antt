@@ -1,6 +1,6 @@
 -- A script's run, by its parts.
 use Rattle.std.proofs.Common.{◌≡◌, ◌∙◌, ap, refl, inl, inr, ℕ, true, false, Result, Ok, Err}
-use Rattle.avs_tree.specs.Loaded.{Loaded}
+use Rattle.fv_plane.specs.declared.format.Info.{Info}
 use Rattle.avs_tree.specs.Tree.{Block}
 use Rattle.avs_values.specs.Values.{Text}
 use Rattle.avs_values.specs.declared.value.Value.{Value}
@@ -8,21 +8,17 @@ use Rattle.avs_load.specs.Load.{script_of}
 use Rattle.avs_meaning.specs.Faults.{script, refused, input}
 use Rattle.avs_meaning.specs.Meaning.{run, call_limit, clip_or_not, to_clip, executed, meaning_by}
 use Rattle.avs_meaning.specs.Outside.{Outside}
-use Rattle.avs_meaning.specs.State.{State, Outcome, Run, and_then, pure}
-use Rattle.avs_meaning.specs.Texts.{loaded_by}
+use Rattle.avs_meaning.specs.State.{State, Outcome, Run, and_then}
+use Rattle.avs_meaning.specs.declared.fault.FileKind.{FileKind}
+use Rattle.avs_meaning.specs.declared.fault.InputFault.{InputFault}
 use Rattle.avs_meaning.specs.declared.stop.Stop.{Stop}
 use Rattle.avs_meaning.specs.declared.stop.Stop.TheVariants as e
-use Rattle.avs_state.specs.Answers as machine
-use Rattle.avs_state.specs.Hosts.{Fails}
-use Rattle.avs_expressions.specs.Bodies.{body_by}
+use Rattle.avs_state.specs.Answers as a
+use Rattle.avs_state.specs.Hosts.{Fails, outside_by}
+use Rattle.avs_eval.proofs.BodyLemmas.{loaded_then}
+use Rattle.avs_eval.proofs.Failures.{also_fails, first_fails, then_fails}
+use Rattle.avs_eval.specs.Bodies.{body_by}
 use Rattle.avs_eval.specs.Evaluates.{Evaluates, error_of}
-
-then_fails : {X Y : Type 0} (one : Outcome X) (f : X → Run Y) (stop : Stop) → Fails one stop → Fails (and_then one f) stop
-then_fails one f (e.Fault kind name line) h = ap (λ o. and_then o f) h
-then_fails one f (e.Refused name nests line) h = ap (λ o. and_then o f) h
-then_fails one f (e.Input name why) h = ap (λ o. and_then o f) h
-then_fails one f e.Read h = tt
-then_fails one f e.Memory h = tt
 
 module _ (outside : Outside) (here : Text) where
   -- where the statements fail, there is no clip
@@ -37,32 +33,26 @@ module _ (outside : Outside) (here : Text) where
 
 -- ---- the text
 
-abbrev after : (Block → ℕ → Run ℕ) → Outcome (Block × ℕ) → Outcome ℕ
-after next o = and_then o (λ body. next body.0 body.1)
+module _ (clips : Text → Result Info InputFault) (scripts : Text → Result Text FileKind) (here text : Text) where
+  -- what goes on from its statements and its last line
+  goes_on : Block × ℕ → Run ℕ
+  goes_on body = to_clip (outside_by clips scripts) here body.0 body.1
 
-parts : (next : Block → ℕ → Run ℕ) (o : Outcome Loaded)
-    → and_then o (λ loaded. next loaded.tree.statements loaded.last_line) ≡ after next (and_then o (λ loaded. pure (loaded.tree.statements, loaded.last_line)))
-parts next (Ok ended) = refl
-parts next (Err fault) = refl
-
-module _ (outside : Outside) (here text : Text) (trees : outside.trees ≡ script_of) where
-  by_body : (s : State) → executed outside here text s ≡ after (to_clip outside here) (body_by (script_of text) here s)
-  unfolding body_by
-  by_body s = ap (λ t. and_then (loaded_by (t text) here s) (λ loaded. to_clip outside here loaded.tree.statements loaded.last_line)) trees
-      ∙ parts (to_clip outside here) (loaded_by (script_of text) here s)
+  by_body : (s : State) → executed (outside_by clips scripts) here text s ≡ and_then (body_by (script_of text) here s) goes_on
+  unfolding goes_on
+  by_body s = loaded_then (script_of text) here (λ body. to_clip (outside_by clips scripts) here body.0 body.1) s
 
   -- once its functions stand
-  pub loaded_runs : (body : Block) (line : ℕ) (s s' : State) → body_by (script_of text) here s ≡ Ok ((body, line), s')
-      → executed outside here text s ≡ to_clip outside here body line s'
-  loaded_runs body line s s' loaded = by_body s ∙ ap (after (to_clip outside here)) loaded
+  pub loaded_runs : (body : Block × ℕ) (s s' : State) → body_by (script_of text) here s ≡ Ok (body, s')
+      → executed (outside_by clips scripts) here text s ≡ to_clip (outside_by clips scripts) here body.0 body.1 s'
+  unfolding goes_on
+  loaded_runs body s s' loaded = by_body s ∙ ap (λ o. and_then o goes_on) loaded
 
   -- where it has no tree
-  pub load_fails : (s : State) (stop : Stop) → machine.Fails (body_by (script_of text) here s) stop → Fails (executed outside here text s) stop
-  load_fails s (e.Fault kind name line) h = by_body s ∙ ap (after (to_clip outside here)) h
-  load_fails s (e.Refused name nests line) h = by_body s ∙ ap (after (to_clip outside here)) h
-  load_fails s (e.Input name why) h = by_body s ∙ ap (after (to_clip outside here)) h
-  load_fails s e.Read h = tt
-  load_fails s e.Memory h = tt
+  pub load_fails : (s : State) (stop : Stop) → a.Fails (body_by (script_of text) here s) stop
+      → Fails (executed (outside_by clips scripts) here text s) stop
+  load_fails s stop h =
+      first_fails _ (body_by (script_of text) here s) goes_on stop (by_body s) (also_fails (body_by (script_of text) here s) stop h)
 
 -- ---- the answer
 

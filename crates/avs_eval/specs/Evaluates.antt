@@ -10,7 +10,7 @@ use Rattle.avs_meaning.specs.declared.fault.ScriptKind.TheVariants as k
 use Rattle.avs_meaning.specs.declared.state.SourceClip.{SourceClip}
 use Rattle.avs_meaning.specs.declared.stop.Stop.{Stop}
 use Rattle.avs_meaning.specs.declared.stop.Stop.TheVariants as s
-use Rattle.avs_expressions.specs.Sources.{sources_of}
+use Rattle.avs_state.specs.Sources.{sources_of}
 use Rattle.avs_eval.specs.declared.error.EvalError.{EvalError}
 use Rattle.avs_eval.specs.declared.error.EvalError.TheVariants as e
 use Rattle.avs_eval.specs.declared.evaluation.Opened.{Opened}

@@ -6,14 +6,14 @@ ghost use Rattle.avs_meaning.specs.Meaning.{clip_or_not, executed, text_meaning,
 ghost use Rattle.avs_state.specs.Answers.{Gives};
 ghost use Rattle.avs_state.specs.Hosts.{outside_by, Told};
 ghost use Rattle.avs_state.specs.States.{state_of};
-ghost use Rattle.avs_expressions.specs.Walks.{Keeps};
 ghost use Rattle.avs_eval.specs.Evaluates.{Evaluates, Opens, FailedRead};
+ghost use Rattle.avs_eval.specs.Walks.{Keeps};
 
+use crate::depth::run;
 use crate::error::EvalError;
-use avs_expressions::load_body;
+use crate::texts::load_body;
 use avs_meaning::{Crew, ScriptKind, Stop, Table};
 use avs_state::{Host, Machine, fault_at};
-use avs_statements::run;
 use avs_tree::Statement;
 use avs_values::Value;
 use clip_graph::Graph;
@@ -61,9 +61,9 @@ fn clip_of_run<H: Host>(
     statements: &[Statement],
     last_line: u32,
 ) -> Result<u32, Stop>
-    ensures told { Told H.told (λ i. i) (to_clip (outside_by H.clips H.scripts) name.now (block_view statements.now) last_line)
-        machine.old result machine.new }
-    ensures kept { Keeps H.opened H.faults machine.old host.old result machine.new host.new }
+    ensures told { Told H.told (λ i. i) (to_clip (outside_by H.clips H.scripts) name.now (block_view statements.now)
+        last_line) machine.old result machine.new }
+    ensures kept { Keeps H.Host machine.old host.old result machine.new host.new }
     ensures inside { IfOk result (λ i. i < length (state_of machine.new).plan) }
 {
     let value = run(alloc, table, machine, host, CALL_LIMIT, name, statements)?;
@@ -71,7 +71,6 @@ fn clip_of_run<H: Host>(
 }
 
 // Executes a text as the script of this name.
-#[tactic(auto, using(crate::proofs::RunLemmas::loaded_runs, crate::proofs::RunLemmas::load_fails))]
 fn execute<H: Host>(
     alloc: Global,
     table: &Table,
@@ -83,7 +82,7 @@ fn execute<H: Host>(
     requires { length text.now ≤ text_limit }
     ensures told { Told H.told (λ i. i) (executed (outside_by H.clips H.scripts) name.now text.now)
         machine.old result machine.new }
-    ensures kept { Keeps H.opened H.faults machine.old host.old result machine.new host.new }
+    ensures kept { Keeps H.Host machine.old host.old result machine.new host.new }
     ensures inside { IfOk result (λ i. i < length (state_of machine.new).plan) }
 {
     let body = load_body(alloc, machine, name, text)?;

@@ -8,8 +8,6 @@ mod closing;
 mod files;
 mod host;
 mod script;
-#[cfg(test)]
-mod tests;
 
 pub use closing::close_all;
 pub use files::{HeldFiles, Known, Lent};

@@ -12,6 +12,7 @@ ghost use Rattle.avs_meaning.specs.Meaning as m;
 ghost use Rattle.avs_meaning.specs.Settings as w;
 ghost use Rattle.avs_meaning.specs.State as d;
 ghost use Rattle.avs_state.specs.Answers.{Gives};
+ghost use Rattle.avs_state.specs.Sources.{source_of, sources_of, Lists};
 ghost use Rattle.avs_state.specs.States.{state_of, defined_view};
 
 use crate::variables::{set_in, value_in};
@@ -109,6 +110,7 @@ impl Machine {
     pub fn spend(&mut self, alloc: Global, here: &Text, line: u32) -> Result<(), Stop>
         ensures gives { Gives (λ u. u) (d.spend here.now line (state_of self.old)) result (state_of self.new) }
         ensures opened { (state_of self.new).opened ≡ (state_of self.old).opened }
+        ensures sources { OnOk result (sources_of (state_of self.new).plan ≡ sources_of (state_of self.old).plan) }
     {
         if self.units == 0 {
             return Err(fault_at(alloc, ScriptKind::StepLimit, here, line));
@@ -148,6 +150,7 @@ impl Machine {
     pub fn set(&mut self, alloc: Global, name: &Text, value: Value) -> Result<(), Stop>
         ensures gives { Gives (λ u. u) (d.set name.now value (state_of self.old)) result (state_of self.new) }
         ensures opened { (state_of self.new).opened ≡ (state_of self.old).opened }
+        ensures sources { OnOk result (sources_of (state_of self.new).plan ≡ sources_of (state_of self.old).plan) }
     {
         set_in(alloc, &mut self.env, name, value)?;
         Ok(())
@@ -158,6 +161,7 @@ impl Machine {
     pub fn set_global(&mut self, alloc: Global, name: &Text, value: Value) -> Result<(), Stop>
         ensures gives { Gives (λ u. u) (d.set_global name.now value (state_of self.old)) result (state_of self.new) }
         ensures opened { (state_of self.new).opened ≡ (state_of self.old).opened }
+        ensures sources { OnOk result (sources_of (state_of self.new).plan ≡ sources_of (state_of self.old).plan) }
     {
         set_in(alloc, &mut self.globals, name, value)?;
         Ok(())
@@ -190,6 +194,7 @@ impl Machine {
         ensures gives { Gives (λ u. u) (d.define (function_view function) here.now (state_of self.old)) result
             (state_of self.new) }
         ensures opened { (state_of self.new).opened ≡ (state_of self.old).opened }
+        ensures sources { OnOk result (sources_of (state_of self.new).plan ≡ sources_of (state_of self.old).plan) }
     {
         match self.find(alloc, &function.name)? {
             Some(_) => {
@@ -211,9 +216,10 @@ impl Machine {
         functions: Vec<Function>,
         here: &Text,
     ) -> Result<(), Stop>
-        ensures gives { Gives (λ u. u) (d.define_all (map function_view functions.items) here.now (state_of self.old)) result
-            (state_of self.new) }
+        ensures gives { Gives (λ u. u) (d.define_all (map function_view functions.items) here.now (state_of self.old))
+            result (state_of self.new) }
         ensures opened { (state_of self.new).opened ≡ (state_of self.old).opened }
+        ensures sources { OnOk result (sources_of (state_of self.new).plan ≡ sources_of (state_of self.old).plan) }
     {
         for function in functions {
             self.define(alloc, function, here)?;
@@ -224,7 +230,8 @@ impl Machine {
     /// The info of a clip, by its place.
     #[tactic(auto, unfolding(crate::specs::States::state_of), using(crate::proofs::StateLemmas::lawful_at))]
     pub fn info_of(&self, alloc: Global, i: u32, here: &Text, line: u32) -> Result<Info, Stop>
-        ensures gives { Gives (λ info. info) (f.info_of here.now i line (state_of self.now)) result (state_of self.now) }
+        ensures gives { Gives (λ info. info) (f.info_of here.now i line (state_of self.now)) result (state_of self.now)
+            }
         ensures lawful { IfOk result IsLawful }
         ensures inside { OnOk result (i < length (state_of self.now).plan) }
     {
@@ -235,7 +242,7 @@ impl Machine {
     }
 
     // Adds what a filter does over clips, which has this info.
-    #[tactic(auto, unfolding(crate::specs::States::state_of))]
+    #[tactic(auto, using(crate::proofs::SourceLemmas::sources_more), unfolding(crate::specs::States::state_of))]
     fn add(
         &mut self,
         alloc: Global,
@@ -254,6 +261,8 @@ impl Machine {
         ensures gives { Gives (λ v. v) (f.add here.now (act_of op) inputs.now info mode line (state_of self.old)) result
             (state_of self.new) }
         ensures opened { (state_of self.new).opened ≡ (state_of self.old).opened }
+        ensures sources { OnOk result (sources_of (state_of self.new).plan
+            ≡ sources_of (state_of self.old).plan ++ source_of (act_of op)) }
     {
         match self.plan.add(op, inputs, info, mode) {
             Ok(place) => Ok(Value::Clip(place)),
@@ -280,6 +289,8 @@ impl Machine {
         ensures gives { Gives (λ v. v) (f.made here.now filter (act_of op) inputs.now line (state_of self.old)) result
             (state_of self.new) }
         ensures opened { (state_of self.new).opened ≡ (state_of self.old).opened }
+        ensures sources { OnOk result (sources_of (state_of self.new).plan
+            ≡ sources_of (state_of self.old).plan ++ source_of (act_of op)) }
     {
         if !are_places(&self.plan, inputs) {
             return Err(fault_at(alloc, ScriptKind::TypeFault, here, line));
@@ -353,6 +364,7 @@ impl Machine {
             (state_of self.new) }
         ensures opened { OnOk result ((state_of self.new).opened
             ≡ (state_of self.old).opened ++ record { name = name.now; info = info } ∷ []) }
+        ensures listed { Lists self.old result self.new }
     {
         self.list(alloc, name, info)?;
         let number = self.sources();

@@ -9,7 +9,7 @@ use Rattle.prefetch.specs.Clips.{clip_at}
 use Rattle.avs_meaning.specs.Meaning as m
 use Rattle.avs_meaning.specs.Crews.{Numbers}
 use Rattle.avs_meaning.specs.declared.state.SourceClip.{SourceClip}
-use Rattle.avs_expressions.specs.Sources.{sources_of}
+use Rattle.avs_state.specs.Sources.{sources_of}
 use Rattle.avs_files.specs.Opened.{IsFileOf}
 use Rattle.serve_app.specs.Meaning.{a_clip, a_fault, HasPictures, IsBookOf, MeansClip, MeansOneThing}
 

@@ -35,7 +35,7 @@ use Rattle.avs_meaning.specs.Faults.{Fault, input}
 use Rattle.avs_meaning.specs.declared.fault.InputFault.TheVariants as i
 use Rattle.avs_meaning.specs.Meaning as m
 use Rattle.avs_meaning.specs.declared.state.SourceClip.{SourceClip}
-use Rattle.avs_expressions.specs.Sources.{source_of, sources_of}
+use Rattle.avs_state.specs.Sources.{source_of, sources_of}
 use Rattle.avs_files.specs.Opened.{told_of, IsOpened, AreOpened}
 use Rattle.avs_files.proofs.CallerLemmas.{frames_of, has_clip, infos_listed}
 use Rattle.serve_text.specs.declared.fault.InputFault.TheVariants.{NotThere, Y4m, Changed}

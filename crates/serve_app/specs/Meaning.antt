@@ -11,7 +11,7 @@ use Rattle.avs_meaning.specs.Crews.{Numbers}
 use Rattle.avs_meaning.specs.Meaning as m
 use Rattle.avs_meaning.specs.Outside.{outside_of}
 use Rattle.avs_meaning.specs.declared.state.SourceClip.{SourceClip}
-use Rattle.avs_expressions.specs.Sources.{sources_of}
+use Rattle.avs_state.specs.Sources.{sources_of}
 use Rattle.avs_files.specs.Opened.{IsFileOf}
 
 -- the plan of a script and the place of its clip, or its first fault, by the files of a world

@@ -1,0 +1,79 @@
+-- A text that is executed, by its parts.
+use Rattle.std.proofs.Common.{◌≡◌, ◌∙◌, refl, sym, ap, ℕ, ◌<◌, nat_le, nat_eq, Bool, false, List, [], ◌∷◌, length, Result, Ok, Err, IsTrue, ◌≤◌, if◌then◌else◌, true, rules, arith}
+use Rattle.fv_plane.specs.declared.format.Info.{Info}
+use Rattle.avs_tree.specs.Loaded.{Loaded, NoTree}
+use Rattle.avs_tree.specs.Tree.{Block}
+use Rattle.avs_values.specs.Outcome.{text_limit}
+use Rattle.avs_values.specs.Values.{Text}
+use Rattle.avs_values.specs.declared.value.Value.{Value}
+use Rattle.avs_values.specs.declared.value.Value.TheVariants as v
+use Rattle.avs_load.specs.Load.{script_of}
+use Rattle.avs_meaning.specs.Expressions.{eval_name}
+use Rattle.avs_meaning.specs.State.{State, Outcome, Run, and_then, pure, fails}
+use Rattle.avs_meaning.specs.Texts.{loaded_by}
+use Rattle.avs_meaning.specs.declared.fault.FileKind.{FileKind}
+use Rattle.avs_meaning.specs.declared.fault.InputFault.{InputFault}
+use Rattle.avs_meaning.specs.declared.fault.ScriptKind.TheVariants as k
+use Rattle.avs_meaning.specs.declared.stop.Stop.{Stop}
+use Rattle.avs_state.specs.Hosts.{Fails}
+use Rattle.avs_eval.proofs.Failures.{is_fault, then_fails}
+use Rattle.avs_eval.specs.At as r
+use Rattle.avs_eval.specs.Bodies.{body_by}
+
+-- what goes on from the statements and the last line alone
+through : {X : Type 0} (o : Outcome Loaded) (next : Block × ℕ → Run X)
+    → and_then o (λ loaded. next (loaded.tree.statements, loaded.last_line))
+    ≡ and_then (and_then o (λ loaded. pure (loaded.tree.statements, loaded.last_line))) next
+through (Ok ended) next = refl
+through (Err fault) next = refl
+
+-- a text goes on from its body
+pub loaded_then : {X : Type 0} (tree : Result Loaded NoTree) (here : Text) (next : Block × ℕ → Run X) (s : State)
+    → and_then (loaded_by tree here s) (λ loaded. next (loaded.tree.statements, loaded.last_line)) ≡ and_then (body_by tree here s) next
+unfolding body_by
+loaded_then tree here next s = through (loaded_by tree here s) next
+
+module _ (clips : Text → Result Info InputFault) (scripts : Text → Result Text FileKind) (n : ℕ) (from text here : Text) (line : ℕ) where
+  -- a text that is not too long
+  execute_is : (s : State) → length text ≤ text_limit
+      → r.execute clips scripts n from text here line s ≡ and_then (body_by (script_of text) from s) (λ body. r.deeper clips scripts n from body.0)
+  execute_is s short =
+      let holds : nat_le (length text) text_limit ≡ true = search (rules, short) in
+      rw holds (loaded_then (script_of text) from (λ body. r.deeper clips scripts n from body.0) s)
+
+  pub executed : (s s' : State) (body : Block × ℕ) → length text ≤ text_limit → body_by (script_of text) from s ≡ Ok (body, s')
+      → r.execute clips scripts n from text here line s ≡ r.deeper clips scripts n from body.0 s'
+  executed s s' body short is = execute_is s short ∙ ap (λ o. and_then o (λ body. r.deeper clips scripts n from body.0)) is
+
+  pub execute_fails : (s : State) (stop : Stop) → length text ≤ text_limit → Fails (body_by (script_of text) from s) stop
+      → Fails (r.execute clips scripts n from text here line s) stop
+  execute_fails s stop short failed =
+      is_fault _ _ stop (execute_is s short) (then_fails (body_by (script_of text) from s) (λ body. r.deeper clips scripts n from body.0) stop failed)
+
+module _ (clips : Text → Result Info InputFault) (scripts : Text → Result Text FileKind) (n : ℕ) (here : Text) (line : ℕ) where
+  -- by the one text among the arguments
+  abbrev one_text : {X : Type 0} → (Text → X) → X → List Value → X
+  one_text f other (v.Text text ∷ []) = f text
+  one_text f other _ = other
+
+  pub eval_by : (values : List Value) (s : State)
+      → r.eval clips scripts n here values line s ≡ one_text (λ text. r.eval_text clips scripts n here text line s) (fails k.NoMatch here line s) values
+  unfolding r.eval_text
+  eval_by [] s = refl
+  eval_by (v.Undefined ∷ rest) s = refl
+  eval_by (v.Bool b ∷ rest) s = refl
+  eval_by (v.Int m ∷ rest) s = refl
+  eval_by (v.Clip i ∷ rest) s = refl
+  eval_by (v.Text text ∷ []) s = refl
+  eval_by (v.Text text ∷ x ∷ rest) s = refl
+
+  eval_one : (b : Bool) (text : Text) (s : State) → nat_eq n 0 ≡ b → b ≡ false
+      → r.eval_text clips scripts n here text line s ≡ r.execute clips scripts n eval_name text here line s
+  unfolding r.eval_text
+  eval_one b text s is never = rw (is ∙ never) refl
+
+  -- where a call may nest
+  pub eval_is : (text : Text) (s : State) → 0 < n → r.eval_text clips scripts n here text line s ≡ r.execute clips scripts n eval_name text here line s
+  eval_is text s some =
+      let holds : nat_eq n 0 ≡ false = grind (arith, some) in
+      eval_one (nat_eq n 0) text s refl holds

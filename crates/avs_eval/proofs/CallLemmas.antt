@@ -1,0 +1,95 @@
+-- A call, by how its arguments fit.
+use Rattle.std.proofs.Common.{◌≡◌, ◌∙◌, ap, refl, sym, ℕ, ◌+◌, ◌≤◌, ℤ, List, [], ◌∷◌, map, length, Option, Some, None, Result, Ok, Err}
+use Rattle.fv_plane.specs.declared.format.Info.{Info}
+use Rattle.avs_values.specs.Binding.{Bound}
+use Rattle.avs_values.specs.Values.{Text}
+use Rattle.avs_values.specs.declared.binding.Given as binding
+use Rattle.avs_values.specs.declared.value.Value.{Value}
+use Rattle.avs_values.specs.declared.value.Value.TheVariants as v
+use Rattle.avs_meaning.proofs.DirectCalls.{apply_direct}
+use Rattle.avs_meaning.proofs.RangeArguments.{range_fits}
+use Rattle.avs_meaning.specs.Calls.{Callee, builtin, takes, fit_or_last, unnamed}
+use Rattle.avs_meaning.specs.Expressions.{apply_by, called}
+use Rattle.avs_meaning.specs.Faults.{script}
+use Rattle.avs_meaning.specs.Filters.{ranged}
+use Rattle.avs_meaning.specs.State.{State, Outcome, and_then, fails}
+use Rattle.avs_meaning.specs.declared.builtin.Builtin.TheVariants as b
+use Rattle.avs_meaning.specs.declared.fault.FileKind.{FileKind}
+use Rattle.avs_meaning.specs.declared.fault.InputFault.{InputFault}
+use Rattle.avs_meaning.specs.declared.fault.ScriptKind.TheVariants as k
+use Rattle.avs_meaning.specs.declared.stop.Stop.{Stop}
+use Rattle.avs_state.specs.Hosts.{outside_by, Fails}
+use Rattle.avs_eval.proofs.Failures.{is_fault, then_fails}
+use Rattle.avs_eval.specs.At as r
+use Rattle.avs_eval.specs.Ranges.{Given, given_in}
+
+module _ (clips : Text → Result Info InputFault) (scripts : Text → Result Text FileKind) (n : ℕ) (here : Text) (line : ℕ) where
+  pub applies : (c : Callee) (args : List binding.Given) (last : Option Value) (s : State) (sig : ℕ) (bound : Bound) → fit_or_last (takes c) args last ≡ Some (sig, bound)
+      → r.apply clips scripts n c args last here line s ≡ r.applied clips scripts n c sig bound here line s
+  applies c args last s sig bound is =
+      apply_direct (outside_by clips scripts) n (r.deeper clips scripts n) c args last here line s
+      ∙ ap (λ fit. apply_by (outside_by clips scripts) n (r.deeper clips scripts n) (r.direct clips scripts n) fit c here line s) is
+
+  pub applies_not : (c : Callee) (args : List binding.Given) (last : Option Value) (s : State) → fit_or_last (takes c) args last ≡ None
+      → r.apply clips scripts n c args last here line s ≡ Err (script k.NoMatch here line)
+  applies_not c args last s is =
+      apply_direct (outside_by clips scripts) n (r.deeper clips scripts n) c args last here line s
+      ∙ ap (λ fit. apply_by (outside_by clips scripts) n (r.deeper clips scripts n) (r.direct clips scripts n) fit c here line s) is
+
+  pub range_applies : (c : Callee) (args : List binding.Given) (last : Option Value) (s : State) (sig : ℕ) (bound : Bound) → c ≡ builtin b.ApplyRange
+      → fit_or_last (takes c) args last ≡ Some (sig, bound)
+      → r.apply clips scripts n c args last here line s ≡ r.ranged_by clips scripts n bound.values bound.rest here line s
+  range_applies (builtin b.ApplyRange) args last s sig bound same is = applies (builtin b.ApplyRange) args last s sig bound is
+  range_applies _ args last s sig bound same is = absurd (cc)
+
+  -- by what ApplyRange is given
+  abbrev shown_by : Option Given → List Value → State → Outcome Value
+  shown_by None rest s = fails k.NoMatch here line s
+  shown_by (Some range) rest s =
+      and_then (and_then (called here range.name line s) (λ c. r.direct clips scripts n c (map unnamed (v.Clip range.clip ∷ rest)) here line))
+      (ranged here range.clip range.first range.last line)
+
+  shows : (values rest : List Value) (s : State) → r.ranged_by clips scripts n values rest here line s ≡ shown_by (given_in values) rest s
+  shows (v.Clip i ∷ v.Int first ∷ v.Int last ∷ v.Text word ∷ []) rest s = refl
+  shows _ rest s = refl
+
+  pub range_none : (values rest : List Value) (s : State) → given_in values ≡ None → r.ranged_by clips scripts n values rest here line s ≡ Err (script k.NoMatch here line)
+  range_none values rest s is = shows values rest s ∙ ap (λ o. shown_by o rest s) is
+
+  -- the function is called
+  pub range_calls : (values rest : List Value) (range : Given) (s : State) → given_in values ≡ Some range → r.ranged_by clips scripts n values rest here line s
+      ≡ and_then (and_then (called here range.name line s) (λ c. r.apply clips scripts n c (map unnamed (v.Clip range.clip ∷ rest)) None here line))
+      (ranged here range.clip range.first range.last line)
+  range_calls values rest range s is = shows values rest s ∙ ap (λ o. shown_by o rest s) is
+
+  range_called : (values rest : List Value) (range : Given) (c : Callee) (s : State) → given_in values ≡ Some range → called here range.name line s ≡ Ok (c, s)
+      → r.ranged_by clips scripts n values rest here line s
+      ≡ and_then (r.apply clips scripts n c (map unnamed (v.Clip range.clip ∷ rest)) None here line s) (ranged here range.clip range.first range.last line)
+  range_called values rest range c s is known =
+      range_calls values rest range s is
+      ∙ ap (λ o. and_then (and_then o (λ d. r.apply clips scripts n d (map unnamed (v.Clip range.clip ∷ rest)) None here line)) (ranged here range.clip range.first range.last line)) known
+
+  -- the function gives a value
+  pub range_shows : (values rest : List Value) (range : Given) (c : Callee) (args : List binding.Given) (shown : Value) (s s' : State)
+      → given_in values ≡ Some range → called here range.name line s ≡ Ok (c, s) → args ≡ map unnamed (v.Clip range.clip ∷ rest)
+      → r.apply clips scripts n c args None here line s ≡ Ok (shown, s')
+      → r.ranged_by clips scripts n values rest here line s ≡ ranged here range.clip range.first range.last line shown s'
+  range_shows values rest range c args shown s s' is known same gave =
+      range_called values rest range c s is known
+      ∙ ap (λ o. and_then o (ranged here range.clip range.first range.last line)) (ap (λ l. r.apply clips scripts n c l None here line s) (sym same) ∙ gave)
+
+  -- the function fails
+  pub range_fails : (values rest : List Value) (range : Given) (c : Callee) (args : List binding.Given) (stop : Stop) (s : State)
+      → given_in values ≡ Some range → called here range.name line s ≡ Ok (c, s) → args ≡ map unnamed (v.Clip range.clip ∷ rest)
+      → Fails (r.apply clips scripts n c args None here line s) stop → Fails (r.ranged_by clips scripts n values rest here line s) stop
+  range_fails values rest range c args stop s is known same failed =
+      is_fault _ _ stop
+      (range_called values rest range c s is known
+      ∙ ap (λ l. and_then (r.apply clips scripts n c l None here line s) (ranged here range.clip range.first range.last line)) (sym same))
+      (then_fails (r.apply clips scripts n c args None here line s) (ranged here range.clip range.first range.last line) stop failed)
+
+-- ApplyRange has fewer further values than it was given arguments.
+pub few_further : (c : Callee) (args : List binding.Given) (last : Option Value) (sig : ℕ) (bound : Bound) → c ≡ builtin b.ApplyRange → fit_or_last (takes c) args last ≡ Some (sig, bound)
+    → length bound.rest + 3 ≤ length args
+few_further (builtin b.ApplyRange) args last sig bound same is = (range_fits args last sig bound is).1
+few_further _ args last sig bound same is = absurd (cc)

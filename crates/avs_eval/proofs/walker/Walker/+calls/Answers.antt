@@ -1,0 +1,39 @@
+-- ApplyRange, and what it calls.
+use Rattle.std.proofs.Common.{rules, ◌≡◌, ◌+◌, ◌≤◌, length, Some, Ok, arith}
+use Rattle.avs_values.specs.Views.{bound_view}
+use Rattle.avs_meaning.specs.Calls.{builtin, takes, fit_or_last}
+use Rattle.avs_meaning.specs.declared.builtin.Builtin.TheVariants as b
+use Rattle.avs_state.specs.States.{state_of}
+use Rattle.avs_calls.specs.Views.{callee_view}
+use Rattle.avs_eval.proofs.CallLemmas.{few_further, range_applies, range_fails, range_shows}
+use Rattle.avs_eval.specs.Ranges.{given_view}
+use Rattle.avs_eval.proofs.walker.Walker.+calls.Goals as goal
+
+pub apply-apply_range-requires : goal.apply-apply_range-requires
+apply-apply_range-requires g t c κs within =
+    let same : callee_view c.args.callee.now ≡ builtin b.ApplyRange = search rules in
+    let is : fit_or_last (takes (callee_view c.args.callee.now)) c.args.args.items c.args.last ≡ Some (c.in-Some.signature, bound_view c.in-Some.given) = search rules in
+    let few : length c.in-Some.given.rest.items + 3 ≤ length c.args.args.items =
+    few_further (callee_view c.args.callee.now) c.args.args.items c.args.last c.in-Some.signature (bound_view c.in-Some.given) same is in
+    (omega (arith, few, c.decreases), (within.0, (within.1, c.requires.deeper)))
+
+pub apply-returns-in-Builtin-clause-told : goal.apply-returns-in-Builtin-clause-told
+apply-returns-in-Builtin-clause-told g t c = λ told.
+    let same : callee_view c.args.callee.now ≡ builtin b.ApplyRange = search rules in
+    let is : fit_or_last (takes (callee_view c.args.callee.now)) c.args.args.items c.args.last ≡ Some (c.in-Some.signature, bound_view c.in-Some.given) = search rules in
+    rw (range_applies g.H.Host.clips g.H.Host.scripts c.args.self.now.depth c.args.self.now.here.now c.args.line (callee_view c.args.callee.now) c.args.args.items c.args.last
+    (state_of c.args.machine.now) c.in-Some.signature (bound_view c.in-Some.given) same is)
+    (c.apply_range.ensures.told told)
+
+pub apply_range-returns-in-Err-clause-told : goal.apply_range-returns-in-Err-clause-told
+apply_range-returns-in-Err-clause-told g t c = λ told.
+    range_fails g.H.Host.clips g.H.Host.scripts c.args.self.now.depth c.args.self.now.here.now c.args.line c.args.given.now.values.items c.args.given.now.rest.items
+    (given_view c.in-Some.range) (callee_view c.in_ok-callee.callee) c.in_ok-args.args.items c.in-Err.stop (state_of c.args.machine.now) (search rules) (search rules)
+    (rw c.deref-2.ensures.value at c.in_ok-args.ensures) (c.in-Err.ensures.told told)
+
+pub apply_range-returns-clause-told : goal.apply_range-returns-clause-told
+apply_range-returns-clause-told g t c = λ told.
+    rw (range_shows g.H.Host.clips g.H.Host.scripts c.args.self.now.depth c.args.self.now.here.now c.args.line c.args.given.now.values.items c.args.given.now.rest.items
+    (given_view c.in-Some.range) (callee_view c.in_ok-callee.callee) c.in_ok-args.args.items c.in-Ok.shown (state_of c.args.machine.now) (state_of c.apply.new.machine) (search rules) (search rules)
+    (rw c.deref-2.ensures.value at c.in_ok-args.ensures) (c.in-Ok.ensures.told told))
+    (search rules)

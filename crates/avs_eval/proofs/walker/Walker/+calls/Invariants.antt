@@ -1,0 +1,9 @@
+-- What ApplyRange calls has fewer arguments.
+use Rattle.std.proofs.Common.{◌+◌, ◌*◌, length}
+use Rattle.avs_eval.proofs.walker.Walker.+calls.Given as goal
+
+abbrev pub decreases-apply : goal.decreases-apply
+decreases-apply g c = 2 * length c.args.items + 1
+
+abbrev pub decreases-apply_range : goal.decreases-apply_range
+decreases-apply_range g c = 2 * (length c.given.now.rest.items + 2)

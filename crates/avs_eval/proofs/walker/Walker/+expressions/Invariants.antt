@@ -1,0 +1,40 @@
+-- What is left gives what the whole gives, and the state has kept what it keeps.
+use Rattle.std.proofs.Common.{◌≡◌, ◌≤◌, map, drop, IsTrue}
+use Rattle.avs_tree.specs.View.{args_of, method_calls_of, steps_of, arg_view, method_call_view, step_view}
+use Rattle.avs_state.specs.Sources.{sources_of}
+use Rattle.avs_state.specs.States.{state_of}
+use Rattle.avs_eval.specs.At as r
+use Rattle.avs_eval.proofs.walker.Walker.+expressions.Given as goal
+
+abbrev pub invariant-givens_of-loop-arg : goal.invariant-givens_of-loop-arg
+invariant-givens_of-loop-arg g l =
+    let givens = r.givens_of g.H.Host.clips g.H.Host.scripts l.self.depth l.self.here.now in
+    record {
+      told : IsTrue g.H.Host.told → givens (args_of (map arg_view (drop l.arg-index l.args))) l.given.items (state_of l.machine)
+          ≡ givens (args_of (map arg_view l.args)) l.fn.given.items (state_of l.fn.machine);
+      opened : (state_of l.fn.machine).opened ≡ g.H.Host.opened l.fn.host → (state_of l.machine).opened ≡ g.H.Host.opened l.host;
+      listed : sources_of (state_of l.fn.machine).plan ≡ (state_of l.fn.machine).opened → sources_of (state_of l.machine).plan ≡ (state_of l.machine).opened;
+      later : g.H.Host.faults l.fn.host ≤ g.H.Host.faults l.host;
+    }
+
+abbrev pub invariant-calls_from-loop-call : goal.invariant-calls_from-loop-call
+invariant-calls_from-loop-call g l =
+    let calls = r.calls_from g.H.Host.clips g.H.Host.scripts l.self.depth l.self.here.now in
+    record {
+      told : IsTrue g.H.Host.told → calls (method_calls_of (map method_call_view (drop l.call-index l.calls))) l.value (state_of l.machine)
+          ≡ calls (method_calls_of (map method_call_view l.calls)) l.fn.first (state_of l.fn.machine);
+      opened : (state_of l.fn.machine).opened ≡ g.H.Host.opened l.fn.host → (state_of l.machine).opened ≡ g.H.Host.opened l.host;
+      listed : sources_of (state_of l.fn.machine).plan ≡ (state_of l.fn.machine).opened → sources_of (state_of l.machine).plan ≡ (state_of l.machine).opened;
+      later : g.H.Host.faults l.fn.host ≤ g.H.Host.faults l.host;
+    }
+
+abbrev pub invariant-steps_from-loop-step : goal.invariant-steps_from-loop-step
+invariant-steps_from-loop-step g l =
+    let steps = r.steps_from g.H.Host.clips g.H.Host.scripts l.self.depth l.self.here.now in
+    record {
+      told : IsTrue g.H.Host.told → steps (steps_of (map step_view (drop l.step-index l.steps))) l.value (state_of l.machine)
+          ≡ steps (steps_of (map step_view l.steps)) l.fn.first (state_of l.fn.machine);
+      opened : (state_of l.fn.machine).opened ≡ g.H.Host.opened l.fn.host → (state_of l.machine).opened ≡ g.H.Host.opened l.host;
+      listed : sources_of (state_of l.fn.machine).plan ≡ (state_of l.fn.machine).opened → sources_of (state_of l.machine).plan ≡ (state_of l.machine).opened;
+      later : g.H.Host.faults l.fn.host ≤ g.H.Host.faults l.host;
+    }

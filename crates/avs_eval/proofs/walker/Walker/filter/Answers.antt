@@ -1,0 +1,24 @@
+use Rattle.std.proofs.Common.{rules}
+use Rattle.avs_values.specs.Views.{bound_view}
+use Rattle.avs_meaning.specs.Filters.{filtered}
+use Rattle.avs_state.specs.Hosts.{outside_by}
+use Rattle.avs_state.specs.States.{state_of}
+use Rattle.avs_eval.proofs.Failures.{given, unread}
+use Rattle.avs_eval.proofs.walker.Walker.filter.Goals as goal
+
+pub returns-in_default-clause-told : goal.returns-in_default-clause-told
+returns-in_default-clause-told g c = λ told.
+    let outside = outside_by g.H.Host.clips g.H.Host.scripts in
+    given (λ v. v) (filtered c.args.self.now.here.now outside c.args.applied c.args.signature (bound_view c.args.given.now) c.args.line (state_of c.args.machine.now))
+    c.filter.result (state_of c.filter.new.machine) (c.filter.ensures.gives outside)
+
+pub returns-in_default-clause-kept : goal.returns-in_default-clause-kept
+returns-in_default-clause-kept g c =
+    let outside = outside_by g.H.Host.clips g.H.Host.scripts in
+    record {
+      given = search rules;
+      listed = search rules;
+      later = search rules;
+      read = unread (λ v. v) (filtered c.args.self.now.here.now outside c.args.applied c.args.signature (bound_view c.args.given.now) c.args.line (state_of c.args.machine.now))
+          c.filter.result (state_of c.filter.new.machine) (g.H.Host.faults c.args.host.now) (c.filter.ensures.gives outside);
+    }

@@ -1,0 +1,16 @@
+-- The statements of a text, once its functions are added.
+use Rattle.std.specs.Prelude.{ℕ, Result}
+use Rattle.avs_tree.specs.Loaded.{Loaded, NoTree}
+use Rattle.avs_tree.specs.Tree.{Block}
+use Rattle.avs_tree.specs.View.{block_view}
+use Rattle.avs_values.specs.Values.{Text}
+use Rattle.avs_meaning.specs.State.{Run, ◌>>=◌, pure}
+use Rattle.avs_meaning.specs.Texts.{loaded_by}
+use Rattle.avs_eval.specs.declared.texts.Body.{Body}
+
+-- the statements and the last line of a text of this name
+unfoldable pub body_by : Result Loaded NoTree → Text → Run (Block × ℕ)
+body_by tree here = loaded_by tree here >>= (λ loaded. pure (loaded.tree.statements, loaded.last_line))
+
+abbrev pub body_view : Body → Block × ℕ
+body_view body = (block_view body.statements.items, body.last_line)

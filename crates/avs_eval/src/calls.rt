@@ -1,0 +1,307 @@
+// Calls.
+ghost use Rattle.std.specs.Prelude.{◌≡◌, ◌<◌};
+ghost use Rattle.avs_tree.specs.Tree as t;
+ghost use Rattle.avs_values.specs.Views.{bound_view};
+ghost use Rattle.avs_meaning.specs.Calls as c;
+ghost use Rattle.avs_meaning.specs.Expressions as e;
+ghost use Rattle.avs_meaning.specs.Filters as f;
+ghost use Rattle.avs_state.specs.Answers.{Gives};
+ghost use Rattle.avs_state.specs.Hosts.{Told, outside_by};
+ghost use Rattle.avs_state.specs.States.{state_of, defined_view};
+ghost use Rattle.avs_calls.specs.Views.{callee_view};
+ghost use Rattle.avs_eval.specs.At as r;
+ghost use Rattle.avs_eval.specs.Walks.{Deeper, Keeps};
+
+use crate::ranges::{range_in, unnamed_of};
+use crate::walker::Walker;
+use avs_calls::{
+    Callee, callee_of, filter, fit_callee, parameters, plain, prefetch, ranged, set_mode, told,
+};
+use avs_meaning::{Builtin, ScriptKind, Stop, Table, Variable};
+use avs_state::{ByName, Definition, Host, HostFault, Machine};
+use avs_tree::Statement;
+use avs_values::{Bound, Given, Value};
+use clip_term::Filter;
+use fv_io::Text;
+use std::alloc::{AllocError, Global};
+
+impl<
+    't,
+    H: Host,
+    F: Fn(Global, &Table, &mut Machine, &mut H, u32, &Text, &[Statement]) -> Result<Value, Stop>,
+> Walker<'t, H, F> {
+    // Opens the clip of a file.
+    fn open(
+        &self,
+        machine: &mut Machine,
+        host: &mut H,
+        name: &Text,
+        line: u32,
+    ) -> Result<Value, Stop>
+        ensures told { Told H.told (λ v. v) (f.open_by self.now.here.now (H.clips name.now) name.now line)
+            machine.old result machine.new }
+        ensures kept { Keeps H.Host machine.old host.old result machine.new host.new }
+    {
+        match host.clip(name) {
+            Ok(info) => machine.add_source(self.alloc, name, info, self.here, line),
+            Err(HostFault::Input(fault)) => Err(Stop::Input {
+                name: Text::from_str(self.alloc, name.as_str())?,
+                fault,
+            }),
+            Err(HostFault::Read) => Err(Stop::Read),
+            Err(HostFault::Memory) => Err(Stop::Memory),
+            Err(HostFault::Script(kind)) => Err(self.fault(ScriptKind::File(kind), line)),
+        }
+    }
+
+    // `Y4MSource`.
+    fn open_source(
+        &self,
+        machine: &mut Machine,
+        host: &mut H,
+        values: &[Value],
+        line: u32,
+    ) -> Result<Value, Stop>
+        ensures told { Told H.told (λ v. v)
+            (f.open_source self.now.here.now (outside_by H.clips H.scripts) values.now line)
+            machine.old result machine.new }
+        ensures kept { Keeps H.Host machine.old host.old result machine.new host.new }
+    {
+        match values {
+            [Value::Text(name)] => self.open(machine, host, name, line),
+            _ => Err(self.fault(ScriptKind::NoMatch, line)),
+        }
+    }
+
+    // Executes a function of the script with variables of its own.
+    fn inside(
+        &self,
+        machine: &mut Machine,
+        host: &mut H,
+        definition: &Definition,
+        env: ByName<Variable>,
+    ) -> Result<Value, Stop>
+        requires deeper { Deeper H.Host self.now.depth F.Fn self.now.run }
+        requires room { 0 < self.now.depth }
+        ensures told { Told H.told (λ v. v) (r.inside H.clips H.scripts self.now.depth (defined_view definition.now)
+            env) machine.old result machine.new }
+        ensures kept { Keeps H.Host machine.old host.old result machine.new host.new }
+    {
+        let before = machine.enter(env);
+        let value = self.deeper(machine, host, &definition.text, &definition.function.body)?;
+        machine.enter(before);
+        Ok(value)
+    }
+
+    // A filter of bound arguments.
+    fn filter(
+        &self,
+        machine: &mut Machine,
+        host: &mut H,
+        applied: Filter,
+        signature: usize,
+        given: &Bound,
+        line: u32,
+    ) -> Result<Value, Stop>
+        ensures told { Told H.told (λ v. v) (f.filtered self.now.here.now (outside_by H.clips H.scripts) applied
+            signature (bound_view given.now) line) machine.old result machine.new }
+        ensures kept { Keeps H.Host machine.old host.old result machine.new host.new }
+    {
+        match applied {
+            Filter::Y4MSource => self.open_source(machine, host, &given.values, line),
+            _ => filter(
+                self.alloc, machine, applied, signature, given, self.here, line,
+            ),
+        }
+    }
+
+    // A built-in function but `ApplyRange`, of bound arguments.
+    fn builtin(
+        &self,
+        machine: &mut Machine,
+        host: &mut H,
+        builtin: Builtin,
+        signature: usize,
+        given: &Bound,
+        line: u32,
+    ) -> Result<Value, Stop>
+        requires deeper { Deeper H.Host self.now.depth F.Fn self.now.run }
+        requires other { builtin ≡ Builtin.ApplyRange → ⊥ }
+        ensures told { Told H.told (λ v. v) (r.applied H.clips H.scripts self.now.depth (c.builtin builtin) signature
+            (bound_view given.now) self.now.here.now line) machine.old result machine.new }
+        ensures kept { Keeps H.Host machine.old host.old result machine.new host.new }
+    {
+        match builtin {
+            Builtin::Eval => self.eval(machine, host, &given.values, line),
+            Builtin::Import => self.import(machine, host, &given.values, line),
+            Builtin::SetFilterMTMode => {
+                set_mode(self.alloc, machine, &given.values, self.here, line)
+            }
+            Builtin::Prefetch => prefetch(self.alloc, machine, &given.values, self.here, line),
+            Builtin::ApplyRange => Err(self.fault(ScriptKind::NoMatch, line)),
+            Builtin::Plain(function) => plain(self.alloc, function, given, self.here, line),
+            Builtin::Clip(function) => {
+                told(
+                    self.alloc,
+                    machine,
+                    function,
+                    &given.values,
+                    self.here,
+                    line,
+                )
+            }
+            Builtin::Filter(filter) => {
+                self.filter(machine, host, filter, signature, given, line)
+            }
+        }
+    }
+
+    // A call but of `ApplyRange`, whose arguments are bound by the signature of this number.
+    fn applied(
+        &self,
+        machine: &mut Machine,
+        host: &mut H,
+        callee: &Callee<'_>,
+        signature: usize,
+        given: &Bound,
+        line: u32,
+    ) -> Result<Value, Stop>
+        requires deeper { Deeper H.Host self.now.depth F.Fn self.now.run }
+        requires other { callee_view callee.now ≡ c.builtin Builtin.ApplyRange → ⊥ }
+        ensures told { Told H.told (λ v. v) (r.applied H.clips H.scripts self.now.depth (callee_view callee.now)
+            signature (bound_view given.now) self.now.here.now line) machine.old result machine.new }
+        ensures kept { Keeps H.Host machine.old host.old result machine.new host.new }
+    {
+        match callee {
+            Callee::User(definition) => {
+                if self.depth == 0 {
+                    return Err(self.fault(ScriptKind::CallDepth, line));
+                }
+                let env = parameters(self.alloc, &definition.function.params, &given.values)?;
+                self.inside(machine, host, definition, env)
+            }
+            Callee::Builtin(row) => {
+                self.builtin(machine, host, row.builtin(), signature, given, line)
+            }
+        }
+    }
+
+    /// What a name calls.
+    pub(crate) fn called(
+        &self,
+        machine: &Machine,
+        name: &Text,
+        line: u32,
+    ) -> Result<Callee<'t>, Stop>
+        ensures { Gives callee_view (e.called self.now.here.now name.now line (state_of machine.now)) result
+            (state_of machine.now) }
+    {
+        match callee_of(self.alloc, self.table, machine, name)? {
+            Some(callee) => Ok(callee),
+            None => Err(self.fault(ScriptKind::UnknownName, line)),
+        }
+    }
+
+    // `ApplyRange`: calls the function of a name with the clip and further values, and shows what that gives in a range of
+    // frames.
+    #[cycle(calls)]
+    fn apply_range(
+        &self,
+        machine: &mut Machine,
+        host: &mut H,
+        given: &Bound,
+        line: u32,
+    ) -> Result<Value, Stop>
+        requires deeper { Deeper H.Host self.now.depth F.Fn self.now.run }
+        ensures told { Told H.told (λ v. v) (r.ranged_by H.clips H.scripts self.now.depth given.now.values.items
+            given.now.rest.items self.now.here.now line) machine.old result machine.new }
+        ensures kept { Keeps H.Host machine.old host.old result machine.new host.new }
+    {
+        let Some(range) = range_in(&given.values) else {
+            return Err(self.fault(ScriptKind::NoMatch, line));
+        };
+        let callee = self.called(machine, range.name, line)?;
+        let args = unnamed_of(self.alloc, range.clip, &given.rest)?;
+        let shown = match self.apply(machine, host, &callee, args, None, line) {
+            Ok(shown) => shown,
+            Err(stop) => return Err(stop),
+        };
+        ranged(
+            self.alloc,
+            machine,
+            range.clip,
+            range.first,
+            range.last,
+            &shown,
+            self.here,
+            line,
+        )
+    }
+
+    /// A call with these arguments, tried again with `last` first, if it is given.
+    #[cycle(calls)]
+    pub(crate) fn apply(
+        &self,
+        machine: &mut Machine,
+        host: &mut H,
+        callee: &Callee<'_>,
+        args: Vec<Given>,
+        last: Option<Value>,
+        line: u32,
+    ) -> Result<Value, Stop>
+        requires deeper { Deeper H.Host self.now.depth F.Fn self.now.run }
+        ensures told { Told H.told (λ v. v) (r.apply H.clips H.scripts self.now.depth (callee_view callee.now)
+            args.items last self.now.here.now line) machine.old result machine.new }
+        ensures kept { Keeps H.Host machine.old host.old result machine.new host.new }
+    {
+        let Some((signature, given)) = fit_callee(self.alloc, callee, args, last)? else {
+            return Err(self.fault(ScriptKind::NoMatch, line));
+        };
+        match callee {
+            Callee::Builtin(row) if row.builtin() == Builtin::ApplyRange => {
+                self.apply_range(machine, host, &given, line)
+            }
+            _ => self.applied(machine, host, callee, signature, &given, line),
+        }
+    }
+
+    /// A call with these arguments, tried again with the variable `last` first, where that is set.
+    pub(crate) fn apply_last(
+        &self,
+        machine: &mut Machine,
+        host: &mut H,
+        callee: &Callee<'_>,
+        args: Vec<Given>,
+        line: u32,
+    ) -> Result<Value, Stop>
+        requires deeper { Deeper H.Host self.now.depth F.Fn self.now.run }
+        ensures told { Told H.told (λ v. v) (r.apply_last H.clips H.scripts self.now.depth self.now.here.now
+            (callee_view callee.now) args.items line) machine.old result machine.new }
+        ensures kept { Keeps H.Host machine.old host.old result machine.new host.new }
+    {
+        let name = Text::from_str(self.alloc, "last")?;
+        let last = machine.local(self.alloc, &name)?;
+        self.apply(machine, host, callee, args, last, line)
+    }
+
+    /// A variable, or else a call without arguments.
+    pub(crate) fn named(
+        &self,
+        machine: &mut Machine,
+        host: &mut H,
+        name: &Text,
+        line: u32,
+    ) -> Result<Value, Stop>
+        requires deeper { Deeper H.Host self.now.depth F.Fn self.now.run }
+        ensures told { Told H.told (λ v. v)
+            (r.value_of H.clips H.scripts self.now.depth self.now.here.now (t.name name.now line))
+            machine.old result machine.new }
+        ensures kept { Keeps H.Host machine.old host.old result machine.new host.new }
+    {
+        if let Some(value) = machine.variable(self.alloc, name)? {
+            return Ok(value);
+        }
+        let callee = self.called(machine, name, line)?;
+        self.apply_last(machine, host, &callee, Vec::new(self.alloc), line)
+    }
+}

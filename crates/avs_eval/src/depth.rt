@@ -1,0 +1,39 @@
+// Statements, where so many calls may nest.
+ghost use Rattle.avs_tree.specs.View.{block_view};
+ghost use Rattle.avs_meaning.specs.Meaning as m;
+ghost use Rattle.avs_state.specs.Hosts.{Told, outside_by};
+ghost use Rattle.avs_eval.specs.Walks.{Keeps};
+
+use crate::walker::Walker;
+use avs_meaning::{Stop, Table};
+use avs_state::{Host, Machine};
+use avs_tree::Statement;
+use avs_values::Value;
+use fv_io::Text;
+use std::alloc::Global;
+use std::marker::PhantomData;
+
+/// Executes the statements of a text or a function, where so many calls may nest.
+pub(crate) fn run<H: Host>(
+    alloc: Global,
+    table: &Table,
+    machine: &mut Machine,
+    host: &mut H,
+    depth: u32,
+    here: &Text,
+    body: &[Statement],
+) -> Result<Value, Stop>
+    ensures told { Told H.told (λ x. x) (m.run (outside_by H.clips H.scripts) depth here.now (block_view body.now))
+        machine.old result machine.new }
+    ensures kept { Keeps H.Host machine.old host.old result machine.new host.new }
+{
+    let walker = Walker {
+        alloc,
+        table,
+        here,
+        depth,
+        run: run::<H>,
+        of: PhantomData,
+    };
+    walker.body_of(machine, host, body)
+}

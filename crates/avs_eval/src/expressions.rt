@@ -1,0 +1,258 @@
+// The values of expressions.
+ghost use Rattle.std.specs.Prelude.{◌≡◌, ◌∷◌, [], map};
+ghost use Rattle.avs_tree.specs.Tree as t;
+ghost use Rattle.avs_tree.specs.View.{expr_view, arg_view, method_call_view, step_view, args_of, method_calls_of, steps_of};
+ghost use Rattle.avs_state.specs.Hosts.{Told};
+ghost use Rattle.avs_eval.specs.At as r;
+ghost use Rattle.avs_eval.specs.Walks.{Deeper, Keeps};
+
+use crate::walker::Walker;
+use avs_calls::{combined, compared, prefixed, truth};
+use avs_meaning::{Stop, Table};
+use avs_state::{Host, Machine};
+use avs_tree::{Arg, Expr, MethodCall, Operator, Statement, Step};
+use avs_values::{Given, UnaryOp, Value};
+use fv_io::Text;
+use std::alloc::{AllocError, Global};
+
+impl<
+    't,
+    H: Host,
+    F: Fn(Global, &Table, &mut Machine, &mut H, u32, &Text, &[Statement]) -> Result<Value, Stop>,
+> Walker<'t, H, F> {
+    /// The value of an expression.
+    #[cycle(expressions)]
+    pub(crate) fn value_of(
+        &self,
+        machine: &mut Machine,
+        host: &mut H,
+        e: &Expr,
+    ) -> Result<Value, Stop>
+        requires deeper { Deeper H.Host self.now.depth F.Fn self.now.run }
+        ensures told { Told H.told (λ v. v)
+            (r.value_of H.clips H.scripts self.now.depth self.now.here.now (expr_view e.now))
+            machine.old result machine.new }
+        ensures kept { Keeps H.Host machine.old host.old result machine.new host.new }
+    {
+        match e {
+            Expr::Int(n) => Ok(Value::Int(*n)),
+            Expr::Bool(holds) => Ok(Value::Bool(*holds)),
+            Expr::Str(text) => Ok(Value::Text(Text::from_str(self.alloc, text.as_str())?)),
+            Expr::Name { name, line } => self.named(machine, host, name, *line),
+            Expr::Call { name, args, line } => self.call(machine, host, name, args, *line),
+            Expr::MethodCalls { first, calls } => {
+                let value = self.value_of(machine, host, first)?;
+                self.calls_from(machine, host, calls, value)
+            }
+            Expr::Minus { operand, line } => {
+                let value = self.value_of(machine, host, operand)?;
+                prefixed(self.alloc, UnaryOp::Negative, &value, self.here, *line)
+            }
+            Expr::Not { operand, line } => {
+                let value = self.value_of(machine, host, operand)?;
+                prefixed(self.alloc, UnaryOp::Not, &value, self.here, *line)
+            }
+            Expr::Chain { first, rest } => {
+                let value = self.value_of(machine, host, first)?;
+                self.steps_from(machine, host, rest, value)
+            }
+            Expr::Compare {
+                op,
+                left,
+                right,
+                line,
+            } => {
+                let a = self.value_of(machine, host, left)?;
+                let b = self.value_of(machine, host, right)?;
+                compared(self.alloc, *op, &a, &b, self.here, *line)
+            }
+            Expr::Conditional {
+                condition,
+                yes,
+                no,
+                line,
+            } => {
+                let value = self.value_of(machine, host, condition)?;
+                if truth(self.alloc, &value, self.here, *line)? {
+                    self.value_of(machine, host, yes)
+                } else {
+                    self.value_of(machine, host, no)
+                }
+            }
+            Expr::Group(inner) => self.value_of(machine, host, inner),
+        }
+    }
+
+    // A call. Its name is looked up before its arguments are evaluated.
+    #[cycle(expressions)]
+    fn call(
+        &self,
+        machine: &mut Machine,
+        host: &mut H,
+        name: &Text,
+        args: &[Arg],
+        line: u32,
+    ) -> Result<Value, Stop>
+        requires deeper { Deeper H.Host self.now.depth F.Fn self.now.run }
+        ensures told { Told H.told (λ v. v) (r.value_of H.clips H.scripts self.now.depth self.now.here.now
+            (t.call name.now (args_of (map arg_view args.now)) line)) machine.old result machine.new }
+        ensures kept { Keeps H.Host machine.old host.old result machine.new host.new }
+    {
+        let callee = self.called(machine, name, line)?;
+        let given = self.givens_of(machine, host, args, Vec::new(self.alloc))?;
+        self.apply_last(machine, host, &callee, given, line)
+    }
+
+    // Arguments, after those that are there.
+    #[cycle(expressions)]
+    #[tactic(auto, using(crate::proofs::Rows::args_more))]
+    fn givens_of(
+        &self,
+        machine: &mut Machine,
+        host: &mut H,
+        args: &[Arg],
+        mut given: Vec<Given>,
+    ) -> Result<Vec<Given>, Stop>
+        requires deeper { Deeper H.Host self.now.depth F.Fn self.now.run }
+        ensures told { Told H.told (λ v. v.items) (r.givens_of H.clips H.scripts self.now.depth self.now.here.now
+            (args_of (map arg_view args.now)) given.items) machine.old result machine.new }
+        ensures kept { Keeps H.Host machine.old host.old result machine.new host.new }
+    {
+        for arg in args {
+            let value = self.value_of(machine, host, &arg.value)?;
+            let name = match &arg.name {
+                Some(name) => Some(Text::from_str(self.alloc, name.as_str())?),
+                None => None,
+            };
+            given.push(Given { name, value })?;
+        }
+        Ok(given)
+    }
+
+    // Method calls, each with the value before it as its first argument.
+    #[cycle(expressions)]
+    #[tactic(auto, using(crate::proofs::Rows::calls_more, crate::proofs::Rows::calls_fail))]
+    fn calls_from(
+        &self,
+        machine: &mut Machine,
+        host: &mut H,
+        calls: &[MethodCall],
+        first: Value,
+    ) -> Result<Value, Stop>
+        requires deeper { Deeper H.Host self.now.depth F.Fn self.now.run }
+        ensures told { Told H.told (λ v. v) (r.calls_from H.clips H.scripts self.now.depth self.now.here.now
+            (method_calls_of (map method_call_view calls.now)) first) machine.old result machine.new }
+        ensures kept { Keeps H.Host machine.old host.old result machine.new host.new }
+    {
+        let mut value = first;
+        for call in calls {
+            value = self.method_call(machine, host, call, value)?;
+        }
+        Ok(value)
+    }
+
+    #[cycle(expressions)]
+    fn method_call(
+        &self,
+        machine: &mut Machine,
+        host: &mut H,
+        call: &MethodCall,
+        first: Value,
+    ) -> Result<Value, Stop>
+        requires deeper { Deeper H.Host self.now.depth F.Fn self.now.run }
+        ensures told { Told H.told (λ v. v) (r.calls_from H.clips H.scripts self.now.depth self.now.here.now
+            (method_calls_of (method_call_view call.now ∷ [])) first) machine.old result machine.new }
+        ensures kept { Keeps H.Host machine.old host.old result machine.new host.new }
+    {
+        let callee = self.called(machine, &call.name, call.line)?;
+        let mut given = Vec::new(self.alloc);
+        given.push(Given {
+            name: None,
+            value: first,
+        })?;
+        match &call.args {
+            Some(args) => {
+                let given = self.givens_of(machine, host, args, given)?;
+                self.apply(machine, host, &callee, given, None, call.line)
+            }
+            None => self.apply(machine, host, &callee, given, None, call.line),
+        }
+    }
+
+    // The operators of a chain, from the left.
+    #[cycle(expressions)]
+    #[tactic(auto, using(crate::proofs::Rows::steps_more))]
+    fn steps_from(
+        &self,
+        machine: &mut Machine,
+        host: &mut H,
+        steps: &[Step],
+        first: Value,
+    ) -> Result<Value, Stop>
+        requires deeper { Deeper H.Host self.now.depth F.Fn self.now.run }
+        ensures told { Told H.told (λ v. v) (r.steps_from H.clips H.scripts self.now.depth self.now.here.now
+            (steps_of (map step_view steps.now)) first) machine.old result machine.new }
+        ensures kept { Keeps H.Host machine.old host.old result machine.new host.new }
+    {
+        let mut value = first;
+        for step in steps {
+            value = self.joined(machine, host, &step.operand, step.op, step.line, value)?;
+        }
+        Ok(value)
+    }
+
+    // A value and an operand, which `&&` and `||` evaluate only where they need it.
+    #[cycle(expressions)]
+    fn joined(
+        &self,
+        machine: &mut Machine,
+        host: &mut H,
+        operand: &Expr,
+        op: Operator,
+        line: u32,
+        first: Value,
+    ) -> Result<Value, Stop>
+        requires deeper { Deeper H.Host self.now.depth F.Fn self.now.run }
+        ensures told { Told H.told (λ v. v) (r.joined H.clips H.scripts self.now.depth self.now.here.now op line
+            (expr_view operand.now) first) machine.old result machine.new }
+        ensures kept { Keeps H.Host machine.old host.old result machine.new host.new }
+    {
+        match op {
+            Operator::Or => {
+                if truth(self.alloc, &first, self.here, line)? {
+                    return Ok(Value::Bool(true));
+                }
+                self.truth_of(machine, host, operand, line)
+            }
+            Operator::And => {
+                if truth(self.alloc, &first, self.here, line)? {
+                    return self.truth_of(machine, host, operand, line);
+                }
+                Ok(Value::Bool(false))
+            }
+            _ => {
+                let second = self.value_of(machine, host, operand)?;
+                combined(self.alloc, machine, op, &first, &second, self.here, line)
+            }
+        }
+    }
+
+    // An operand as a truth value.
+    #[cycle(expressions)]
+    fn truth_of(
+        &self,
+        machine: &mut Machine,
+        host: &mut H,
+        operand: &Expr,
+        line: u32,
+    ) -> Result<Value, Stop>
+        requires deeper { Deeper H.Host self.now.depth F.Fn self.now.run }
+        ensures told { Told H.told (λ v. v) (r.truth_of H.clips H.scripts self.now.depth self.now.here.now line
+            (expr_view operand.now)) machine.old result machine.new }
+        ensures kept { Keeps H.Host machine.old host.old result machine.new host.new }
+    {
+        let value = self.value_of(machine, host, operand)?;
+        let holds = truth(self.alloc, &value, self.here, line)?;
+        Ok(Value::Bool(holds))
+    }
+}

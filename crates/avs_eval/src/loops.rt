@@ -1,0 +1,157 @@
+// Parts of loops.
+ghost use Rattle.std.specs.Prelude.{◌≡◌, ℤ, ◌+ℤ◌, OnOk, option_map};
+ghost use Rattle.avs_tree.specs.View.{expr_view};
+ghost use Rattle.avs_meaning.specs.Loops as l;
+ghost use Rattle.avs_state.specs.Answers.{Answers, Gives};
+ghost use Rattle.avs_state.specs.Hosts.{Told};
+ghost use Rattle.avs_state.specs.Sources.{sources_of};
+ghost use Rattle.avs_state.specs.States.{state_of};
+ghost use Rattle.avs_eval.specs.Walks.{Deeper, Keeps};
+ghost use Rattle.avs_eval.specs.At as r;
+
+use crate::walker::Walker;
+use avs_calls::truth;
+use avs_meaning::{ScriptKind, Stop, Table};
+use avs_state::{Host, Machine, fault_at};
+use avs_tree::{Expr, Statement};
+use avs_values::Value;
+use fv_io::Text;
+use std::alloc::{AllocError, Global};
+
+/// Whether a number is past the end of a loop.
+#[tactic(auto, unfolding(avs_meaning::specs::Loops::is_past))]
+pub(crate) fn is_past(last: i32, step: i32, i: i32) -> bool
+    ensures { result ≡ l.is_past last step i }
+{
+    if step > 0 { i > last } else { i < last }
+}
+
+fn next_number(before: i32, step: i32) -> Option<i32>
+    ensures { result ≡ l.next_number (before +ℤ step) }
+{
+    before.checked_add(step)
+}
+
+// The variable of a loop, read again after a turn.
+fn read_number(
+    alloc: Global,
+    machine: &Machine,
+    name: &Text,
+    here: &Text,
+    line: u32,
+) -> Result<i32, Stop>
+    ensures { Gives (λ n. n) (l.read_number here.now name.now line (state_of machine.now)) result
+        (state_of machine.now) }
+{
+    match machine.variable(alloc, name)? {
+        Some(Value::Int(n)) => Ok(n),
+        _ => Err(fault_at(alloc, ScriptKind::TypeFault, here, line)),
+    }
+}
+
+/// Sets the variable of a loop to the next number. There is none past 32 bits.
+pub(crate) fn advance(
+    alloc: Global,
+    machine: &mut Machine,
+    name: &Text,
+    step: i32,
+    here: &Text,
+    line: u32,
+) -> Result<Option<i32>, Stop>
+    ensures gives { Gives (λ n. n) (l.advance here.now name.now step line (state_of machine.old)) result
+        (state_of machine.new) }
+    ensures opened { (state_of machine.new).opened ≡ (state_of machine.old).opened }
+    ensures sources { OnOk result (sources_of (state_of machine.new).plan ≡ sources_of (state_of machine.old).plan) }
+{
+    let before = read_number(alloc, machine, name, here, line)?;
+    let Some(next) = next_number(before, step) else {
+        return Ok(None);
+    };
+    machine.set(alloc, name, Value::Int(next))?;
+    Ok(Some(next))
+}
+
+// The first number of a loop, the last, and the step, which is not 0.
+fn numbers(
+    alloc: Global,
+    first: &Value,
+    last: &Value,
+    step: &Value,
+    here: &Text,
+    line: u32,
+) -> Result<(i32, i32, i32), Stop>
+    ensures { Answers (λ n. n) (l.numbers here.now line first.now last.now step.now) result }
+{
+    match (first, last, step) {
+        (Value::Int(first), Value::Int(last), Value::Int(step)) => {
+            if *step == 0 {
+                return Err(fault_at(alloc, ScriptKind::BadRange, here, line));
+            }
+            Ok((*first, *last, *step))
+        }
+        _ => Err(fault_at(alloc, ScriptKind::TypeFault, here, line)),
+    }
+}
+
+impl<
+    't,
+    H: Host,
+    F: Fn(Global, &Table, &mut Machine, &mut H, u32, &Text, &[Statement]) -> Result<Value, Stop>,
+> Walker<'t, H, F> {
+    /// Whether a condition holds.
+    pub(crate) fn condition(
+        &self,
+        machine: &mut Machine,
+        host: &mut H,
+        e: &Expr,
+        line: u32,
+    ) -> Result<bool, Stop>
+        requires deeper { Deeper H.Host self.now.depth F.Fn self.now.run }
+        ensures told { Told H.told (λ b. b)
+            (r.condition H.clips H.scripts self.now.depth self.now.here.now (expr_view e.now) line)
+            machine.old result machine.new }
+        ensures kept { Keeps H.Host machine.old host.old result machine.new host.new }
+    {
+        let value = self.value_of(machine, host, e)?;
+        truth(self.alloc, &value, self.here, line)
+    }
+
+    // The step of a loop, which is 1 where none is written.
+    fn step_of(
+        &self,
+        machine: &mut Machine,
+        host: &mut H,
+        step: &Option<Expr>,
+    ) -> Result<Value, Stop>
+        requires deeper { Deeper H.Host self.now.depth F.Fn self.now.run }
+        ensures told { Told H.told (λ x. x) (r.step_of H.clips H.scripts self.now.depth self.now.here.now
+            (option_map expr_view step.now)) machine.old result machine.new }
+        ensures kept { Keeps H.Host machine.old host.old result machine.new host.new }
+    {
+        match step {
+            Some(e) => self.value_of(machine, host, e),
+            None => Ok(Value::Int(1)),
+        }
+    }
+
+    /// The first number of a loop, the last, and the step.
+    pub(crate) fn bounds(
+        &self,
+        machine: &mut Machine,
+        host: &mut H,
+        first: &Expr,
+        last: &Expr,
+        step: &Option<Expr>,
+        line: u32,
+    ) -> Result<(i32, i32, i32), Stop>
+        requires deeper { Deeper H.Host self.now.depth F.Fn self.now.run }
+        ensures told { Told H.told (λ n. n) (r.bounds H.clips H.scripts self.now.depth self.now.here.now (expr_view
+            first.now) (expr_view last.now) (option_map expr_view step.now) line) machine.old result machine.new }
+        ensures kept { Keeps H.Host machine.old host.old result machine.new host.new }
+    {
+        let first = self.value_of(machine, host, first)?;
+        let last = self.value_of(machine, host, last)?;
+        let step = self.step_of(machine, host, step)?;
+        numbers(self.alloc, &first, &last, &step, self.here, line)
+    }
+}

@@ -1,0 +1,327 @@
+// What statements do.
+ghost use Rattle.std.specs.Prelude.{◌≡◌, OnOk, map, option_map};
+ghost use Rattle.avs_tree.specs.Tree as t;
+ghost use Rattle.avs_tree.specs.View.{expr_view, arm_view, statement_view, kind_view, block_view, arms_of};
+ghost use Rattle.avs_meaning.specs.Statements as m;
+ghost use Rattle.avs_state.specs.Answers.{Gives};
+ghost use Rattle.avs_state.specs.Hosts.{Told};
+ghost use Rattle.avs_state.specs.Sources.{sources_of};
+ghost use Rattle.avs_state.specs.States.{state_of};
+ghost use Rattle.avs_eval.specs.Walks.{Deeper, Keeps};
+ghost use Rattle.avs_eval.specs.At as r;
+ghost use Rattle.avs_eval.specs.Flows.{flow_view, turn_view};
+
+use crate::flow::{Counter, Flow, Turn};
+use crate::loops::{advance, is_past};
+use crate::walker::Walker;
+use avs_meaning::{ScriptKind, Stop, Table};
+use avs_state::{Host, Machine};
+use avs_tree::{Arm, Expr, Statement, StatementKind};
+use avs_values::Value;
+use fv_io::Text;
+use std::alloc::{AllocError, Global};
+
+// A clip becomes `last`.
+fn sets_last(alloc: Global, machine: &mut Machine, value: Value) -> Result<Flow, Stop>
+    ensures gives { Gives flow_view (m.sets_last value (state_of machine.old)) result (state_of machine.new) }
+    ensures opened { (state_of machine.new).opened ≡ (state_of machine.old).opened }
+    ensures sources { OnOk result (sources_of (state_of machine.new).plan ≡ sources_of (state_of machine.old).plan) }
+{
+    if let Value::Clip(i) = value {
+        let name = Text::from_str(alloc, "last")?;
+        machine.set(alloc, &name, Value::Clip(i))?;
+        return Ok(Flow::On(Value::Clip(i)));
+    }
+    Ok(Flow::On(value))
+}
+
+// The value of the final statement, or else `last`.
+fn settled(alloc: Global, machine: &Machine, value: Value) -> Result<Value, Stop>
+    ensures { Gives (λ x. x) (m.settled value (state_of machine.now)) result (state_of machine.now) }
+{
+    if !value.is_undefined() {
+        return Ok(value);
+    }
+    let name = Text::from_str(alloc, "last")?;
+    match machine.local(alloc, &name)? {
+        Some(value) => Ok(value),
+        None => Ok(Value::Undefined),
+    }
+}
+
+impl<
+    't,
+    H: Host,
+    F: Fn(Global, &Table, &mut Machine, &mut H, u32, &Text, &[Statement]) -> Result<Value, Stop>,
+> Walker<'t, H, F> {
+    #[cycle(statements)]
+    #[tactic(auto, using(crate::proofs::Rows::trees))]
+    fn effect_of(
+        &self,
+        machine: &mut Machine,
+        host: &mut H,
+        kind: &StatementKind,
+        line: u32,
+    ) -> Result<Flow, Stop>
+        requires deeper { Deeper H.Host self.now.depth F.Fn self.now.run }
+        ensures told { Told H.told flow_view (r.effect_of H.clips H.scripts self.now.depth self.now.here.now
+            (kind_view kind.now) line) machine.old result machine.new }
+        ensures kept { Keeps H.Host machine.old host.old result machine.new host.new }
+    {
+        match kind {
+            StatementKind::Global { name, value } => {
+                let value = self.value_of(machine, host, value)?;
+                machine.set_global(self.alloc, name, value)?;
+                Ok(Flow::On(Value::Undefined))
+            }
+            StatementKind::Assign { name, value } => {
+                let value = self.value_of(machine, host, value)?;
+                machine.set(self.alloc, name, value)?;
+                Ok(Flow::On(Value::Undefined))
+            }
+            StatementKind::Return(e) => {
+                let value = self.value_of(machine, host, e)?;
+                Ok(Flow::Back(value))
+            }
+            StatementKind::If { arms, other } => match self.arms_of(machine, host, arms, line)? {
+                Some(flow) => Ok(flow),
+                None => match other {
+                    Some(body) => self.block_of(machine, host, body),
+                    None => Ok(Flow::On(Value::Undefined)),
+                },
+            },
+            StatementKind::While { condition, body } => {
+                self.turns(machine, host, body, condition, line)
+            }
+            StatementKind::For {
+                name,
+                first,
+                last,
+                step,
+                body,
+            } => { self.count(machine, host, body, name, first, last, step, line) }
+            StatementKind::Value(e) => {
+                let value = self.value_of(machine, host, e)?;
+                sets_last(self.alloc, machine, value)
+            }
+        }
+    }
+
+    // The first arm whose condition holds.
+    #[cycle(statements)]
+    #[tactic(auto, using(crate::proofs::Rows::arms_more))]
+    fn arms_of(
+        &self,
+        machine: &mut Machine,
+        host: &mut H,
+        arms: &[Arm],
+        line: u32,
+    ) -> Result<Option<Flow>, Stop>
+        requires deeper { Deeper H.Host self.now.depth F.Fn self.now.run }
+        ensures told { Told H.told (option_map flow_view) (r.arms_of H.clips H.scripts self.now.depth self.now.here.now
+            (arms_of (map arm_view arms.now)) line) machine.old result machine.new }
+        ensures kept { Keeps H.Host machine.old host.old result machine.new host.new }
+    {
+        for arm in arms {
+            if self.condition(machine, host, &arm.condition, line)? {
+                let flow = self.block_of(machine, host, &arm.body)?;
+                return Ok(Some(flow));
+            }
+        }
+        Ok(None)
+    }
+
+    // The turns of `while`, of which each costs a unit.
+    #[cycle(statements)]
+    #[tactic(auto, using(crate::proofs::Turns::turn_more))]
+    fn turns(
+        &self,
+        machine: &mut Machine,
+        host: &mut H,
+        body: &[Statement],
+        test: &Expr,
+        line: u32,
+    ) -> Result<Flow, Stop>
+        requires deeper { Deeper H.Host self.now.depth F.Fn self.now.run }
+        ensures told { Told H.told flow_view (r.loop_of H.clips H.scripts self.now.depth self.now.here.now
+            (expr_view test.now) line (block_view body.now)) machine.old result machine.new }
+        ensures kept { Keeps H.Host machine.old host.old result machine.new host.new }
+    {
+        let most = machine.units();
+        for _turn in 0..most {
+            if !self.condition(machine, host, test, line)? {
+                return Ok(Flow::On(Value::Undefined));
+            }
+            machine.spend(self.alloc, self.here, line)?;
+            match self.block_of(machine, host, body)? {
+                Flow::On(_) => continue,
+                Flow::Back(value) => return Ok(Flow::Back(value)),
+            }
+        }
+        if self.condition(machine, host, test, line)? {
+            return Err(self.fault(ScriptKind::StepLimit, line));
+        }
+        Ok(Flow::On(Value::Undefined))
+    }
+
+    // `for`.
+    #[cycle(statements)]
+    fn count(
+        &self,
+        machine: &mut Machine,
+        host: &mut H,
+        body: &[Statement],
+        name: &Text,
+        first: &Expr,
+        last: &Expr,
+        step: &Option<Expr>,
+        line: u32,
+    ) -> Result<Flow, Stop>
+        requires deeper { Deeper H.Host self.now.depth F.Fn self.now.run }
+        ensures told { Told H.told flow_view (r.effect_of H.clips H.scripts self.now.depth self.now.here.now (t.for
+            name.now (expr_view first.now) (expr_view last.now) (option_map expr_view step.now) (block_view body.now))
+            line) machine.old result machine.new }
+        ensures kept { Keeps H.Host machine.old host.old result machine.new host.new }
+    {
+        let (first, last, step) = self.bounds(machine, host, first, last, step, line)?;
+        machine.set(self.alloc, name, Value::Int(first))?;
+        let counter = Counter {
+            at: first,
+            last,
+            step,
+        };
+        self.counts(machine, host, body, name, counter, line)
+    }
+
+    // The turns of a loop over numbers.
+    #[cycle(statements)]
+    #[tactic(auto, using(crate::proofs::Turns::counting))]
+    fn counts(
+        &self,
+        machine: &mut Machine,
+        host: &mut H,
+        body: &[Statement],
+        name: &Text,
+        first: Counter,
+        line: u32,
+    ) -> Result<Flow, Stop>
+        requires deeper { Deeper H.Host self.now.depth F.Fn self.now.run }
+        ensures told { Told H.told flow_view (r.count_of H.clips H.scripts self.now.depth self.now.here.now name.now
+            first.at first.last first.step line (block_view body.now)) machine.old result machine.new }
+        ensures kept { Keeps H.Host machine.old host.old result machine.new host.new }
+    {
+        let most = machine.units();
+        let mut counter = first;
+        for _turn in 0..most {
+            match self.turn(machine, host, body, name, &counter, line)? {
+                Turn::Next(next) => {
+                    counter.at = next;
+                    continue;
+                }
+                Turn::Done(flow) => return Ok(flow),
+            }
+        }
+        if is_past(counter.last, counter.step, counter.at) {
+            return Ok(Flow::On(Value::Undefined));
+        }
+        Err(self.fault(ScriptKind::StepLimit, line))
+    }
+
+    // One turn of a loop over numbers, which costs a unit.
+    #[cycle(statements)]
+    #[tactic(auto, unfolding(avs_meaning::specs::Loops::turn))]
+    fn turn(
+        &self,
+        machine: &mut Machine,
+        host: &mut H,
+        body: &[Statement],
+        name: &Text,
+        counter: &Counter,
+        line: u32,
+    ) -> Result<Turn, Stop>
+        requires deeper { Deeper H.Host self.now.depth F.Fn self.now.run }
+        ensures told { Told H.told turn_view (r.turn H.clips H.scripts self.now.depth self.now.here.now name.now
+            counter.now.at counter.now.last counter.now.step line (block_view body.now)) machine.old result machine.new }
+        ensures kept { Keeps H.Host machine.old host.old result machine.new host.new }
+    {
+        if is_past(counter.last, counter.step, counter.at) {
+            return Ok(Turn::Done(Flow::On(Value::Undefined)));
+        }
+        machine.spend(self.alloc, self.here, line)?;
+        match self.block_of(machine, host, body)? {
+            Flow::On(_) => {
+                match advance(self.alloc, machine, name, counter.step, self.here, line)? {
+                    Some(next) => Ok(Turn::Next(next)),
+                    None => Ok(Turn::Done(Flow::On(Value::Undefined))),
+                }
+            }
+            Flow::Back(value) => Ok(Turn::Done(Flow::Back(value))),
+        }
+    }
+
+    // One statement, which costs a unit.
+    #[cycle(statements)]
+    fn statement_of(
+        &self,
+        machine: &mut Machine,
+        host: &mut H,
+        statement: &Statement,
+    ) -> Result<Flow, Stop>
+        requires deeper { Deeper H.Host self.now.depth F.Fn self.now.run }
+        ensures told { Told H.told flow_view (r.statement H.clips H.scripts self.now.depth self.now.here.now
+            (statement_view statement.now)) machine.old result machine.new }
+        ensures kept { Keeps H.Host machine.old host.old result machine.new host.new }
+    {
+        machine.spend(self.alloc, self.here, statement.line)?;
+        self.effect_of(machine, host, &statement.kind, statement.line)
+    }
+
+    // The statements of a block.
+    #[cycle(statements)]
+    #[tactic(auto, using(crate::proofs::Rows::block_more))]
+    fn block_of(
+        &self,
+        machine: &mut Machine,
+        host: &mut H,
+        body: &[Statement],
+    ) -> Result<Flow, Stop>
+        requires deeper { Deeper H.Host self.now.depth F.Fn self.now.run }
+        ensures told { Told H.told flow_view (r.block_of H.clips H.scripts self.now.depth self.now.here.now
+            (block_view body.now)) machine.old result machine.new }
+        ensures kept { Keeps H.Host machine.old host.old result machine.new host.new }
+    {
+        for statement in body {
+            match self.statement_of(machine, host, statement)? {
+                Flow::On(_) => continue,
+                Flow::Back(value) => return Ok(Flow::Back(value)),
+            }
+        }
+        Ok(Flow::On(Value::Undefined))
+    }
+
+    /// The statements of a text or a function.
+    #[tactic(auto, using(crate::proofs::Rows::block_more))]
+    pub(crate) fn body_of(
+        &self,
+        machine: &mut Machine,
+        host: &mut H,
+        body: &[Statement],
+    ) -> Result<Value, Stop>
+        requires deeper { Deeper H.Host self.now.depth F.Fn self.now.run }
+        ensures told { Told H.told (λ x. x) (r.body_of H.clips H.scripts self.now.depth self.now.here.now
+            (block_view body.now) Value.Undefined) machine.old result machine.new }
+        ensures kept { Keeps H.Host machine.old host.old result machine.new host.new }
+    {
+        let mut last = Value::Undefined;
+        for statement in body {
+            match self.statement_of(machine, host, statement)? {
+                Flow::On(value) => {
+                    last = value;
+                    continue;
+                }
+                Flow::Back(value) => return Ok(value),
+            }
+        }
+        settled(self.alloc, machine, last)
+    }
+}

@@ -1,0 +1,234 @@
+// Texts that are executed.
+ghost use Rattle.std.specs.Prelude.{◌≡◌, ◌<◌, ◌≤◌, length, OnOk};
+ghost use Rattle.avs_tree.specs.View.{block_view};
+ghost use Rattle.avs_values.specs.Outcome.{text_limit};
+ghost use Rattle.avs_load.specs.Load.{script_of};
+ghost use Rattle.avs_meaning.specs.Expressions as e;
+ghost use Rattle.avs_meaning.specs.Faults.{Shows, refused};
+ghost use Rattle.avs_state.specs.Answers.{Gives};
+ghost use Rattle.avs_state.specs.Hosts.{Told};
+ghost use Rattle.avs_state.specs.Sources.{sources_of};
+ghost use Rattle.avs_state.specs.States.{state_of};
+ghost use Rattle.avs_eval.specs.At as r;
+ghost use Rattle.avs_eval.specs.Bodies.{body_by, body_view};
+ghost use Rattle.avs_eval.specs.Walks.{Deeper, Keeps};
+
+use crate::walker::Walker;
+use avs_load::{LoadFault, Loaded, load};
+use avs_meaning::{ScriptKind, Stop, Table};
+use avs_state::{Host, HostFault, Machine, fault_at};
+use avs_tree::{Script, Statement};
+use avs_values::Value;
+use fv_io::Text;
+use std::alloc::{AllocError, Global};
+
+// The longest text.
+const TEXT_LIMIT: usize = 1_048_576;
+
+/// The statements of a text, and the line of its end, counted from 1.
+#[derive(Drop)]
+pub(crate) struct Body {
+    pub(crate) statements: Vec<Statement>,
+    pub(crate) last_line: u32,
+}
+
+// The grammar refuses the text of this name, or it nests too deep.
+fn refused(alloc: Global, here: &Text, nests: bool, line: u32) -> Stop
+    ensures { Shows (refused here.now) result }
+{
+    match Text::from_str(alloc, here.as_str()) {
+        Ok(name) => Stop::Refused { name, nests, line },
+        Err(_) => Stop::Memory,
+    }
+}
+
+/// Reads the text of this name and adds its functions.
+#[tactic(auto, unfolding(crate::specs::Bodies::body_by))]
+pub(crate) fn load_body(
+    alloc: Global,
+    machine: &mut Machine,
+    here: &Text,
+    text: &Text,
+) -> Result<Body, Stop>
+    requires { length text.now ≤ text_limit }
+    ensures gives { Gives body_view (body_by (script_of text.now) here.now (state_of machine.old)) result
+        (state_of machine.new) }
+    ensures opened { (state_of machine.new).opened ≡ (state_of machine.old).opened }
+    ensures sources { OnOk result (sources_of (state_of machine.new).plan ≡ sources_of (state_of machine.old).plan) }
+{
+    match load(alloc, text.as_str()) {
+        Ok(Loaded { script, last_line }) => {
+            let Script {
+                functions,
+                statements,
+            } = script;
+            machine.define_all(alloc, functions, here)?;
+            Ok(Body {
+                statements,
+                last_line,
+            })
+        }
+        Err(LoadFault::Lex { kind, line }) => {
+            Err(fault_at(alloc, ScriptKind::Lex(kind), here, line))
+        }
+        Err(LoadFault::Syntax { line }) => Err(refused(alloc, here, false, line)),
+        Err(LoadFault::NestLimit { line }) => Err(refused(alloc, here, true, line)),
+        Err(LoadFault::Memory) => Err(Stop::Memory),
+    }
+}
+
+impl<
+    't,
+    H: Host,
+    F: Fn(Global, &Table, &mut Machine, &mut H, u32, &Text, &[Statement]) -> Result<Value, Stop>,
+> Walker<'t, H, F> {
+    /// Executes statements of the text of this name one call deeper.
+    pub(crate) fn deeper(
+        &self,
+        machine: &mut Machine,
+        host: &mut H,
+        here: &Text,
+        body: &[Statement],
+    ) -> Result<Value, Stop>
+        requires deeper { Deeper H.Host self.now.depth F.Fn self.now.run }
+        requires room { 0 < self.now.depth }
+        ensures told { Told H.told (λ v. v) (r.deeper H.clips H.scripts self.now.depth here.now (block_view body.now))
+            machine.old result machine.new }
+        ensures kept { Keeps H.Host machine.old host.old result machine.new host.new }
+    {
+        (self.run)(
+            self.alloc,
+            self.table,
+            machine,
+            host,
+            self.depth - 1,
+            here,
+            body,
+        )
+    }
+
+    // Executes a text that a call at a line has.
+    #[tactic(auto, using(crate::proofs::BodyLemmas::executed, crate::proofs::BodyLemmas::execute_fails))]
+    fn execute(
+        &self,
+        machine: &mut Machine,
+        host: &mut H,
+        from: &Text,
+        text: &Text,
+        line: u32,
+    ) -> Result<Value, Stop>
+        requires deeper { Deeper H.Host self.now.depth F.Fn self.now.run }
+        requires room { 0 < self.now.depth }
+        ensures told { Told H.told (λ v. v)
+            (r.execute H.clips H.scripts self.now.depth from.now text.now self.now.here.now line)
+            machine.old result machine.new }
+        ensures kept { Keeps H.Host machine.old host.old result machine.new host.new }
+    {
+        if text.as_str().len() > TEXT_LIMIT {
+            return Err(self.fault(ScriptKind::TextLimit, line));
+        }
+        let body = load_body(self.alloc, machine, from, text)?;
+        self.deeper(machine, host, from, &body.statements)
+    }
+
+    // Executes a text that the script made.
+    fn execute_made(
+        &self,
+        machine: &mut Machine,
+        host: &mut H,
+        text: &Text,
+        line: u32,
+    ) -> Result<Value, Stop>
+        requires deeper { Deeper H.Host self.now.depth F.Fn self.now.run }
+        requires room { 0 < self.now.depth }
+        ensures told { Told H.told (λ v. v)
+            (r.execute H.clips H.scripts self.now.depth e.eval_name text.now self.now.here.now line)
+            machine.old result machine.new }
+        ensures kept { Keeps H.Host machine.old host.old result machine.new host.new }
+    {
+        let from = Text::from_str(self.alloc, "Eval")?;
+        self.execute(machine, host, &from, text, line)
+    }
+
+    // `Eval` of a text.
+    #[tactic(auto, unfolding(crate::specs::At::eval_text))]
+    fn eval_text(
+        &self,
+        machine: &mut Machine,
+        host: &mut H,
+        text: &Text,
+        line: u32,
+    ) -> Result<Value, Stop>
+        requires deeper { Deeper H.Host self.now.depth F.Fn self.now.run }
+        ensures told { Told H.told (λ v. v)
+            (r.eval_text H.clips H.scripts self.now.depth self.now.here.now text.now line)
+            machine.old result machine.new }
+        ensures kept { Keeps H.Host machine.old host.old result machine.new host.new }
+    {
+        if self.depth == 0 {
+            return Err(self.fault(ScriptKind::CallDepth, line));
+        }
+        self.execute_made(machine, host, text, line)
+    }
+
+    /// `Eval`.
+    pub(crate) fn eval(
+        &self,
+        machine: &mut Machine,
+        host: &mut H,
+        values: &[Value],
+        line: u32,
+    ) -> Result<Value, Stop>
+        requires deeper { Deeper H.Host self.now.depth F.Fn self.now.run }
+        ensures told { Told H.told (λ v. v)
+            (r.eval H.clips H.scripts self.now.depth self.now.here.now values.now line) machine.old result machine.new }
+        ensures kept { Keeps H.Host machine.old host.old result machine.new host.new }
+    {
+        match values {
+            [Value::Text(text)] => self.eval_text(machine, host, text, line),
+            _ => Err(self.fault(ScriptKind::NoMatch, line)),
+        }
+    }
+
+    // The text of a script's file.
+    fn script(&self, machine: &Machine, host: &mut H, name: &Text, line: u32) -> Result<Text, Stop>
+        ensures told { Told H.told (λ text. text) (e.script_by self.now.here.now (H.scripts name.now) line)
+            machine.now result machine.now }
+        ensures kept { Keeps H.Host machine.now host.old result machine.now host.new }
+    {
+        match host.script(name) {
+            Ok(text) => Ok(text),
+            Err(HostFault::Script(kind)) => Err(self.fault(ScriptKind::File(kind), line)),
+            Err(HostFault::Read) => Err(Stop::Read),
+            Err(HostFault::Memory) => Err(Stop::Memory),
+            Err(HostFault::Input(fault)) => Err(Stop::Input {
+                name: Text::from_str(self.alloc, name.as_str())?,
+                fault,
+            }),
+        }
+    }
+
+    /// `Import`: executes the script of a file.
+    pub(crate) fn import(
+        &self,
+        machine: &mut Machine,
+        host: &mut H,
+        values: &[Value],
+        line: u32,
+    ) -> Result<Value, Stop>
+        requires deeper { Deeper H.Host self.now.depth F.Fn self.now.run }
+        ensures told { Told H.told (λ v. v)
+            (r.import_ H.clips H.scripts self.now.depth self.now.here.now values.now line)
+            machine.old result machine.new }
+        ensures kept { Keeps H.Host machine.old host.old result machine.new host.new }
+    {
+        let [Value::Text(file)] = values else {
+            return Err(self.fault(ScriptKind::NoMatch, line));
+        };
+        if self.depth == 0 {
+            return Err(self.fault(ScriptKind::CallDepth, line));
+        }
+        let text = self.script(machine, host, file, line)?;
+        self.execute(machine, host, file, &text, line)
+    }
+}

@@ -1,0 +1,24 @@
+-- The sources of a plan.
+use Rattle.std.specs.Prelude.{◌≡◌, List, [], ◌∷◌, ◌++◌, Result, OnOk}
+use Rattle.clip_term.specs.ClipTerm.{Act, source}
+use Rattle.clip_graph.specs.Plan.{Application}
+use Rattle.avs_meaning.specs.declared.state.SourceClip.{SourceClip}
+use Rattle.avs_meaning.specs.declared.stop.Stop.{Stop}
+use Rattle.avs_state.specs.States.{state_of}
+use Rattle.avs_state.specs.declared.machine.Machine.{Machine}
+
+-- the clip that a source reads
+abbrev pub source_of : Act → List SourceClip
+source_of (source name number info) = record { name = name; info = info } ∷ []
+source_of _ = []
+
+-- the clips that the sources of a plan read, in order
+abbrev pub sources_of : List Application → List SourceClip
+sources_of [] = []
+sources_of (application ∷ rest) = source_of application.act ++ sources_of rest
+
+-- the clips that were opened stay those of the sources of the plan
+abbrev pub Lists : {X : Type 0} → Machine → Result X Stop → Machine → Type 0
+Lists old result new =
+    sources_of (state_of old).plan ≡ (state_of old).opened
+    → OnOk result (sources_of (state_of new).plan ≡ (state_of new).opened)

@@ -1,4 +1,0 @@
-use Rattle.avs_statements.proofs.depth.+run.Given as goal
-
-abbrev pub decreases-run : goal.decreases-run
-decreases-run g l = l.depth
