@@ -18,7 +18,8 @@ use Rattle.avs_meaning.specs.declared.fault.FileKind.{FileKind}
 use Rattle.avs_meaning.specs.declared.fault.InputFault.{InputFault}
 use Rattle.avs_meaning.specs.declared.fault.ScriptKind.TheVariants as k
 use Rattle.avs_meaning.specs.declared.stop.Stop.{Stop}
-use Rattle.avs_state.specs.Hosts.{outside_by, Fails}
+use Rattle.avs_state.specs.Hosts.{Fails}
+use Rattle.avs_eval.specs.OutsideBy.{outside_by}
 use Rattle.avs_eval.proofs.Failures.{is_fault, then_fails}
 use Rattle.avs_eval.specs.At as r
 use Rattle.avs_eval.specs.Ranges.{Given, given_in}

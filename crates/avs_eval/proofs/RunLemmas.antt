@@ -14,7 +14,8 @@ use Rattle.avs_meaning.specs.declared.fault.InputFault.{InputFault}
 use Rattle.avs_meaning.specs.declared.stop.Stop.{Stop}
 use Rattle.avs_meaning.specs.declared.stop.Stop.TheVariants as e
 use Rattle.avs_state.specs.Answers as a
-use Rattle.avs_state.specs.Hosts.{Fails, outside_by}
+use Rattle.avs_state.specs.Hosts.{Fails}
+use Rattle.avs_eval.specs.OutsideBy.{outside_by}
 use Rattle.avs_eval.proofs.BodyLemmas.{loaded_then}
 use Rattle.avs_eval.proofs.Failures.{also_fails, first_fails, then_fails}
 use Rattle.avs_eval.specs.Bodies.{body_by}

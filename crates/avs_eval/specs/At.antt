@@ -17,7 +17,7 @@ use Rattle.avs_meaning.specs.State.{Run, Defined, Env, ◌>>◌, spend}
 use Rattle.avs_meaning.specs.Statements as s
 use Rattle.avs_meaning.specs.declared.fault.FileKind.{FileKind}
 use Rattle.avs_meaning.specs.declared.fault.InputFault.{InputFault}
-use Rattle.avs_state.specs.Hosts.{outside_by}
+use Rattle.avs_eval.specs.OutsideBy.{outside_by}
 
 module _ (clips : Text → Result Info InputFault) (scripts : Text → Result Text FileKind) (n : ℕ) where
   abbrev pub deeper : Text → Block → Run Value

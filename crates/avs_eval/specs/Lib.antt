@@ -1,3 +1,4 @@
+pub mod OutsideBy
 pub mod Ranges
 pub mod Bodies
 pub mod Flows

@@ -10,7 +10,8 @@ use Rattle.avs_values.specs.declared.value.Value.{Value}
 use Rattle.avs_meaning.specs.Meaning.{below}
 use Rattle.avs_meaning.specs.declared.builtin.Builtin.{Builtin}
 use Rattle.avs_meaning.specs.declared.stop.Stop.{Stop}
-use Rattle.avs_state.specs.Hosts.{outside_by, Told, Read}
+use Rattle.avs_state.specs.Hosts.{Told, Read}
+use Rattle.avs_eval.specs.OutsideBy.{outside_by}
 use Rattle.avs_state.specs.Sources.{Lists}
 use Rattle.avs_state.specs.States.{state_of}
 use Rattle.avs_state.specs.declared.host.Host as host

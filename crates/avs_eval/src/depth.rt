@@ -1,7 +1,8 @@
 // Statements, where so many calls may nest.
 ghost use Rattle.avs_tree.specs.View.{block_view};
 ghost use Rattle.avs_meaning.specs.Meaning as m;
-ghost use Rattle.avs_state.specs.Hosts.{Told, outside_by};
+ghost use Rattle.avs_state.specs.Hosts.{Told};
+ghost use Rattle.avs_eval.specs.OutsideBy.{outside_by};
 ghost use Rattle.avs_eval.specs.Walks.{Keeps};
 
 use crate::walker::Walker;

@@ -11,7 +11,7 @@ ghost use Rattle.prefetch.specs.Windows.{frames_at};
 ghost use Rattle.avs_meaning.specs.Crews.{window, workers};
 ghost use Rattle.avs_meaning.specs.Meaning.{meaning};
 ghost use Rattle.serve_text.specs.InfoText as t;
-ghost use Rattle.avs_state.specs.Hosts.{outside_by};
+ghost use Rattle.avs_eval.specs.OutsideBy.{outside_by};
 ghost use Rattle.avs_eval.specs.Evaluates.{Opens};
 ghost use Rattle.avs_files.specs.Opened.{told_of};
 ghost use Rattle.serve_app.specs.Clips.{book_told, PutsFrames, StreamShows};

@@ -1,5 +1,5 @@
 use Rattle.std.proofs.Common.{rules}
-use Rattle.avs_state.specs.Hosts.{outside_by}
+use Rattle.avs_eval.specs.OutsideBy.{outside_by}
 use Rattle.avs_eval.proofs.Turns.{below_is}
 use Rattle.avs_eval.proofs.depth.+run.Goals as goal
 

@@ -1,7 +1,8 @@
 -- The stop of the run is the script's fault.
 use Rattle.std.proofs.Common.{◌≡◌, Err, subst, rules}
 use Rattle.avs_meaning.specs.Meaning.{executed}
-use Rattle.avs_state.specs.Hosts.{Fails, outside_by}
+use Rattle.avs_state.specs.Hosts.{Fails}
+use Rattle.avs_eval.specs.OutsideBy.{outside_by}
 use Rattle.avs_state.specs.States.{state_of}
 use Rattle.avs_eval.specs.Evaluates.{error_of}
 use Rattle.avs_eval.proofs.RunLemmas.{error_shows}

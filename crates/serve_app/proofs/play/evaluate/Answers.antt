@@ -3,7 +3,7 @@ use Rattle.std.proofs.Common.{◌≡◌, Err, inl, sym, ap, rules}
 use Rattle.avs_meaning.specs.Faults.{script}
 use Rattle.avs_meaning.specs.Meaning.{script_meaning}
 use Rattle.avs_meaning.specs.declared.fault.ScriptKind.TheVariants as k
-use Rattle.avs_state.specs.Hosts.{outside_by}
+use Rattle.avs_eval.specs.OutsideBy.{outside_by}
 use Rattle.serve_app.proofs.play.evaluate.Goals as goal
 
 pub returns-in-Err-Script-clause-told : goal.returns-in-Err-Script-clause-told

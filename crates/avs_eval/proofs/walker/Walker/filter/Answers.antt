@@ -1,7 +1,7 @@
 use Rattle.std.proofs.Common.{rules}
 use Rattle.avs_values.specs.Views.{bound_view}
 use Rattle.avs_meaning.specs.Filters.{filtered}
-use Rattle.avs_state.specs.Hosts.{outside_by}
+use Rattle.avs_eval.specs.OutsideBy.{outside_by}
 use Rattle.avs_state.specs.States.{state_of}
 use Rattle.avs_eval.proofs.Failures.{given, unread}
 use Rattle.avs_eval.proofs.walker.Walker.filter.Goals as goal
