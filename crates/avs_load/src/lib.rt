@@ -11,6 +11,3 @@ mod loader;
 
 pub use fault::LoadFault;
 pub use loader::{Loaded, load};
-
-#[cfg(test)]
-mod tests;

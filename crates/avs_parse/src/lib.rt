@@ -17,6 +17,3 @@ pub use avs_tree::{
 };
 pub use fault::ParseError;
 pub use script::parse;
-
-#[cfg(test)]
-mod tests;
