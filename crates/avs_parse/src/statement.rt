@@ -190,16 +190,16 @@ impl<F: Fn(Global, &mut Tokens<'_>, u32) -> Result<Vec<Statement>, ParseStop>> B
         tokens.open_punctuation(Punctuation::LeftParen, self.levels_left)?;
         let name = tokens.name(self.alloc)?;
         tokens.expect(Punctuation::Assign)?;
-        let first = self.inside(tokens)?;
+        let first = Box::new(self.alloc, self.inside(tokens)?)?;
         tokens.expect(Punctuation::Comma)?;
-        let last = self.inside(tokens)?;
+        let last = Box::new(self.alloc, self.inside(tokens)?)?;
         let step = self.for_step(tokens)?;
         tokens.expect(Punctuation::RightParen)?;
         let body = self.body(tokens)?;
         Ok(StatementKind::For {
             name,
-            first,
-            last,
+            first: Box::into_inner(first),
+            last: Box::into_inner(last),
             step,
             body,
         })
@@ -284,7 +284,10 @@ impl<F: Fn(Global, &mut Tokens<'_>, u32) -> Result<Vec<Statement>, ParseStop>> B
     {
         let line = tokens.line();
         let kind = self.kind(tokens)?;
-        tokens.separate(ends_with_brace(&kind))?;
+        if let Err(stop) = tokens.separate(ends_with_brace(&kind)) {
+            drop(kind);
+            return Err(stop);
+        }
         Ok(Statement { kind, line })
     }
 
