@@ -5,3 +5,4 @@ pub mod ParsingScript
 pub mod Answers
 pub mod ParsesExpr
 pub mod ParsesInside
+pub mod ForHead
