@@ -6,3 +6,7 @@ pub mod Answers
 pub mod ParsesExpr
 pub mod ParsesInside
 pub mod ForHead
+pub mod TokensOf
+pub mod Load
+pub mod Loads
+pub mod Laws

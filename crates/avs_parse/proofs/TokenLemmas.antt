@@ -9,8 +9,8 @@ use Rattle.avs_lex.specs.Tokens.{start_of, begins_line, piece_at, token_at, open
 use Rattle.avs_lex.proofs.CallerLemmas.{one_reading}
 use Rattle.avs_lex.proofs.FitLemmas.{piece_within}
 use Rattle.avs_lex.proofs.ReadingLemmas.{start_within}
-use Rattle.avs_load.specs.TokensOf.{Reading, read_by, read_on, tokens_of}
-use Rattle.avs_load.specs.Laws.{TokensAreFound, FirstFaultIsFound}
+use Rattle.avs_parse.specs.TokensOf.{Reading, read_by, read_on, tokens_of}
+use Rattle.avs_parse.specs.Laws.{TokensAreFound, FirstFaultIsFound}
 
 -- the text has these tokens, or this first fault
 abbrev pub Has : Text → Reading → Type 0

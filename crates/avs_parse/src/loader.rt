@@ -1,11 +1,12 @@
 // The tree of a text.
 ghost use Rattle.std.specs.Prelude.{◌≡◌, ◌<◌, ◌-◌, ◌^◌, length};
-ghost use Rattle.avs_load.specs.Load.{script_of, last_line};
-ghost use Rattle.avs_load.specs.Loads.{Loads};
+ghost use Rattle.avs_parse.specs.Load.{script_of, last_line};
+ghost use Rattle.avs_parse.specs.Loads.{Loads};
 
-use crate::LoadFault;
+use crate::fault::{LoadFault, ParseError};
+use crate::script::parse;
 use avs_lex::{LexError, Token, lex};
-use avs_parse::{ParseError, Script, parse};
+use avs_tree::Script;
 use std::alloc::Global;
 
 /// A tree, and the line of the end of its script, counted from 1.

@@ -8,7 +8,7 @@ use Rattle.avs_tree.specs.Tree.{Script}
 use Rattle.avs_tree.specs.Script.{nesting_limit}
 use Rattle.avs_parse.specs.Parsing.{Outcome}
 use Rattle.avs_parse.specs.ParsingScript.{script}
-use Rattle.avs_load.specs.TokensOf.{Reading, tokens_of}
+use Rattle.avs_parse.specs.TokensOf.{Reading, tokens_of}
 
 abbrev pub line_of : Option Token → ℕ
 line_of None = 0

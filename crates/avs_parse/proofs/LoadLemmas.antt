@@ -11,11 +11,11 @@ use Rattle.avs_parse.specs.Parsing.{Outcome}
 use Rattle.avs_parse.specs.ParsingScript.{script}
 use Rattle.avs_parse.proofs.CallerLemmas.{one_tree}
 use Rattle.avs_parse.proofs.ParseLemmas.{has_tree, no_tree}
-use Rattle.avs_load.specs.TokensOf.{Reading, tokens_of}
+use Rattle.avs_parse.specs.TokensOf.{Reading, tokens_of}
 use Rattle.avs_tree.specs.Loaded.{Loaded, NoTree, lexical, refused}
-use Rattle.avs_load.specs.Load.{last_line, tree_by, script_by, script_of}
-use Rattle.avs_load.specs.Laws.{HasScript, HasNoScript, ScriptIsFound, FirstFaultIsTold, RefusalIsTold}
-use Rattle.avs_load.proofs.TokenLemmas.{Has, reading_has, tokens_are, fault_is}
+use Rattle.avs_parse.specs.Load.{last_line, tree_by, script_by, script_of}
+use Rattle.avs_parse.specs.Laws.{HasScript, HasNoScript, ScriptIsFound, FirstFaultIsTold, RefusalIsTold}
+use Rattle.avs_parse.proofs.TokenLemmas.{Has, reading_has, tokens_are, fault_is}
 
 tree_is_by : (ts : Lexemes) (line : ℕ) (tree : Script) (x : Outcome Script) → script nesting_limit ts ≡ x → HasTree ts tree → tree_by x line ≡ Ok (record { tree = tree; last_line = line })
 tree_is_by ts line tree (Ok parsed) is has = let same = one_tree ts parsed.0 tree ((has_tree ts parsed.1 parsed.0 is).derived) has.derived in rw same refl

@@ -2,9 +2,9 @@
 use Rattle.std.specs.Prelude.{◌≡◌, Result, Ok, Err, ⊤}
 use Rattle.avs_tree.specs.View.{script_view}
 use Rattle.avs_tree.specs.Loaded as d
-use Rattle.avs_load.specs.declared.loader.Loaded.{Loaded}
-use Rattle.avs_load.specs.declared.fault.LoadFault.{LoadFault}
-use Rattle.avs_load.specs.declared.fault.LoadFault.TheVariants.{Lex, Syntax, NestLimit, Memory}
+use Rattle.avs_parse.specs.declared.loader.Loaded.{Loaded}
+use Rattle.avs_parse.specs.declared.fault.LoadFault.{LoadFault}
+use Rattle.avs_parse.specs.declared.fault.LoadFault.TheVariants.{Lex, Syntax, NestLimit, Memory}
 
 abbrev pub loaded_view : Loaded → d.Loaded
 loaded_view l = record { tree = script_view l.script; last_line = l.last_line }

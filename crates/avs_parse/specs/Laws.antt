@@ -8,8 +8,8 @@ use Rattle.avs_tree.specs.Lexeme.{lexemes}
 use Rattle.avs_tree.specs.Loaded.{Loaded, lexical, refused}
 use Rattle.avs_tree.specs.Tree.{Script}
 use Rattle.avs_tree.specs.Script.{HasTree}
-use Rattle.avs_load.specs.TokensOf.{tokens_of}
-use Rattle.avs_load.specs.Load.{last_line, script_of}
+use Rattle.avs_parse.specs.TokensOf.{tokens_of}
+use Rattle.avs_parse.specs.Load.{last_line, script_of}
 
 -- ---- tokens
 
