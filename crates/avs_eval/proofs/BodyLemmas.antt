@@ -7,7 +7,7 @@ use Rattle.avs_values.specs.Outcome.{text_limit}
 use Rattle.avs_values.specs.Values.{Text}
 use Rattle.avs_values.specs.declared.value.Value.{Value}
 use Rattle.avs_values.specs.declared.value.Value.TheVariants as v
-use Rattle.avs_load.specs.Load.{script_of}
+use Rattle.avs_parse.specs.Load.{script_of}
 use Rattle.avs_meaning.specs.Expressions.{eval_name}
 use Rattle.avs_meaning.specs.State.{State, Outcome, Run, and_then, pure, fails}
 use Rattle.avs_meaning.specs.Texts.{loaded_by}

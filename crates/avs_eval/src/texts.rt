@@ -2,7 +2,7 @@
 ghost use Rattle.std.specs.Prelude.{◌≡◌, ◌<◌, ◌≤◌, length, OnOk};
 ghost use Rattle.avs_tree.specs.View.{block_view};
 ghost use Rattle.avs_values.specs.Outcome.{text_limit};
-ghost use Rattle.avs_load.specs.Load.{script_of};
+ghost use Rattle.avs_parse.specs.Load.{script_of};
 ghost use Rattle.avs_meaning.specs.Expressions as e;
 ghost use Rattle.avs_meaning.specs.Faults.{Shows, refused};
 ghost use Rattle.avs_state.specs.Answers.{Gives};
@@ -14,7 +14,7 @@ ghost use Rattle.avs_eval.specs.Bodies.{body_by, body_view};
 ghost use Rattle.avs_eval.specs.Walks.{Deeper, Keeps};
 
 use crate::walker::Walker;
-use avs_load::{LoadFault, Loaded, load};
+use avs_parse::{LoadFault, Loaded, load};
 use avs_meaning::{ScriptKind, Stop, Table};
 use avs_state::{Host, HostFault, Machine, fault_at};
 use avs_tree::{Script, Statement};

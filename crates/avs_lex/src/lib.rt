@@ -22,6 +22,3 @@ pub use characters::{begins_name, continues_name};
 pub use fault::{LexError, LexKind};
 pub use lexer::lex;
 pub use token::{Token, TokenKind};
-
-#[cfg(test)]
-mod tests;

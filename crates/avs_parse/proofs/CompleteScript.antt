@@ -5,7 +5,7 @@ use Rattle.avs_lex.specs.Characters.{Text}
 use Rattle.avs_tree.specs.Tree.{Expr, Kind, global, assign, return, if_, while, for, value, Arms, no_arms, arm, Else, no_else, else_, Block, no_more, then_, Function, Script, ends_with_brace}
 use Rattle.avs_tree.specs.View.{StatementIs, ArmIs, block_of, arms_of, else_of}
 use Rattle.avs_tree.specs.Grammar.{Is, IsPunctuation, IsKeyword, IsNameAt, IsName, nesting}
-use Rattle.avs_tree.specs.Script.{Newlines, Separates, Condition, Braces, ForStep, DerivesKind, DerivesElseIfs, DerivesElse, DerivesAll, ParameterName, DerivesParameter, MoreParameters, Parameters, DerivesFunction, Items, no_items, function_then, statement_then, functions_of, statements_of, DerivesItems, IsScript, kind_nesting, arms_nesting, else_nesting, block_nesting, step_nesting, functions_nesting, script_nesting}
+use Rattle.avs_tree.specs.Script.{Newlines, Separates, Condition, Braces, ForStep, ForHead, DerivesKind, DerivesElseIfs, DerivesElse, DerivesAll, ParameterName, DerivesParameter, MoreParameters, Parameters, DerivesFunction, Items, no_items, function_then, statement_then, functions_of, statements_of, DerivesItems, IsScript, kind_nesting, arms_nesting, else_nesting, block_nesting, step_nesting, functions_nesting, script_nesting}
 use Rattle.avs_parse.specs.Parsing.{Outcome, Parser, peek, tail, punctuation_by, is_punctuation, assigns, assigns_by, opens_punctuation, name, gather, skip, skip_by, closes, separate}
 use Rattle.avs_parse.specs.ParsingExpr.{below, expression}
 use Rattle.avs_parse.specs.ParsingScript as parsing
@@ -387,18 +387,23 @@ unfolding reach
 for_step_ends None ts us vs is right = omega (arith, ap (λ z. reach (peek z)) is, ends_at (s.Punctuation m.RightParen) us vs right)
 for_step_ends (Some e) ts us vs (ws, comma, inside) right = omega (arith, ends_at (s.Punctuation m.Comma) ts ws comma)
 
-for_back : (x : Text) (a b : Expr) (c : Option Expr) (d : Block) → BlockClaim d → KindClaim (for x a b c d)
-unfolding parsing.for_kind reach
-for_back x a b c d block1 n ts us (t1, t2, key, (u1, u2, u3, u4, u5, u6, u7, left, (line, named), is, first, comma, last, step, right), body) deep follows =
-    keyword_kind w.For n (for x a b c d) ts t1 us key
-    (then_gives _ (subst (λ z. Gives tt u1 (opens_punctuation m.LeftParen n z)) (sym (tail_at (s.Keyword w.For) ts t1 key)) (gives_opens_punctuation m.LeftParen n t1 u1 left (omega arith)))
+for_head_back : (x : Text) (a b : Expr) (c : Option Expr) (n : ℕ) (ts us : Lexemes) → ForHead x a b c ts us → nesting a < n → nesting b < n → step_nesting c < n → Gives (x, a, b, c) us (parsing.for_head n (block_below n) ts)
+unfolding parsing.for_head reach
+for_head_back x a b c n ts us (u1, u2, u3, u4, u5, u6, u7, left, (line, named), is, first, comma, last, step, right) deep_a deep_b deep_c =
+    then_gives _ (gives_opens_punctuation m.LeftParen n ts u1 left (omega arith))
     (then_gives _ (gives_name x line u1 u2 named) (then_gives _ (gives_expect m.Assign u2 u3 is)
-    (then_gives _ (inner_back a (back a) n 8 u3 u4 (omega arith) first (omega arith) (omega (arith, ends_at (s.Punctuation m.Comma) u4 u5 comma)))
+    (then_gives _ (inner_back a (back a) n 8 u3 u4 (omega arith) first deep_a (omega (arith, ends_at (s.Punctuation m.Comma) u4 u5 comma)))
     (then_gives _ (gives_expect m.Comma u4 u5 comma)
-    (then_gives _ (inner_back b (back b) n 8 u5 u6 (omega arith) last (omega arith) (for_step_ends c u6 u7 t2 step right))
-    (then_gives _ (for_step_back c n u6 u7 t2 step right (omega arith))
-    (then_gives _ (gives_expect m.RightParen u7 t2 right)
-    (then_gives _ (gives_body d block1 n t2 us body (omega arith)) (subst (λ z. Gives (for x a b c d) us (Ok (for x a b c z, us))) (sym (list_block d)) gives))))))))))
+    (then_gives _ (inner_back b (back b) n 8 u5 u6 (omega arith) last deep_b (for_step_ends c u6 u7 us step right))
+    (then_gives _ (for_step_back c n u6 u7 us step right deep_c)
+    (then_gives _ (gives_expect m.RightParen u7 us right) gives)))))))
+
+for_back : (x : Text) (a b : Expr) (c : Option Expr) (d : Block) → BlockClaim d → KindClaim (for x a b c d)
+unfolding parsing.for_kind
+for_back x a b c d block1 n ts us (t1, t2, key, head, body) deep follows =
+    keyword_kind w.For n (for x a b c d) ts t1 us key
+    (then_gives _ (subst (λ z. Gives (x, a, b, c) t2 (parsing.for_head n (block_below n) z)) (sym (tail_at (s.Keyword w.For) ts t1 key)) (for_head_back x a b c n t1 t2 head (omega arith) (omega arith) (omega arith)))
+    (then_gives _ (gives_body d block1 n t2 us body (omega arith)) (subst (λ z. Gives (for x a b c d) us (Ok (for x a b c z, us))) (sym (list_block d)) gives)))
 
 global_back : (x : Text) (e : Expr) → KindClaim (global x e)
 unfolding parsing.global_kind After

@@ -9,3 +9,5 @@ pub mod ScriptLengths
 pub mod CompleteScript
 pub mod ParseLemmas
 pub mod CallerLemmas
+pub mod TokenLemmas
+pub mod LoadLemmas

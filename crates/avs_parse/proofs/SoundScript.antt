@@ -1,11 +1,12 @@
 -- What is parsed as a script is derived so, and its nesting is within the limit.
 use Rattle.std.proofs.Common.{◌≡◌, refl, sym, ap, subst, ◌∙◌, ℕ, zero, suc, ◌<◌, ◌≤◌, arith, Bool, true, false, not, IsTrue, ◌||◌, ◌⊎◌, inl, inr, List, [], ◌∷◌, ◌++◌, append_assoc, append-nil, Option, Some, None, option_map, length}
+use Rattle.avs_lex.specs.Characters.{Text}
 use Rattle.avs_tree.specs.Lexeme.{Lexemes, Lexeme, is_name, line_of}
 use Rattle.avs_tree.specs.Words.{type_word_of}
-use Rattle.avs_tree.specs.Tree.{Kind, if_, then_, Function, Script, ends_with_brace}
+use Rattle.avs_tree.specs.Tree.{Expr, Kind, if_, then_, Function, Script, ends_with_brace}
 use Rattle.avs_tree.specs.View.{StatementIs, ArmIs, block_of, arms_of, else_of}
 use Rattle.avs_tree.specs.Grammar.{IsPunctuation, IsKeyword, IsName, nesting}
-use Rattle.avs_tree.specs.Script.{Newlines, Closes, Separates, Condition, Braces, ForStep, DerivesKind, DerivesElseIfs, DerivesElse, DerivesAll, ParameterName, DerivesParameter, MoreParameters, Parameters, DerivesFunction, Items, no_items, function_then, statement_then, functions_of, statements_of, DerivesItems, IsScript, kind_nesting, arms_nesting, else_nesting, block_nesting, step_nesting, functions_nesting, script_nesting}
+use Rattle.avs_tree.specs.Script.{Newlines, Closes, Separates, Condition, Braces, ForStep, ForHead, DerivesKind, DerivesElseIfs, DerivesElse, DerivesAll, ParameterName, DerivesParameter, MoreParameters, Parameters, DerivesFunction, Items, no_items, function_then, statement_then, functions_of, statements_of, DerivesItems, IsScript, kind_nesting, arms_nesting, else_nesting, block_nesting, step_nesting, functions_nesting, script_nesting}
 use Rattle.avs_parse.specs.Parsing.{Parser, peek, tail, content_at, is_punctuation, assigns, opens_punctuation, skip, skip_by, closes, separate}
 use Rattle.avs_parse.specs.ParsingScript as parsing
 use Rattle.avs_tree.specs.declared.symbol.Symbol.{Symbol}
@@ -181,13 +182,20 @@ module _ (levels_left : ℕ) (inner : Parser (List StatementIs))
   for_step_on false ts h may_open = was_parsed (refl, may_open)
   for_step_on true ts h may_open = then_on (sound_below levels_left 8 (tail ts)) (λ e us p. was_parsed ((tail ts, is_next ts (s.Punctuation m.Comma) (punctuation_is m.Comma ts h), p.0), p.1))
 
-  on_for : (ts : Lexemes) → IsKeyword w.For ts (tail ts) → On (KindAt ts) (parsing.for_kind levels_left inner ts)
-  unfolding parsing.for_kind parsing.for_step
-  on_for ts key =
-      then_on (on_opens_punctuation m.LeftParen levels_left (tail ts)) (λ _ t1 (left, may_open). then_on (on_name t1) (λ x t2 is. then_on (on_expect m.Assign t2) (λ _ t3 assign1.
+  abbrev HeadAt : Text × Expr × Expr × Option Expr → Lexemes → Lexemes → Type 0
+  HeadAt h ts us = ForHead h.0 h.1 h.2 h.3 ts us × (nesting h.1 < levels_left) × (nesting h.2 < levels_left) × (step_nesting h.3 < levels_left)
+
+  on_for_head : (ts : Lexemes) → On (λ h us. HeadAt h ts us) (parsing.for_head levels_left inner ts)
+  unfolding parsing.for_head parsing.for_step
+  on_for_head ts =
+      then_on (on_opens_punctuation m.LeftParen levels_left ts) (λ _ t1 (left, may_open). then_on (on_name t1) (λ x t2 is. then_on (on_expect m.Assign t2) (λ _ t3 assign1.
       then_on (sound_below levels_left 8 t3) (λ a t4 p. then_on (on_expect m.Comma t4) (λ _ t5 comma. then_on (sound_below levels_left 8 t5) (λ b t6 q.
-      then_on (for_step_on (is_punctuation m.Comma t6) t6 refl may_open) (λ c t7 step. then_on (on_expect m.RightParen t7) (λ _ t8 right. then_on (on_body t8) (λ d t9 body1.
-      was_parsed ((tail ts, t8, key, (t1, t2, t3, t4, t5, t6, t7, left, (line_of t1, is), assign1, p.0, comma, q.0, step.0, right), body1.0), omega (arith, p.1, q.1, step.1, body1.1)))))))))))
+      then_on (for_step_on (is_punctuation m.Comma t6) t6 refl may_open) (λ c t7 step. then_on (on_expect m.RightParen t7) (λ _ t8 right.
+      was_parsed ((t1, t2, t3, t4, t5, t6, t7, left, (line_of t1, is), assign1, p.0, comma, q.0, step.0, right), p.1, q.1, step.1)))))))))
+
+  on_for : (ts : Lexemes) → IsKeyword w.For ts (tail ts) → On (KindAt ts) (parsing.for_kind levels_left inner ts)
+  unfolding parsing.for_kind
+  on_for ts key = then_on (on_for_head (tail ts)) (λ h us (head, first, last, step). then_on (on_body us) (λ d vs body1. was_parsed ((tail ts, us, key, head, body1.0), omega (arith, first, last, step, body1.1))))
 
   on_global : (ts : Lexemes) → IsKeyword w.Global ts (tail ts) → On (KindAt ts) (parsing.global_kind levels_left inner ts)
   unfolding parsing.global_kind

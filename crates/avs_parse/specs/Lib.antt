@@ -5,3 +5,8 @@ pub mod ParsingScript
 pub mod Answers
 pub mod ParsesExpr
 pub mod ParsesInside
+pub mod ForHead
+pub mod TokensOf
+pub mod Load
+pub mod Loads
+pub mod Laws

@@ -1,5 +1,6 @@
 -- Parsing statements and scripts.
 use Rattle.std.specs.Prelude.{ℕ, zero, suc, Bool, true, false, not, List, [], ◌∷◌, ◌++◌, length, map, Option, Some, None, option_map, Ok, if◌then◌else◌}
+use Rattle.avs_lex.specs.Characters.{Text}
 use Rattle.avs_tree.specs.Lexeme.{Lexemes, is_name, line_of}
 use Rattle.avs_tree.specs.Words.{type_word_of}
 use Rattle.avs_tree.specs.Tree.{Expr, Kind, Function, Script, global, assign, return, if_, while, for, value, ends_with_brace}
@@ -97,11 +98,15 @@ module _ (levels_left : ℕ) (inner : Parser (List StatementIs)) where
   unfoldable pub for_step : Parser (Option Expr)
   for_step ts = for_step_by (is_punctuation m.Comma ts) ts
 
-  unfoldable pub for_kind : Parser Kind
-  for_kind ts =
-      and_then (opens_punctuation m.LeftParen levels_left (tail ts)) (λ _ t1. and_then (name t1) (λ x t2. and_then (expect m.Assign t2) (λ _ t3.
+  -- the name, the first and the last value, and the step, with their parentheses
+  unfoldable pub for_head : Parser (Text × Expr × Expr × Option Expr)
+  for_head ts =
+      and_then (opens_punctuation m.LeftParen levels_left ts) (λ _ t1. and_then (name t1) (λ x t2. and_then (expect m.Assign t2) (λ _ t3.
       and_then (below levels_left 8 t3) (λ a t4. and_then (expect m.Comma t4) (λ _ t5. and_then (below levels_left 8 t5) (λ b t6.
-      and_then (for_step t6) (λ c t7. and_then (expect m.RightParen t7) (λ _ t8. and_then (body t8) (λ d. pure (for x a b c (block_of d)))))))))))
+      and_then (for_step t6) (λ c t7. and_then (expect m.RightParen t7) (λ _. pure (x, a, b, c)))))))))
+
+  unfoldable pub for_kind : Parser Kind
+  for_kind ts = and_then (for_head (tail ts)) (λ h us. and_then (body us) (λ d. pure (for h.0 h.1 h.2 h.3 (block_of d))))
 
   unfoldable pub global_kind : Parser Kind
   global_kind ts = and_then (name (tail ts)) (λ x us. and_then (expect m.Assign us) (λ _ vs. and_then (expression levels_left 8 vs) (λ e. pure (global x e))))

@@ -345,9 +345,8 @@ impl<F: Fn(Global, &mut Tokens<'_>, u32, u8) -> Result<Expr, ParseStop>> Grammar
         };
         let line = tokens.line();
         tokens.take();
-        let right = self.lower(tokens, COMPARISON)?;
         let left = Box::new(self.alloc, left)?;
-        let right = Box::new(self.alloc, right)?;
+        let right = Box::new(self.alloc, self.lower(tokens, COMPARISON)?)?;
         Ok(Expr::Compare {
             op,
             left,
@@ -368,13 +367,11 @@ impl<F: Fn(Global, &mut Tokens<'_>, u32, u8) -> Result<Expr, ParseStop>> Grammar
             return Ok(condition);
         }
         let line = tokens.line();
-        tokens.open(self.levels_left)?;
-        let yes = self.inner(tokens, EXPRESSION)?;
-        tokens.expect(Punctuation::Colon)?;
-        let no = self.inner(tokens, EXPRESSION)?;
         let condition = Box::new(self.alloc, condition)?;
-        let yes = Box::new(self.alloc, yes)?;
-        let no = Box::new(self.alloc, no)?;
+        tokens.open(self.levels_left)?;
+        let yes = Box::new(self.alloc, self.inner(tokens, EXPRESSION)?)?;
+        tokens.expect(Punctuation::Colon)?;
+        let no = Box::new(self.alloc, self.inner(tokens, EXPRESSION)?)?;
         Ok(Expr::Conditional {
             condition,
             yes,

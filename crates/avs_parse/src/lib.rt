@@ -1,13 +1,16 @@
-//! The parser of scripts in the language of AviSynth+.
+//! Scripts in the language of AviSynth+, from their tokens or their texts to their trees.
 //!
-//! `parse` answers exactly the tree that the grammar gives (`HasTree` of `avs_tree`, `specs/Script.antt`), and refuses only
-//! tokens of which the grammar gives no tree within the limit of nesting. `laws` says that tokens have at most one tree.
+//! `parse` answers exactly the tree that the grammar gives of tokens (`HasTree` of `avs_tree`), and refuses only tokens that
+//! have none within the limit of nesting. `load` answers what the function `script_of` gives of a text (`specs/Load.antt`);
+//! the lines of its `Syntax` and `NestLimit` are tested, not proved. `laws` says that tokens have at most one tree, and that
+//! `script_of` is what the definitions of tokens and of the grammar say.
 #![tactic(auto)]
 
 mod cursor;
 mod expression;
 mod fault;
 pub mod laws;
+mod loader;
 mod script;
 mod statement;
 
@@ -15,8 +18,6 @@ pub use avs_tree::{
     Arg, Arm, Expr, Function, MethodCall, Operator, Parameter, Script, Statement, StatementKind,
     Step, TypeWord,
 };
-pub use fault::ParseError;
+pub use fault::{LoadFault, ParseError};
+pub use loader::{Loaded, load};
 pub use script::parse;
-
-#[cfg(test)]
-mod tests;

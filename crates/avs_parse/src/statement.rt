@@ -4,6 +4,7 @@ ghost use Rattle.avs_parse.specs.ParsesInside.{ParsesInside};
 ghost use Rattle.avs_parse.specs.ParsingExpr.{below};
 ghost use Rattle.avs_parse.specs.ParsingScript as r;
 ghost use Rattle.avs_parse.specs.Answers.{Answers, AnswersEach};
+ghost use Rattle.avs_parse.specs.ForHead.{for_head_view};
 ghost use Rattle.avs_tree.specs.Tree.{ends_with_brace};
 ghost use Rattle.avs_tree.specs.View.{expr_view, arm_view, kind_view, statement_view};
 
@@ -11,6 +12,7 @@ use crate::cursor::Tokens;
 use crate::expression::{EXPRESSION, expression};
 use crate::fault::ParseStop;
 use avs_tree::{Arm, Expr, Keyword, Punctuation, Statement, StatementKind, Symbol};
+use fv_io::Text;
 use std::alloc::Global;
 
 /// The rules, over a function that parses the statements inside of braces, with the levels that are left.
@@ -20,6 +22,15 @@ pub struct Blocks<F> {
     /// How many levels of parentheses, braces and the like may still be opened.
     pub levels_left: u32,
     pub parse: F,
+}
+
+// What is inside the parentheses after `for`. The boxes keep the proof of its drop short.
+#[derive(Drop)]
+struct ForHead {
+    name: Text,
+    first: Box<Expr>,
+    last: Box<Expr>,
+    step: Option<Expr>,
 }
 
 // Whether a statement of this kind ends with a brace.
@@ -180,6 +191,28 @@ impl<F: Fn(Global, &mut Tokens<'_>, u32) -> Result<Vec<Statement>, ParseStop>> B
         Ok(Some(step))
     }
 
+    // The parentheses after `for`.
+    #[tactic(auto, unfolding(crate::specs::ParsingScript::for_head))]
+    fn for_head(&self, tokens: &mut Tokens<'_>) -> Result<ForHead, ParseStop>
+        ensures { Answers for_head_view
+            (r.for_head self.now.levels_left (r.block_below self.now.levels_left) tokens.old) result tokens.new }
+    {
+        tokens.open_punctuation(Punctuation::LeftParen, self.levels_left)?;
+        let name = tokens.name(self.alloc)?;
+        tokens.expect(Punctuation::Assign)?;
+        let first = Box::new(self.alloc, self.inside(tokens)?)?;
+        tokens.expect(Punctuation::Comma)?;
+        let last = Box::new(self.alloc, self.inside(tokens)?)?;
+        let step = self.for_step(tokens)?;
+        tokens.expect(Punctuation::RightParen)?;
+        Ok(ForHead {
+            name,
+            first,
+            last,
+            step,
+        })
+    }
+
     #[tactic(auto, unfolding(crate::specs::ParsingScript::for_kind))]
     fn for_kind(&self, tokens: &mut Tokens<'_>) -> Result<StatementKind, ParseStop>
         requires { ParsesInside self.now.levels_left (F.pre self.now.parse) (F.post self.now.parse) }
@@ -187,20 +220,13 @@ impl<F: Fn(Global, &mut Tokens<'_>, u32) -> Result<Vec<Statement>, ParseStop>> B
             (r.for_kind self.now.levels_left (r.block_below self.now.levels_left) tokens.old) result tokens.new }
     {
         tokens.take();
-        tokens.open_punctuation(Punctuation::LeftParen, self.levels_left)?;
-        let name = tokens.name(self.alloc)?;
-        tokens.expect(Punctuation::Assign)?;
-        let first = self.inside(tokens)?;
-        tokens.expect(Punctuation::Comma)?;
-        let last = self.inside(tokens)?;
-        let step = self.for_step(tokens)?;
-        tokens.expect(Punctuation::RightParen)?;
+        let head = self.for_head(tokens)?;
         let body = self.body(tokens)?;
         Ok(StatementKind::For {
-            name,
-            first,
-            last,
-            step,
+            name: head.name,
+            first: Box::into_inner(head.first),
+            last: Box::into_inner(head.last),
+            step: head.step,
             body,
         })
     }
@@ -284,7 +310,10 @@ impl<F: Fn(Global, &mut Tokens<'_>, u32) -> Result<Vec<Statement>, ParseStop>> B
     {
         let line = tokens.line();
         let kind = self.kind(tokens)?;
-        tokens.separate(ends_with_brace(&kind))?;
+        if let Err(stop) = tokens.separate(ends_with_brace(&kind)) {
+            drop(kind);
+            return Err(stop);
+        }
         Ok(Statement { kind, line })
     }
 

@@ -8,6 +8,3 @@ pub mod laws;
 mod printer;
 
 pub use printer::print;
-
-#[cfg(test)]
-mod tests;

@@ -5,7 +5,7 @@ use Rattle.fv_plane.specs.Clip.{Clip}
 use Rattle.fv_plane.specs.Picture.{Picture}
 use Rattle.clip_graph.specs.Plan.{Application}
 use Rattle.prefetch.specs.Clips.{clip_at}
-use Rattle.avs_load.specs.Load.{script_of}
+use Rattle.avs_parse.specs.Load.{script_of}
 use Rattle.avs_meaning.specs.Faults.{Fault, script, refused, input}
 use Rattle.avs_meaning.specs.Crews.{Numbers}
 use Rattle.avs_meaning.specs.Meaning as m

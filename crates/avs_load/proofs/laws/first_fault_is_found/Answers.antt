@@ -1,5 +1,0 @@
-use Rattle.avs_load.proofs.TokenLemmas.{fault_found}
-use Rattle.avs_load.proofs.laws.first_fault_is_found.Goals as goal
-
-pub returns : goal.returns
-returns c = fault_found

@@ -1,5 +1,0 @@
-use Rattle.avs_load.proofs.LoadLemmas.{fault_told}
-use Rattle.avs_load.proofs.laws.first_fault_is_told.Goals as goal
-
-pub returns : goal.returns
-returns c = fault_told

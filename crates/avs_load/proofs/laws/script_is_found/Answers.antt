@@ -1,5 +1,0 @@
-use Rattle.avs_load.proofs.LoadLemmas.{script_found}
-use Rattle.avs_load.proofs.laws.script_is_found.Goals as goal
-
-pub returns : goal.returns
-returns c = script_found

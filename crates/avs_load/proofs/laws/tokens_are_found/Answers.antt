@@ -1,5 +1,0 @@
-use Rattle.avs_load.proofs.TokenLemmas.{tokens_found}
-use Rattle.avs_load.proofs.laws.tokens_are_found.Goals as goal
-
-pub returns : goal.returns
-returns c = tokens_found

@@ -1,4 +1,0 @@
-pub mod TokensOf
-pub mod Load
-pub mod Loads
-pub mod Laws

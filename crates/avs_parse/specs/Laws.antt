@@ -1,0 +1,44 @@
+-- The functions are what the definitions of tokens and of the grammar say of a text.
+use Rattle.std.specs.Prelude.{◌≡◌, ◌↔◌, ℕ, List, Ok, Err}
+use Rattle.avs_lex.specs.declared.fault.LexKind.{LexKind}
+use Rattle.avs_lex.specs.declared.token.Token.{Token}
+use Rattle.avs_lex.specs.Characters.{Text}
+use Rattle.avs_lex.specs.Tokens.{Tokens, LexFault}
+use Rattle.avs_tree.specs.Lexeme.{lexemes}
+use Rattle.avs_tree.specs.Loaded.{Loaded, lexical, refused}
+use Rattle.avs_tree.specs.Tree.{Script}
+use Rattle.avs_tree.specs.Script.{HasTree}
+use Rattle.avs_parse.specs.TokensOf.{tokens_of}
+use Rattle.avs_parse.specs.Load.{last_line, script_of}
+
+-- ---- tokens
+
+abbrev pub TokensAreFound : Type 0
+TokensAreFound = (text : Text) (tokens : List Token) → (tokens_of text ≡ Ok tokens) ↔ Tokens text tokens
+
+abbrev pub FirstFaultIsFound : Type 0
+FirstFaultIsFound = (text : Text) (kind : LexKind) (line : ℕ) → (tokens_of text ≡ Err (kind, line)) ↔ LexFault text kind line
+
+-- ---- trees
+
+-- the tokens of the text have this tree, and the last of them is on this line
+pub record HasScript (text : Text) (loaded : Loaded) : Type 0 where
+  pub tokens : List Token
+  pub tokens_are : Tokens text tokens
+  pub tree_is : HasTree (lexemes text tokens) loaded.tree
+  pub ends_on : last_line tokens ≡ loaded.last_line
+
+-- the text has tokens, and they have no tree within the limit of nesting
+pub record HasNoScript (text : Text) : Type 0 where
+  pub tokens : List Token
+  pub tokens_are : Tokens text tokens
+  pub none : (tree : Script) → HasTree (lexemes text tokens) tree → ⊥
+
+abbrev pub ScriptIsFound : Type 0
+ScriptIsFound = (text : Text) (loaded : Loaded) → (script_of text ≡ Ok loaded) ↔ HasScript text loaded
+
+abbrev pub FirstFaultIsTold : Type 0
+FirstFaultIsTold = (text : Text) (kind : LexKind) (line : ℕ) → (script_of text ≡ Err (lexical kind line)) ↔ LexFault text kind line
+
+abbrev pub RefusalIsTold : Type 0
+RefusalIsTold = (text : Text) → (script_of text ≡ Err refused) ↔ HasNoScript text

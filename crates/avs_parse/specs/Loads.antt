@@ -1,0 +1,18 @@
+-- What the code answers.
+use Rattle.std.specs.Prelude.{◌≡◌, Result, Ok, Err, ⊤}
+use Rattle.avs_tree.specs.View.{script_view}
+use Rattle.avs_tree.specs.Loaded as d
+use Rattle.avs_parse.specs.declared.loader.Loaded.{Loaded}
+use Rattle.avs_parse.specs.declared.fault.LoadFault.{LoadFault}
+use Rattle.avs_parse.specs.declared.fault.LoadFault.TheVariants.{Lex, Syntax, NestLimit, Memory}
+
+abbrev pub loaded_view : Loaded → d.Loaded
+loaded_view l = record { tree = script_view l.script; last_line = l.last_line }
+
+-- The answer is what the text has. Out of memory says nothing.
+abbrev pub Loads : Result d.Loaded d.NoTree → Result Loaded LoadFault → Type 0
+Loads found (Ok loaded) = found ≡ Ok (loaded_view loaded)
+Loads found (Err (Lex kind line)) = found ≡ Err (d.lexical kind line)
+Loads found (Err (Syntax line)) = found ≡ Err d.refused
+Loads found (Err (NestLimit line)) = found ≡ Err d.refused
+Loads found (Err Memory) = ⊤

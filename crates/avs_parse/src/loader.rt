@@ -1,0 +1,44 @@
+// The tree of a text.
+ghost use Rattle.std.specs.Prelude.{◌≡◌, ◌<◌, ◌-◌, ◌^◌, length};
+ghost use Rattle.avs_parse.specs.Load.{script_of, last_line};
+ghost use Rattle.avs_parse.specs.Loads.{Loads};
+
+use crate::fault::{LoadFault, ParseError};
+use crate::script::parse;
+use avs_lex::{LexError, Token, lex};
+use avs_tree::Script;
+use std::alloc::Global;
+
+/// A tree, and the line of the end of its script, counted from 1.
+#[derive(Drop, Debug)]
+pub struct Loaded {
+    pub script: Script,
+    pub last_line: u32,
+}
+
+// The line of the last token.
+fn last_line(tokens: &[Token]) -> u32
+    ensures { result ≡ last_line tokens.now }
+{
+    tokens.last().map_or(0, |token| token.line)
+}
+
+/// The tree of a text, or its first fault.
+#[tactic(auto, using(crate::proofs::LoadLemmas::lexical_fault, crate::proofs::LoadLemmas::tree_is, crate::proofs::LoadLemmas::no_tree_is))]
+pub fn load(alloc: Global, text: &str) -> Result<Loaded, LoadFault>
+    requires { length text.now < 2 ^ 32 - 1 }
+    ensures { Loads (script_of text.now) result }
+{
+    let tokens = match lex(alloc, text) {
+        Ok(tokens) => tokens,
+        Err(LexError::Fault { kind, line }) => return Err(LoadFault::Lex { kind, line }),
+        Err(LexError::Memory) => return Err(LoadFault::Memory),
+    };
+    let last_line = last_line(&tokens);
+    match parse(alloc, text, &tokens) {
+        Ok(script) => Ok(Loaded { script, last_line }),
+        Err(ParseError::Syntax { token: _, line }) => Err(LoadFault::Syntax { line }),
+        Err(ParseError::NestLimit { token: _, line }) => Err(LoadFault::NestLimit { line }),
+        Err(ParseError::Memory) => Err(LoadFault::Memory),
+    }
+}
