@@ -12,7 +12,7 @@ ghost use Rattle.avs_state.specs.States.{state_of};
 ghost use Rattle.avs_calls.specs.Views.{args_view, text_given};
 
 use crate::arguments::{number_at, text_at};
-use avs_meaning::{ScriptKind, Stop};
+use avs_meaning::{ScriptKind, ScriptStop};
 use avs_state::{Machine, fault_at};
 use avs_values::Value;
 use clip_term::{Filter, FilterFault, Op};
@@ -217,7 +217,7 @@ fn blank_like(
     args: &BlankArgs<'_>,
     here: &Text,
     line: u32,
-) -> Result<Value, Stop>
+) -> Result<Value, ScriptStop>
     requires par { IsPar base.now.par }
     ensures gives { Gives (λ x. x) (f.blank_like here.now base.now (args_view args.now) line (state_of machine.old))
         result (state_of machine.new) }
@@ -247,7 +247,7 @@ fn blank_of(
     args: &BlankArgs<'_>,
     here: &Text,
     line: u32,
-) -> Result<Value, Stop>
+) -> Result<Value, ScriptStop>
     ensures gives { Gives (λ x. x) (f.blank_of here.now (option_map (λ value. value.now) clip.entry) (args_view
         args.now) line (state_of machine.old)) result (state_of machine.new) }
     ensures opened { (state_of machine.new).opened ≡ (state_of machine.old).opened }
@@ -271,7 +271,7 @@ pub(crate) fn blank(
     values: &[Value],
     here: &Text,
     line: u32,
-) -> Result<Value, Stop>
+) -> Result<Value, ScriptStop>
     ensures gives { Gives (λ x. x) (f.blank here.now signature values.now line (state_of machine.old)) result
         (state_of machine.new) }
     ensures opened { (state_of machine.new).opened ≡ (state_of machine.old).opened }

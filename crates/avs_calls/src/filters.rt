@@ -11,7 +11,7 @@ ghost use Rattle.avs_state.specs.States.{state_of};
 use crate::arguments::add_clips;
 use crate::blank::blank;
 use crate::read::{Unread, read, takes};
-use avs_meaning::{ScriptKind, Stop};
+use avs_meaning::{ScriptKind, ScriptStop};
 use avs_state::{Machine, fault_at};
 use avs_values::{Bound, Value};
 use clip_term::{Filter, Op, TimeOp};
@@ -29,7 +29,7 @@ fn apply_to(
     frames: u32,
     here: &Text,
     line: u32,
-) -> Result<Value, Stop>
+) -> Result<Value, ScriptStop>
     requires { frames ≤ 1000000 }
     ensures gives { Gives (λ x. x) (f.applied_by here.now (a.read given.now.values.items (a.numbers_among
         given.now.rest.items) frames filter) filter inputs.now line (state_of machine.old)) result (state_of
@@ -40,7 +40,7 @@ fn apply_to(
     let op = match read(alloc, given, frames, filter) {
         Ok(op) => op,
         Err(Unread::Refused(kind)) => return Err(fault_at(alloc, kind, here, line)),
-        Err(Unread::Memory) => return Err(Stop::Memory),
+        Err(Unread::Memory) => return Err(ScriptStop::Memory),
     };
     if !takes(&op, inputs.len()) {
         return Err(fault_at(alloc, ScriptKind::NoMatch, here, line));
@@ -56,7 +56,7 @@ fn apply(
     given: &Bound,
     here: &Text,
     line: u32,
-) -> Result<Value, Stop>
+) -> Result<Value, ScriptStop>
     ensures gives { Gives (λ x. x)
         (f.applied here.now filter (bound_view given.now)
         (a.clips_among given.now.values.items ++ a.clips_among given.now.rest.items) line (state_of machine.old)) result
@@ -92,7 +92,7 @@ pub fn filter(
     given: &Bound,
     here: &Text,
     line: u32,
-) -> Result<Value, Stop>
+) -> Result<Value, ScriptStop>
     requires { filter ≡ Filter.Y4MSource → ⊥ }
     ensures gives { (outside : Outside) → Gives (λ x. x)
         (f.filtered here.now outside filter signature (bound_view given.now) line (state_of machine.old)) result
@@ -116,7 +116,7 @@ pub fn ranged(
     shown: &Value,
     here: &Text,
     line: u32,
-) -> Result<Value, Stop>
+) -> Result<Value, ScriptStop>
     ensures gives { Gives (λ x. x) (f.ranged here.now clip first last line shown.now (state_of machine.old)) result
         (state_of machine.new) }
     ensures opened { (state_of machine.new).opened ≡ (state_of machine.old).opened }

@@ -17,7 +17,7 @@ use Rattle.avs_meaning.specs.declared.builtin.Builtin.TheVariants as b
 use Rattle.avs_meaning.specs.declared.fault.FileKind.{FileKind}
 use Rattle.avs_meaning.specs.declared.fault.InputFault.{InputFault}
 use Rattle.avs_meaning.specs.declared.fault.ScriptKind.TheVariants as k
-use Rattle.avs_meaning.specs.declared.stop.Stop.{Stop}
+use Rattle.avs_meaning.specs.declared.stop.ScriptStop.{ScriptStop}
 use Rattle.avs_state.specs.Hosts.{Fails}
 use Rattle.avs_eval.specs.OutsideBy.{outside_by}
 use Rattle.avs_eval.proofs.Failures.{is_fault, then_fails}
@@ -80,7 +80,7 @@ module _ (clips : Text → Result Info InputFault) (scripts : Text → Result Te
       ∙ ap (λ o. and_then o (ranged here range.clip range.first range.last line)) (ap (λ l. r.apply clips scripts n c l None here line s) (sym same) ∙ gave)
 
   -- the function fails
-  pub range_fails : (values rest : List Value) (range : Given) (c : Callee) (args : List binding.Given) (stop : Stop) (s : State)
+  pub range_fails : (values rest : List Value) (range : Given) (c : Callee) (args : List binding.Given) (stop : ScriptStop) (s : State)
       → given_in values ≡ Some range → called here range.name line s ≡ Ok (c, s) → args ≡ map unnamed (v.Clip range.clip ∷ rest)
       → Fails (r.apply clips scripts n c args None here line s) stop → Fails (r.ranged_by clips scripts n values rest here line s) stop
   range_fails values rest range c args stop s is known same failed =

@@ -1,28 +1,28 @@
 -- How a part of a run that fails makes the whole fail.
 use Rattle.std.proofs.Common.{◌≡◌, sym, ap, subst, ℕ, Result, Ok, Err}
 use Rattle.avs_meaning.specs.State.{State, Outcome, Run, and_then}
-use Rattle.avs_meaning.specs.declared.stop.Stop.{Stop}
-use Rattle.avs_meaning.specs.declared.stop.Stop.TheVariants as e
+use Rattle.avs_meaning.specs.declared.stop.ScriptStop.{ScriptStop}
+use Rattle.avs_meaning.specs.declared.stop.ScriptStop.TheVariants as e
 use Rattle.avs_state.specs.Answers as a
 use Rattle.avs_state.specs.Hosts.{Fails, Gives, Read}
 
-pub then_fails : {X Y : Type 0} (one : Outcome X) (f : X → Run Y) (stop : Stop) → Fails one stop → Fails (and_then one f) stop
+pub then_fails : {X Y : Type 0} (one : Outcome X) (f : X → Run Y) (stop : ScriptStop) → Fails one stop → Fails (and_then one f) stop
 then_fails one f (e.Fault kind name line) h = ap (λ o. and_then o f) h
 then_fails one f (e.Refused name nests line) h = ap (λ o. and_then o f) h
 then_fails one f (e.Input name why) h = ap (λ o. and_then o f) h
 then_fails one f e.Read h = tt
 then_fails one f e.Memory h = tt
 
-pub is_fault : {Y : Type 0} (one other : Outcome Y) (stop : Stop) → other ≡ one → Fails one stop → Fails other stop
+pub is_fault : {Y : Type 0} (one other : Outcome Y) (stop : ScriptStop) → other ≡ one → Fails one stop → Fails other stop
 is_fault one other stop is h = subst (λ o. Fails o stop) (sym is) h
 
-pub first_fails : {X Y : Type 0} (whole : Outcome Y) (one : Outcome X) (f : X → Run Y) (stop : Stop)
+pub first_fails : {X Y : Type 0} (whole : Outcome Y) (one : Outcome X) (f : X → Run Y) (stop : ScriptStop)
     → whole ≡ and_then one f → Fails one stop → Fails whole stop
 first_fails whole one f stop is h = is_fault (and_then one f) whole stop is (then_fails one f stop h)
 
 -- ---- what asks nothing of the outside
 
-pub also_fails : {Y : Type 0} (o : Outcome Y) (stop : Stop) → a.Fails o stop → Fails o stop
+pub also_fails : {Y : Type 0} (o : Outcome Y) (stop : ScriptStop) → a.Fails o stop → Fails o stop
 also_fails o (e.Fault kind name line) h = h
 also_fails o (e.Refused name nests line) h = h
 also_fails o (e.Input name why) h = h
@@ -30,13 +30,13 @@ also_fails o e.Read h = tt
 also_fails o e.Memory h = tt
 
 -- it gives the same as a part of a run
-pub given : {X Y : Type 0} (view : X → Y) (o : Outcome Y) (result : Result X Stop) (new : State)
+pub given : {X Y : Type 0} (view : X → Y) (o : Outcome Y) (result : Result X ScriptStop) (new : State)
     → a.Gives view o result new → Gives view o result new
 given view o (Ok x) new h = h
 given view o (Err stop) new h = also_fails o stop h
 
 -- and reads nothing
-pub unread : {X Y : Type 0} (view : X → Y) (o : Outcome Y) (result : Result X Stop) (new : State) (n : ℕ)
+pub unread : {X Y : Type 0} (view : X → Y) (o : Outcome Y) (result : Result X ScriptStop) (new : State) (n : ℕ)
     → a.Gives view o result new → Read result n n
 unread view o (Ok x) new n h = tt
 unread view o (Err (e.Fault kind name line)) new n h = tt

@@ -15,7 +15,7 @@ use Rattle.avs_values.specs.declared.value.Value.{Value}
 use Rattle.avs_meaning.specs.State.{State, Outcome, Run, and_then, pure}
 use Rattle.avs_meaning.specs.declared.fault.FileKind.{FileKind}
 use Rattle.avs_meaning.specs.declared.fault.InputFault.{InputFault}
-use Rattle.avs_meaning.specs.declared.stop.Stop.{Stop}
+use Rattle.avs_meaning.specs.declared.stop.ScriptStop.{ScriptStop}
 use Rattle.avs_state.specs.Hosts.{Fails}
 use Rattle.avs_eval.proofs.Failures.{first_fails}
 use Rattle.avs_eval.specs.At as r
@@ -65,7 +65,7 @@ module _ (clips : Text → Result Info InputFault) (scripts : Text → Result Te
       ∙ calls_one d.0 d.1.0 d.1.1 (method_calls_of (map method_call_view (drop (i + 1) xs))) v s
 
   -- where one method call fails, all do
-  pub calls_fail : (xs : List MethodCall) (i : ℕ) (x : MethodCall) (v : Value) (s : State) (whole : Outcome Value) (stop : Stop)
+  pub calls_fail : (xs : List MethodCall) (i : ℕ) (x : MethodCall) (v : Value) (s : State) (whole : Outcome Value) (stop : ScriptStop)
       → i < length xs → x ≡ get_or xs i x → r.calls_from clips scripts n here (method_calls_of (map method_call_view (drop i xs))) v s ≡ whole
       → Fails (r.calls_from clips scripts n here (method_calls_of (method_call_view x ∷ [])) v s) stop → Fails whole stop
   calls_fail xs i x v s whole stop h is same failed =

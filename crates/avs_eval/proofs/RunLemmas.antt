@@ -11,8 +11,8 @@ use Rattle.avs_meaning.specs.Outside.{Outside}
 use Rattle.avs_meaning.specs.State.{State, Outcome, Run, and_then}
 use Rattle.avs_meaning.specs.declared.fault.FileKind.{FileKind}
 use Rattle.avs_meaning.specs.declared.fault.InputFault.{InputFault}
-use Rattle.avs_meaning.specs.declared.stop.Stop.{Stop}
-use Rattle.avs_meaning.specs.declared.stop.Stop.TheVariants as e
+use Rattle.avs_meaning.specs.declared.stop.ScriptStop.{ScriptStop}
+use Rattle.avs_meaning.specs.declared.stop.ScriptStop.TheVariants as e
 use Rattle.avs_state.specs.Answers as a
 use Rattle.avs_state.specs.Hosts.{Fails}
 use Rattle.avs_eval.specs.OutsideBy.{outside_by}
@@ -23,7 +23,7 @@ use Rattle.avs_eval.specs.Evaluates.{Evaluates, error_of}
 
 module _ (outside : Outside) (here : Text) where
   -- where the statements fail, there is no clip
-  pub run_fails : (body : Block) (line : ℕ) (s : State) (stop : Stop) → Fails (run outside call_limit here body s) stop → Fails (to_clip outside here body line s) stop
+  pub run_fails : (body : Block) (line : ℕ) (s : State) (stop : ScriptStop) → Fails (run outside call_limit here body s) stop → Fails (to_clip outside here body line s) stop
   unfolding to_clip
   run_fails body line s stop failed = then_fails (run outside call_limit here body s) (clip_or_not here line) stop failed
 
@@ -50,7 +50,7 @@ module _ (clips : Text → Result Info InputFault) (scripts : Text → Result Te
   loaded_runs body s s' loaded = by_body s ∙ ap (λ o. and_then o goes_on) loaded
 
   -- where it has no tree
-  pub load_fails : (s : State) (stop : Stop) → a.Fails (body_by (script_of text) here s) stop
+  pub load_fails : (s : State) (stop : ScriptStop) → a.Fails (body_by (script_of text) here s) stop
       → Fails (executed (outside_by clips scripts) here text s) stop
   load_fails s stop h =
       first_fails _ (body_by (script_of text) here s) goes_on stop (by_body s) (also_fails (body_by (script_of text) here s) stop h)
@@ -58,7 +58,7 @@ module _ (clips : Text → Result Info InputFault) (scripts : Text → Result Te
 -- ---- the answer
 
 -- what a stop shows of a run is what its error tells
-pub error_shows : (outcome : Outcome ℕ) (stop : Stop) → Fails outcome stop → Evaluates (meaning_by outcome) (Err (error_of stop))
+pub error_shows : (outcome : Outcome ℕ) (stop : ScriptStop) → Fails outcome stop → Evaluates (meaning_by outcome) (Err (error_of stop))
 error_shows outcome (e.Fault kind name line) h = (script kind name line, (inl refl, ap meaning_by h))
 error_shows outcome (e.Refused name true line) h = (refused name, (inr (tt, refl), ap meaning_by h))
 error_shows outcome (e.Refused name false line) h = (refused name, (inr (tt, refl), ap meaning_by h))

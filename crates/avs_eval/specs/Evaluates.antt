@@ -8,8 +8,8 @@ use Rattle.avs_meaning.specs.Meaning.{Meaning, clip, wrong}
 use Rattle.avs_meaning.specs.declared.fault.ScriptKind.{ScriptKind}
 use Rattle.avs_meaning.specs.declared.fault.ScriptKind.TheVariants as k
 use Rattle.avs_meaning.specs.declared.state.SourceClip.{SourceClip}
-use Rattle.avs_meaning.specs.declared.stop.Stop.{Stop}
-use Rattle.avs_meaning.specs.declared.stop.Stop.TheVariants as s
+use Rattle.avs_meaning.specs.declared.stop.ScriptStop.{ScriptStop}
+use Rattle.avs_meaning.specs.declared.stop.ScriptStop.TheVariants as s
 use Rattle.avs_state.specs.Sources.{sources_of}
 use Rattle.avs_eval.specs.declared.error.EvalError.{EvalError}
 use Rattle.avs_eval.specs.declared.error.EvalError.TheVariants as e
@@ -25,7 +25,7 @@ IsRefusal _ = ⊥
 abbrev pub Names : ScriptKind → Text → ℕ → Fault → Type 0
 Names kind name line fault = (fault ≡ script kind name line) ⊎ (IsRefusal kind × (fault ≡ refused name))
 
-abbrev pub error_of : Stop → EvalError
+abbrev pub error_of : ScriptStop → EvalError
 error_of (s.Fault kind name line) = e.Fault kind name line
 error_of (s.Refused name true line) = e.Fault k.NestLimit name line
 error_of (s.Refused name false line) = e.Fault k.Syntax name line

@@ -18,7 +18,7 @@ use crate::walker::Walker;
 use avs_calls::{
     Callee, callee_of, filter, fit_callee, parameters, plain, prefetch, ranged, set_mode, told,
 };
-use avs_meaning::{Builtin, ScriptKind, Stop, Table, Variable};
+use avs_meaning::{Builtin, ScriptKind, ScriptStop, Table, Variable};
 use avs_state::{ByName, Definition, Host, HostFault, Machine};
 use avs_tree::Statement;
 use avs_values::{Bound, Given, Value};
@@ -29,7 +29,7 @@ use std::alloc::{AllocError, Global};
 impl<
     't,
     H: Host,
-    F: Fn(Global, &Table, &mut Machine, &mut H, u32, &Text, &[Statement]) -> Result<Value, Stop>,
+    F: Fn(Global, &Table, &mut Machine, &mut H, u32, &Text, &[Statement]) -> Result<Value, ScriptStop>,
 > Walker<'t, H, F> {
     // Opens the clip of a file.
     fn open(
@@ -38,19 +38,19 @@ impl<
         host: &mut H,
         name: &Text,
         line: u32,
-    ) -> Result<Value, Stop>
+    ) -> Result<Value, ScriptStop>
         ensures told { Told H.told (λ v. v) (f.open_by self.now.here.now (H.clips name.now) name.now line)
             machine.old result machine.new }
         ensures kept { Keeps H.Host machine.old host.old result machine.new host.new }
     {
         match host.clip(name) {
             Ok(info) => machine.add_source(self.alloc, name, info, self.here, line),
-            Err(HostFault::Input(fault)) => Err(Stop::Input {
+            Err(HostFault::Input(fault)) => Err(ScriptStop::Input {
                 name: Text::from_str(self.alloc, name.as_str())?,
                 fault,
             }),
-            Err(HostFault::Read) => Err(Stop::Read),
-            Err(HostFault::Memory) => Err(Stop::Memory),
+            Err(HostFault::Read) => Err(ScriptStop::Read),
+            Err(HostFault::Memory) => Err(ScriptStop::Memory),
             Err(HostFault::Script(kind)) => Err(self.fault(ScriptKind::File(kind), line)),
         }
     }
@@ -62,7 +62,7 @@ impl<
         host: &mut H,
         values: &[Value],
         line: u32,
-    ) -> Result<Value, Stop>
+    ) -> Result<Value, ScriptStop>
         ensures told { Told H.told (λ v. v)
             (f.open_source self.now.here.now (outside_by H.clips H.scripts) values.now line)
             machine.old result machine.new }
@@ -81,7 +81,7 @@ impl<
         host: &mut H,
         definition: &Definition,
         env: ByName<Variable>,
-    ) -> Result<Value, Stop>
+    ) -> Result<Value, ScriptStop>
         requires deeper { Deeper H.Host self.now.depth F.Fn self.now.run }
         requires room { 0 < self.now.depth }
         ensures told { Told H.told (λ v. v) (r.inside H.clips H.scripts self.now.depth (defined_view definition.now)
@@ -103,7 +103,7 @@ impl<
         signature: usize,
         given: &Bound,
         line: u32,
-    ) -> Result<Value, Stop>
+    ) -> Result<Value, ScriptStop>
         ensures told { Told H.told (λ v. v) (f.filtered self.now.here.now (outside_by H.clips H.scripts) applied
             signature (bound_view given.now) line) machine.old result machine.new }
         ensures kept { Keeps H.Host machine.old host.old result machine.new host.new }
@@ -125,7 +125,7 @@ impl<
         signature: usize,
         given: &Bound,
         line: u32,
-    ) -> Result<Value, Stop>
+    ) -> Result<Value, ScriptStop>
         requires deeper { Deeper H.Host self.now.depth F.Fn self.now.run }
         requires other { builtin ≡ Builtin.ApplyRange → ⊥ }
         ensures told { Told H.told (λ v. v) (r.applied H.clips H.scripts self.now.depth (c.builtin builtin) signature
@@ -166,7 +166,7 @@ impl<
         signature: usize,
         given: &Bound,
         line: u32,
-    ) -> Result<Value, Stop>
+    ) -> Result<Value, ScriptStop>
         requires deeper { Deeper H.Host self.now.depth F.Fn self.now.run }
         requires other { callee_view callee.now ≡ c.builtin Builtin.ApplyRange → ⊥ }
         ensures told { Told H.told (λ v. v) (r.applied H.clips H.scripts self.now.depth (callee_view callee.now)
@@ -193,7 +193,7 @@ impl<
         machine: &Machine,
         name: &Text,
         line: u32,
-    ) -> Result<Callee<'t>, Stop>
+    ) -> Result<Callee<'t>, ScriptStop>
         ensures { Gives callee_view (e.called self.now.here.now name.now line (state_of machine.now)) result
             (state_of machine.now) }
     {
@@ -212,7 +212,7 @@ impl<
         host: &mut H,
         given: &Bound,
         line: u32,
-    ) -> Result<Value, Stop>
+    ) -> Result<Value, ScriptStop>
         requires deeper { Deeper H.Host self.now.depth F.Fn self.now.run }
         ensures told { Told H.told (λ v. v) (r.ranged_by H.clips H.scripts self.now.depth given.now.values.items
             given.now.rest.items self.now.here.now line) machine.old result machine.new }
@@ -249,7 +249,7 @@ impl<
         args: Vec<Given>,
         last: Option<Value>,
         line: u32,
-    ) -> Result<Value, Stop>
+    ) -> Result<Value, ScriptStop>
         requires deeper { Deeper H.Host self.now.depth F.Fn self.now.run }
         ensures told { Told H.told (λ v. v) (r.apply H.clips H.scripts self.now.depth (callee_view callee.now)
             args.items last self.now.here.now line) machine.old result machine.new }
@@ -274,7 +274,7 @@ impl<
         callee: &Callee<'_>,
         args: Vec<Given>,
         line: u32,
-    ) -> Result<Value, Stop>
+    ) -> Result<Value, ScriptStop>
         requires deeper { Deeper H.Host self.now.depth F.Fn self.now.run }
         ensures told { Told H.told (λ v. v) (r.apply_last H.clips H.scripts self.now.depth self.now.here.now
             (callee_view callee.now) args.items line) machine.old result machine.new }
@@ -292,7 +292,7 @@ impl<
         host: &mut H,
         name: &Text,
         line: u32,
-    ) -> Result<Value, Stop>
+    ) -> Result<Value, ScriptStop>
         requires deeper { Deeper H.Host self.now.depth F.Fn self.now.run }
         ensures told { Told H.told (λ v. v)
             (r.value_of H.clips H.scripts self.now.depth self.now.here.now (t.name name.now line))

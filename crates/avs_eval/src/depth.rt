@@ -6,7 +6,7 @@ ghost use Rattle.avs_eval.specs.OutsideBy.{outside_by};
 ghost use Rattle.avs_eval.specs.Walks.{Keeps};
 
 use crate::walker::Walker;
-use avs_meaning::{Stop, Table};
+use avs_meaning::{ScriptStop, Table};
 use avs_state::{Host, Machine};
 use avs_tree::Statement;
 use avs_values::Value;
@@ -23,7 +23,7 @@ pub(crate) fn run<H: Host>(
     depth: u32,
     here: &Text,
     body: &[Statement],
-) -> Result<Value, Stop>
+) -> Result<Value, ScriptStop>
     ensures told { Told H.told (λ x. x) (m.run (outside_by H.clips H.scripts) depth here.now (block_view body.now))
         machine.old result machine.new }
     ensures kept { Keeps H.Host machine.old host.old result machine.new host.new }

@@ -1,7 +1,7 @@
 // Why a script has no clip.
 ghost use Rattle.std.specs.Prelude.{◌≡◌};
 
-use avs_meaning::{InputFault, ScriptKind, Stop};
+use avs_meaning::{InputFault, ScriptKind, ScriptStop};
 use fv_io::Text;
 use std::alloc::AllocError;
 
@@ -26,16 +26,16 @@ pub enum EvalError {
     Memory,
 }
 
-impl From<Stop> for EvalError {
+impl From<ScriptStop> for EvalError {
     ghost use Rattle.std.specs.Prelude.{◌≡◌};
     ghost use Rattle.avs_eval.specs.Evaluates.{error_of};
 
     ghost from_gives = { λ stop error. error ≡ error_of stop };
 
-    fn from(stop: Stop) -> EvalError {
+    fn from(stop: ScriptStop) -> EvalError {
         match stop {
-            Stop::Fault { kind, name, line } => EvalError::Fault { kind, name, line },
-            Stop::Refused {
+            ScriptStop::Fault { kind, name, line } => EvalError::Fault { kind, name, line },
+            ScriptStop::Refused {
                 name,
                 nests: true,
                 line,
@@ -44,7 +44,7 @@ impl From<Stop> for EvalError {
                 name,
                 line,
             },
-            Stop::Refused {
+            ScriptStop::Refused {
                 name,
                 nests: false,
                 line,
@@ -53,9 +53,9 @@ impl From<Stop> for EvalError {
                 name,
                 line,
             },
-            Stop::Input { name, fault } => EvalError::Input { name, fault },
-            Stop::Read => EvalError::Read,
-            Stop::Memory => EvalError::Memory,
+            ScriptStop::Input { name, fault } => EvalError::Input { name, fault },
+            ScriptStop::Read => EvalError::Read,
+            ScriptStop::Memory => EvalError::Memory,
         }
     }
 }

@@ -13,7 +13,7 @@ ghost use Rattle.avs_eval.specs.Walks.{Keeps};
 use crate::depth::run;
 use crate::error::EvalError;
 use crate::texts::load_body;
-use avs_meaning::{Crew, ScriptKind, Stop, Table};
+use avs_meaning::{Crew, ScriptKind, ScriptStop, Table};
 use avs_state::{Host, Machine, fault_at};
 use avs_tree::Statement;
 use avs_values::Value;
@@ -39,7 +39,7 @@ fn clip_of(
     value: Value,
     name: &Text,
     line: u32,
-) -> Result<u32, Stop>
+) -> Result<u32, ScriptStop>
     ensures gives { Gives (λ i. i) (clip_or_not name.now line value (state_of machine.now)) result
         (state_of machine.now) }
     ensures inside { IfOk result (λ i. i < length (state_of machine.now).plan) }
@@ -61,7 +61,7 @@ fn clip_of_run<H: Host>(
     name: &Text,
     statements: &[Statement],
     last_line: u32,
-) -> Result<u32, Stop>
+) -> Result<u32, ScriptStop>
     ensures told { Told H.told (λ i. i) (to_clip (outside_by H.clips H.scripts) name.now (block_view statements.now)
         last_line) machine.old result machine.new }
     ensures kept { Keeps H.Host machine.old host.old result machine.new host.new }
@@ -79,7 +79,7 @@ fn execute<H: Host>(
     host: &mut H,
     name: &Text,
     text: &Text,
-) -> Result<u32, Stop>
+) -> Result<u32, ScriptStop>
     requires { length text.now ≤ text_limit }
     ensures told { Told H.told (λ i. i) (executed (outside_by H.clips H.scripts) name.now text.now)
         machine.old result machine.new }

@@ -8,7 +8,7 @@ ghost use Rattle.avs_eval.specs.Walks.{Deeper, Keeps};
 
 use crate::walker::Walker;
 use avs_calls::{combined, compared, prefixed, truth};
-use avs_meaning::{Stop, Table};
+use avs_meaning::{ScriptStop, Table};
 use avs_state::{Host, Machine};
 use avs_tree::{Arg, Expr, MethodCall, Operator, Statement, Step};
 use avs_values::{Given, UnaryOp, Value};
@@ -18,7 +18,7 @@ use std::alloc::{AllocError, Global};
 impl<
     't,
     H: Host,
-    F: Fn(Global, &Table, &mut Machine, &mut H, u32, &Text, &[Statement]) -> Result<Value, Stop>,
+    F: Fn(Global, &Table, &mut Machine, &mut H, u32, &Text, &[Statement]) -> Result<Value, ScriptStop>,
 > Walker<'t, H, F> {
     /// The value of an expression.
     #[cycle(expressions)]
@@ -27,7 +27,7 @@ impl<
         machine: &mut Machine,
         host: &mut H,
         e: &Expr,
-    ) -> Result<Value, Stop>
+    ) -> Result<Value, ScriptStop>
         requires deeper { Deeper H.Host self.now.depth F.Fn self.now.run }
         ensures told { Told H.told (λ v. v)
             (r.value_of H.clips H.scripts self.now.depth self.now.here.now (expr_view e.now))
@@ -92,7 +92,7 @@ impl<
         name: &Text,
         args: &[Arg],
         line: u32,
-    ) -> Result<Value, Stop>
+    ) -> Result<Value, ScriptStop>
         requires deeper { Deeper H.Host self.now.depth F.Fn self.now.run }
         ensures told { Told H.told (λ v. v) (r.value_of H.clips H.scripts self.now.depth self.now.here.now
             (t.call name.now (args_of (map arg_view args.now)) line)) machine.old result machine.new }
@@ -112,7 +112,7 @@ impl<
         host: &mut H,
         args: &[Arg],
         mut given: Vec<Given>,
-    ) -> Result<Vec<Given>, Stop>
+    ) -> Result<Vec<Given>, ScriptStop>
         requires deeper { Deeper H.Host self.now.depth F.Fn self.now.run }
         ensures told { Told H.told (λ v. v.items) (r.givens_of H.clips H.scripts self.now.depth self.now.here.now
             (args_of (map arg_view args.now)) given.items) machine.old result machine.new }
@@ -138,7 +138,7 @@ impl<
         host: &mut H,
         calls: &[MethodCall],
         first: Value,
-    ) -> Result<Value, Stop>
+    ) -> Result<Value, ScriptStop>
         requires deeper { Deeper H.Host self.now.depth F.Fn self.now.run }
         ensures told { Told H.told (λ v. v) (r.calls_from H.clips H.scripts self.now.depth self.now.here.now
             (method_calls_of (map method_call_view calls.now)) first) machine.old result machine.new }
@@ -158,7 +158,7 @@ impl<
         host: &mut H,
         call: &MethodCall,
         first: Value,
-    ) -> Result<Value, Stop>
+    ) -> Result<Value, ScriptStop>
         requires deeper { Deeper H.Host self.now.depth F.Fn self.now.run }
         ensures told { Told H.told (λ v. v) (r.calls_from H.clips H.scripts self.now.depth self.now.here.now
             (method_calls_of (method_call_view call.now ∷ [])) first) machine.old result machine.new }
@@ -188,7 +188,7 @@ impl<
         host: &mut H,
         steps: &[Step],
         first: Value,
-    ) -> Result<Value, Stop>
+    ) -> Result<Value, ScriptStop>
         requires deeper { Deeper H.Host self.now.depth F.Fn self.now.run }
         ensures told { Told H.told (λ v. v) (r.steps_from H.clips H.scripts self.now.depth self.now.here.now
             (steps_of (map step_view steps.now)) first) machine.old result machine.new }
@@ -211,7 +211,7 @@ impl<
         op: Operator,
         line: u32,
         first: Value,
-    ) -> Result<Value, Stop>
+    ) -> Result<Value, ScriptStop>
         requires deeper { Deeper H.Host self.now.depth F.Fn self.now.run }
         ensures told { Told H.told (λ v. v) (r.joined H.clips H.scripts self.now.depth self.now.here.now op line
             (expr_view operand.now) first) machine.old result machine.new }
@@ -245,7 +245,7 @@ impl<
         host: &mut H,
         operand: &Expr,
         line: u32,
-    ) -> Result<Value, Stop>
+    ) -> Result<Value, ScriptStop>
         requires deeper { Deeper H.Host self.now.depth F.Fn self.now.run }
         ensures told { Told H.told (λ v. v) (r.truth_of H.clips H.scripts self.now.depth self.now.here.now line
             (expr_view operand.now)) machine.old result machine.new }

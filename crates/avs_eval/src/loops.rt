@@ -11,7 +11,7 @@ ghost use Rattle.avs_eval.specs.At as r;
 
 use crate::walker::Walker;
 use avs_calls::truth;
-use avs_meaning::{ScriptKind, Stop, Table};
+use avs_meaning::{ScriptKind, ScriptStop, Table};
 use avs_state::{Host, Machine, fault_at};
 use avs_tree::{Expr, Statement};
 use avs_values::Value;
@@ -39,7 +39,7 @@ fn read_number(
     name: &Text,
     here: &Text,
     line: u32,
-) -> Result<i32, Stop>
+) -> Result<i32, ScriptStop>
     ensures { Gives (λ n. n) (l.read_number here.now name.now line (state_of machine.now)) result
         (state_of machine.now) }
 {
@@ -57,7 +57,7 @@ pub(crate) fn advance(
     step: i32,
     here: &Text,
     line: u32,
-) -> Result<Option<i32>, Stop>
+) -> Result<Option<i32>, ScriptStop>
     ensures gives { Gives (λ n. n) (l.advance here.now name.now step line (state_of machine.old)) result
         (state_of machine.new) }
     ensures opened { (state_of machine.new).opened ≡ (state_of machine.old).opened }
@@ -79,7 +79,7 @@ fn numbers(
     step: &Value,
     here: &Text,
     line: u32,
-) -> Result<(i32, i32, i32), Stop>
+) -> Result<(i32, i32, i32), ScriptStop>
     ensures { Answers (λ n. n) (l.numbers here.now line first.now last.now step.now) result }
 {
     match (first, last, step) {
@@ -96,7 +96,7 @@ fn numbers(
 impl<
     't,
     H: Host,
-    F: Fn(Global, &Table, &mut Machine, &mut H, u32, &Text, &[Statement]) -> Result<Value, Stop>,
+    F: Fn(Global, &Table, &mut Machine, &mut H, u32, &Text, &[Statement]) -> Result<Value, ScriptStop>,
 > Walker<'t, H, F> {
     /// Whether a condition holds.
     pub(crate) fn condition(
@@ -105,7 +105,7 @@ impl<
         host: &mut H,
         e: &Expr,
         line: u32,
-    ) -> Result<bool, Stop>
+    ) -> Result<bool, ScriptStop>
         requires deeper { Deeper H.Host self.now.depth F.Fn self.now.run }
         ensures told { Told H.told (λ b. b)
             (r.condition H.clips H.scripts self.now.depth self.now.here.now (expr_view e.now) line)
@@ -122,7 +122,7 @@ impl<
         machine: &mut Machine,
         host: &mut H,
         step: &Option<Expr>,
-    ) -> Result<Value, Stop>
+    ) -> Result<Value, ScriptStop>
         requires deeper { Deeper H.Host self.now.depth F.Fn self.now.run }
         ensures told { Told H.told (λ x. x) (r.step_of H.clips H.scripts self.now.depth self.now.here.now
             (option_map expr_view step.now)) machine.old result machine.new }
@@ -143,7 +143,7 @@ impl<
         last: &Expr,
         step: &Option<Expr>,
         line: u32,
-    ) -> Result<(i32, i32, i32), Stop>
+    ) -> Result<(i32, i32, i32), ScriptStop>
         requires deeper { Deeper H.Host self.now.depth F.Fn self.now.run }
         ensures told { Told H.told (λ n. n) (r.bounds H.clips H.scripts self.now.depth self.now.here.now (expr_view
             first.now) (expr_view last.now) (option_map expr_view step.now) line) machine.old result machine.new }

@@ -14,7 +14,7 @@ ghost use Rattle.avs_eval.specs.Flows.{flow_view, turn_view};
 use crate::flow::{Counter, Flow, Turn};
 use crate::loops::{advance, is_past};
 use crate::walker::Walker;
-use avs_meaning::{ScriptKind, Stop, Table};
+use avs_meaning::{ScriptKind, ScriptStop, Table};
 use avs_state::{Host, Machine};
 use avs_tree::{Arm, Expr, Statement, StatementKind};
 use avs_values::Value;
@@ -22,7 +22,7 @@ use fv_io::Text;
 use std::alloc::{AllocError, Global};
 
 // A clip becomes `last`.
-fn sets_last(alloc: Global, machine: &mut Machine, value: Value) -> Result<Flow, Stop>
+fn sets_last(alloc: Global, machine: &mut Machine, value: Value) -> Result<Flow, ScriptStop>
     ensures gives { Gives flow_view (m.sets_last value (state_of machine.old)) result (state_of machine.new) }
     ensures opened { (state_of machine.new).opened ≡ (state_of machine.old).opened }
     ensures sources { OnOk result (sources_of (state_of machine.new).plan ≡ sources_of (state_of machine.old).plan) }
@@ -36,7 +36,7 @@ fn sets_last(alloc: Global, machine: &mut Machine, value: Value) -> Result<Flow,
 }
 
 // The value of the final statement, or else `last`.
-fn settled(alloc: Global, machine: &Machine, value: Value) -> Result<Value, Stop>
+fn settled(alloc: Global, machine: &Machine, value: Value) -> Result<Value, ScriptStop>
     ensures { Gives (λ x. x) (m.settled value (state_of machine.now)) result (state_of machine.now) }
 {
     if !value.is_undefined() {
@@ -52,7 +52,7 @@ fn settled(alloc: Global, machine: &Machine, value: Value) -> Result<Value, Stop
 impl<
     't,
     H: Host,
-    F: Fn(Global, &Table, &mut Machine, &mut H, u32, &Text, &[Statement]) -> Result<Value, Stop>,
+    F: Fn(Global, &Table, &mut Machine, &mut H, u32, &Text, &[Statement]) -> Result<Value, ScriptStop>,
 > Walker<'t, H, F> {
     #[cycle(statements)]
     #[tactic(auto, using(crate::proofs::Rows::trees))]
@@ -62,7 +62,7 @@ impl<
         host: &mut H,
         kind: &StatementKind,
         line: u32,
-    ) -> Result<Flow, Stop>
+    ) -> Result<Flow, ScriptStop>
         requires deeper { Deeper H.Host self.now.depth F.Fn self.now.run }
         ensures told { Told H.told flow_view (r.effect_of H.clips H.scripts self.now.depth self.now.here.now
             (kind_view kind.now) line) machine.old result machine.new }
@@ -116,7 +116,7 @@ impl<
         host: &mut H,
         arms: &[Arm],
         line: u32,
-    ) -> Result<Option<Flow>, Stop>
+    ) -> Result<Option<Flow>, ScriptStop>
         requires deeper { Deeper H.Host self.now.depth F.Fn self.now.run }
         ensures told { Told H.told (option_map flow_view) (r.arms_of H.clips H.scripts self.now.depth self.now.here.now
             (arms_of (map arm_view arms.now)) line) machine.old result machine.new }
@@ -141,7 +141,7 @@ impl<
         body: &[Statement],
         test: &Expr,
         line: u32,
-    ) -> Result<Flow, Stop>
+    ) -> Result<Flow, ScriptStop>
         requires deeper { Deeper H.Host self.now.depth F.Fn self.now.run }
         ensures told { Told H.told flow_view (r.loop_of H.clips H.scripts self.now.depth self.now.here.now
             (expr_view test.now) line (block_view body.now)) machine.old result machine.new }
@@ -176,7 +176,7 @@ impl<
         last: &Expr,
         step: &Option<Expr>,
         line: u32,
-    ) -> Result<Flow, Stop>
+    ) -> Result<Flow, ScriptStop>
         requires deeper { Deeper H.Host self.now.depth F.Fn self.now.run }
         ensures told { Told H.told flow_view (r.effect_of H.clips H.scripts self.now.depth self.now.here.now (t.for
             name.now (expr_view first.now) (expr_view last.now) (option_map expr_view step.now) (block_view body.now))
@@ -204,7 +204,7 @@ impl<
         name: &Text,
         first: Counter,
         line: u32,
-    ) -> Result<Flow, Stop>
+    ) -> Result<Flow, ScriptStop>
         requires deeper { Deeper H.Host self.now.depth F.Fn self.now.run }
         ensures told { Told H.told flow_view (r.count_of H.clips H.scripts self.now.depth self.now.here.now name.now
             first.at first.last first.step line (block_view body.now)) machine.old result machine.new }
@@ -238,7 +238,7 @@ impl<
         name: &Text,
         counter: &Counter,
         line: u32,
-    ) -> Result<Turn, Stop>
+    ) -> Result<Turn, ScriptStop>
         requires deeper { Deeper H.Host self.now.depth F.Fn self.now.run }
         ensures told { Told H.told turn_view (r.turn H.clips H.scripts self.now.depth self.now.here.now name.now
             counter.now.at counter.now.last counter.now.step line (block_view body.now)) machine.old result machine.new }
@@ -266,7 +266,7 @@ impl<
         machine: &mut Machine,
         host: &mut H,
         statement: &Statement,
-    ) -> Result<Flow, Stop>
+    ) -> Result<Flow, ScriptStop>
         requires deeper { Deeper H.Host self.now.depth F.Fn self.now.run }
         ensures told { Told H.told flow_view (r.statement H.clips H.scripts self.now.depth self.now.here.now
             (statement_view statement.now)) machine.old result machine.new }
@@ -284,7 +284,7 @@ impl<
         machine: &mut Machine,
         host: &mut H,
         body: &[Statement],
-    ) -> Result<Flow, Stop>
+    ) -> Result<Flow, ScriptStop>
         requires deeper { Deeper H.Host self.now.depth F.Fn self.now.run }
         ensures told { Told H.told flow_view (r.block_of H.clips H.scripts self.now.depth self.now.here.now
             (block_view body.now)) machine.old result machine.new }
@@ -306,7 +306,7 @@ impl<
         machine: &mut Machine,
         host: &mut H,
         body: &[Statement],
-    ) -> Result<Value, Stop>
+    ) -> Result<Value, ScriptStop>
         requires deeper { Deeper H.Host self.now.depth F.Fn self.now.run }
         ensures told { Told H.told (λ x. x) (r.body_of H.clips H.scripts self.now.depth self.now.here.now
             (block_view body.now) Value.Undefined) machine.old result machine.new }

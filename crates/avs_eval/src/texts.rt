@@ -15,7 +15,7 @@ ghost use Rattle.avs_eval.specs.Walks.{Deeper, Keeps};
 
 use crate::walker::Walker;
 use avs_parse::{LoadFault, Loaded, load};
-use avs_meaning::{ScriptKind, Stop, Table};
+use avs_meaning::{ScriptKind, ScriptStop, Table};
 use avs_state::{Host, HostFault, Machine, fault_at};
 use avs_tree::{Script, Statement};
 use avs_values::Value;
@@ -33,12 +33,12 @@ pub(crate) struct Body {
 }
 
 // The grammar refuses the text of this name, or it nests too deep.
-fn refused(alloc: Global, here: &Text, nests: bool, line: u32) -> Stop
+fn refused(alloc: Global, here: &Text, nests: bool, line: u32) -> ScriptStop
     ensures { Shows (refused here.now) result }
 {
     match Text::from_str(alloc, here.as_str()) {
-        Ok(name) => Stop::Refused { name, nests, line },
-        Err(_) => Stop::Memory,
+        Ok(name) => ScriptStop::Refused { name, nests, line },
+        Err(_) => ScriptStop::Memory,
     }
 }
 
@@ -49,7 +49,7 @@ pub(crate) fn load_body(
     machine: &mut Machine,
     here: &Text,
     text: &Text,
-) -> Result<Body, Stop>
+) -> Result<Body, ScriptStop>
     requires { length text.now ≤ text_limit }
     ensures gives { Gives body_view (body_by (script_of text.now) here.now (state_of machine.old)) result
         (state_of machine.new) }
@@ -73,14 +73,14 @@ pub(crate) fn load_body(
         }
         Err(LoadFault::Syntax { line }) => Err(refused(alloc, here, false, line)),
         Err(LoadFault::NestLimit { line }) => Err(refused(alloc, here, true, line)),
-        Err(LoadFault::Memory) => Err(Stop::Memory),
+        Err(LoadFault::Memory) => Err(ScriptStop::Memory),
     }
 }
 
 impl<
     't,
     H: Host,
-    F: Fn(Global, &Table, &mut Machine, &mut H, u32, &Text, &[Statement]) -> Result<Value, Stop>,
+    F: Fn(Global, &Table, &mut Machine, &mut H, u32, &Text, &[Statement]) -> Result<Value, ScriptStop>,
 > Walker<'t, H, F> {
     /// Executes statements of the text of this name one call deeper.
     pub(crate) fn deeper(
@@ -89,7 +89,7 @@ impl<
         host: &mut H,
         here: &Text,
         body: &[Statement],
-    ) -> Result<Value, Stop>
+    ) -> Result<Value, ScriptStop>
         requires deeper { Deeper H.Host self.now.depth F.Fn self.now.run }
         requires room { 0 < self.now.depth }
         ensures told { Told H.told (λ v. v) (r.deeper H.clips H.scripts self.now.depth here.now (block_view body.now))
@@ -116,7 +116,7 @@ impl<
         from: &Text,
         text: &Text,
         line: u32,
-    ) -> Result<Value, Stop>
+    ) -> Result<Value, ScriptStop>
         requires deeper { Deeper H.Host self.now.depth F.Fn self.now.run }
         requires room { 0 < self.now.depth }
         ensures told { Told H.told (λ v. v)
@@ -138,7 +138,7 @@ impl<
         host: &mut H,
         text: &Text,
         line: u32,
-    ) -> Result<Value, Stop>
+    ) -> Result<Value, ScriptStop>
         requires deeper { Deeper H.Host self.now.depth F.Fn self.now.run }
         requires room { 0 < self.now.depth }
         ensures told { Told H.told (λ v. v)
@@ -158,7 +158,7 @@ impl<
         host: &mut H,
         text: &Text,
         line: u32,
-    ) -> Result<Value, Stop>
+    ) -> Result<Value, ScriptStop>
         requires deeper { Deeper H.Host self.now.depth F.Fn self.now.run }
         ensures told { Told H.told (λ v. v)
             (r.eval_text H.clips H.scripts self.now.depth self.now.here.now text.now line)
@@ -178,7 +178,7 @@ impl<
         host: &mut H,
         values: &[Value],
         line: u32,
-    ) -> Result<Value, Stop>
+    ) -> Result<Value, ScriptStop>
         requires deeper { Deeper H.Host self.now.depth F.Fn self.now.run }
         ensures told { Told H.told (λ v. v)
             (r.eval H.clips H.scripts self.now.depth self.now.here.now values.now line) machine.old result machine.new }
@@ -191,7 +191,7 @@ impl<
     }
 
     // The text of a script's file.
-    fn script(&self, machine: &Machine, host: &mut H, name: &Text, line: u32) -> Result<Text, Stop>
+    fn script(&self, machine: &Machine, host: &mut H, name: &Text, line: u32) -> Result<Text, ScriptStop>
         ensures told { Told H.told (λ text. text) (e.script_by self.now.here.now (H.scripts name.now) line)
             machine.now result machine.now }
         ensures kept { Keeps H.Host machine.now host.old result machine.now host.new }
@@ -199,9 +199,9 @@ impl<
         match host.script(name) {
             Ok(text) => Ok(text),
             Err(HostFault::Script(kind)) => Err(self.fault(ScriptKind::File(kind), line)),
-            Err(HostFault::Read) => Err(Stop::Read),
-            Err(HostFault::Memory) => Err(Stop::Memory),
-            Err(HostFault::Input(fault)) => Err(Stop::Input {
+            Err(HostFault::Read) => Err(ScriptStop::Read),
+            Err(HostFault::Memory) => Err(ScriptStop::Memory),
+            Err(HostFault::Input(fault)) => Err(ScriptStop::Input {
                 name: Text::from_str(self.alloc, name.as_str())?,
                 fault,
             }),
@@ -215,7 +215,7 @@ impl<
         host: &mut H,
         values: &[Value],
         line: u32,
-    ) -> Result<Value, Stop>
+    ) -> Result<Value, ScriptStop>
         requires deeper { Deeper H.Host self.now.depth F.Fn self.now.run }
         ensures told { Told H.told (λ v. v)
             (r.import_ H.clips H.scripts self.now.depth self.now.here.now values.now line)

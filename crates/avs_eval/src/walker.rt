@@ -1,7 +1,7 @@
 // What a run has in one text.
 ghost use Rattle.avs_meaning.specs.Faults.{Shows, script};
 
-use avs_meaning::{ScriptKind, Stop, Table};
+use avs_meaning::{ScriptKind, ScriptStop, Table};
 use avs_state::fault_at;
 use fv_io::Text;
 use std::alloc::Global;
@@ -24,7 +24,7 @@ pub(crate) struct Walker<'t, H, F> {
 
 impl<'t, H, F> Walker<'t, H, F> {
     /// A fault at a line of the text.
-    pub(crate) fn fault(&self, kind: ScriptKind, line: u32) -> Stop
+    pub(crate) fn fault(&self, kind: ScriptKind, line: u32) -> ScriptStop
         ensures { Shows (script kind self.now.here.now line) result }
     {
         fault_at(self.alloc, kind, self.here, line)

@@ -18,7 +18,7 @@ pub use builtin::{Builtin, ClipFn};
 pub use crew::Crew;
 pub use fault::{FileKind, InputFault, ScriptKind};
 pub use state::{SourceClip, Variable};
-pub use stop::Stop;
+pub use stop::ScriptStop;
 pub use table::{Row, Table};
 pub use takes::signatures;
 

@@ -7,7 +7,7 @@ use std::alloc::{AllocError, AllocFailed};
 
 /// Why there is no value.
 #[derive(Drop, Debug)]
-pub enum Stop {
+pub enum ScriptStop {
     /// A fault at a line of the text of this name.
     Fault {
         kind: ScriptKind,
@@ -31,22 +31,22 @@ pub enum Stop {
     Memory,
 }
 
-impl From<AllocError> for Stop {
-    ghost use Rattle.avs_meaning.specs.declared.stop.Stop.TheVariants.{Memory};
+impl From<AllocError> for ScriptStop {
+    ghost use Rattle.avs_meaning.specs.declared.stop.ScriptStop.TheVariants.{Memory};
 
     ghost from_gives = { λ _ stop. stop ≡ Memory };
 
-    fn from(_: AllocError) -> Stop {
-        Stop::Memory
+    fn from(_: AllocError) -> ScriptStop {
+        ScriptStop::Memory
     }
 }
 
-impl<T: Drop> From<AllocFailed<T>> for Stop {
-    ghost use Rattle.avs_meaning.specs.declared.stop.Stop.TheVariants.{Memory};
+impl<T: Drop> From<AllocFailed<T>> for ScriptStop {
+    ghost use Rattle.avs_meaning.specs.declared.stop.ScriptStop.TheVariants.{Memory};
 
     ghost from_gives = { λ _ stop. stop ≡ Memory };
 
-    fn from(_: AllocFailed<T>) -> Stop {
-        Stop::Memory
+    fn from(_: AllocFailed<T>) -> ScriptStop {
+        ScriptStop::Memory
     }
 }

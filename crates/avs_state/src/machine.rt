@@ -17,7 +17,7 @@ ghost use Rattle.avs_state.specs.States.{state_of, defined_view};
 
 use crate::variables::{set_in, value_in};
 use crate::{ByName, Definition, fault_at};
-use avs_meaning::{Crew, ScriptKind, SourceClip, Stop, Variable};
+use avs_meaning::{Crew, ScriptKind, SourceClip, ScriptStop, Variable};
 use avs_tree::Function;
 use avs_values::Value;
 use clip_check::check;
@@ -107,7 +107,7 @@ impl Machine {
 
     /// Pays a unit for a statement or a turn at a line of the text of this name.
     #[tactic(auto, unfolding(crate::specs::States::state_of))]
-    pub fn spend(&mut self, alloc: Global, here: &Text, line: u32) -> Result<(), Stop>
+    pub fn spend(&mut self, alloc: Global, here: &Text, line: u32) -> Result<(), ScriptStop>
         ensures gives { Gives (λ u. u) (d.spend here.now line (state_of self.old)) result (state_of self.new) }
         ensures opened { (state_of self.new).opened ≡ (state_of self.old).opened }
         ensures sources { OnOk result (sources_of (state_of self.new).plan ≡ sources_of (state_of self.old).plan) }
@@ -147,7 +147,7 @@ impl Machine {
 
     /// Sets a variable of the function that runs.
     #[tactic(auto, unfolding(crate::specs::States::state_of))]
-    pub fn set(&mut self, alloc: Global, name: &Text, value: Value) -> Result<(), Stop>
+    pub fn set(&mut self, alloc: Global, name: &Text, value: Value) -> Result<(), ScriptStop>
         ensures gives { Gives (λ u. u) (d.set name.now value (state_of self.old)) result (state_of self.new) }
         ensures opened { (state_of self.new).opened ≡ (state_of self.old).opened }
         ensures sources { OnOk result (sources_of (state_of self.new).plan ≡ sources_of (state_of self.old).plan) }
@@ -158,7 +158,7 @@ impl Machine {
 
     /// Sets a global variable.
     #[tactic(auto, unfolding(crate::specs::States::state_of))]
-    pub fn set_global(&mut self, alloc: Global, name: &Text, value: Value) -> Result<(), Stop>
+    pub fn set_global(&mut self, alloc: Global, name: &Text, value: Value) -> Result<(), ScriptStop>
         ensures gives { Gives (λ u. u) (d.set_global name.now value (state_of self.old)) result (state_of self.new) }
         ensures opened { (state_of self.new).opened ≡ (state_of self.old).opened }
         ensures sources { OnOk result (sources_of (state_of self.new).plan ≡ sources_of (state_of self.old).plan) }
@@ -190,7 +190,7 @@ impl Machine {
 
     /// Adds a function of the text of this name.
     #[tactic(auto, unfolding(crate::specs::States::state_of), using(crate::proofs::StateLemmas::put_new))]
-    pub fn define(&mut self, alloc: Global, function: Function, here: &Text) -> Result<(), Stop>
+    pub fn define(&mut self, alloc: Global, function: Function, here: &Text) -> Result<(), ScriptStop>
         ensures gives { Gives (λ u. u) (d.define (function_view function) here.now (state_of self.old)) result
             (state_of self.new) }
         ensures opened { (state_of self.new).opened ≡ (state_of self.old).opened }
@@ -215,7 +215,7 @@ impl Machine {
         alloc: Global,
         functions: Vec<Function>,
         here: &Text,
-    ) -> Result<(), Stop>
+    ) -> Result<(), ScriptStop>
         ensures gives { Gives (λ u. u) (d.define_all (map function_view functions.items) here.now (state_of self.old))
             result (state_of self.new) }
         ensures opened { (state_of self.new).opened ≡ (state_of self.old).opened }
@@ -229,7 +229,7 @@ impl Machine {
 
     /// The info of a clip, by its place.
     #[tactic(auto, unfolding(crate::specs::States::state_of), using(crate::proofs::StateLemmas::lawful_at))]
-    pub fn info_of(&self, alloc: Global, i: u32, here: &Text, line: u32) -> Result<Info, Stop>
+    pub fn info_of(&self, alloc: Global, i: u32, here: &Text, line: u32) -> Result<Info, ScriptStop>
         ensures gives { Gives (λ info. info) (f.info_of here.now i line (state_of self.now)) result (state_of self.now)
             }
         ensures lawful { IfOk result IsLawful }
@@ -252,7 +252,7 @@ impl Machine {
         mode: u8,
         here: &Text,
         line: u32,
-    ) -> Result<Value, Stop>
+    ) -> Result<Value, ScriptStop>
         requires places { All (λ i. i < length (state_of self.old).plan) inputs.now }
         requires sound { IsSound (act_of op) (length inputs.now) }
         requires told { check (act_of op) (infos_among (state_of self.old).plan inputs.now) ≡ Ok info }
@@ -268,7 +268,7 @@ impl Machine {
             Ok(place) => Ok(Value::Clip(place)),
             Err(GraphFault::NodeLimit) => Err(fault_at(alloc, ScriptKind::NodeLimit, here, line)),
             Err(GraphFault::DepthLimit) => Err(fault_at(alloc, ScriptKind::DepthLimit, here, line)),
-            Err(GraphFault::Memory) => Err(Stop::Memory),
+            Err(GraphFault::Memory) => Err(ScriptStop::Memory),
         }
     }
 
@@ -282,7 +282,7 @@ impl Machine {
         inputs: &[u32],
         here: &Text,
         line: u32,
-    ) -> Result<Value, Stop>
+    ) -> Result<Value, ScriptStop>
         requires sound { IsSound (act_of op) (length inputs.now) }
         requires counted { IsCounted (act_of op) (sources_in (state_of self.old).plan)
             (mode_in (state_of self.old).modes filter) }
@@ -315,7 +315,7 @@ impl Machine {
         force: bool,
         here: &Text,
         line: u32,
-    ) -> Result<Value, Stop>
+    ) -> Result<Value, ScriptStop>
         ensures gives { Gives (λ v. v) (w.set_mode_of here.now name.now mode force line (state_of self.old)) result
             (state_of self.new) }
         ensures opened { (state_of self.new).opened ≡ (state_of self.old).opened }
@@ -326,7 +326,7 @@ impl Machine {
             Err(ModeFault::ModeRefused) => {
                 Err(fault_at(alloc, ScriptKind::ModeRefused, here, line))
             }
-            Err(ModeFault::Memory) => Err(Stop::Memory),
+            Err(ModeFault::Memory) => Err(ScriptStop::Memory),
         }
     }
 
@@ -358,7 +358,7 @@ impl Machine {
         info: Info,
         here: &Text,
         line: u32,
-    ) -> Result<Value, Stop>
+    ) -> Result<Value, ScriptStop>
         requires lawful { IsLawful info }
         ensures gives { Gives (λ v. v) (f.open_by here.now (Ok info) name.now line (state_of self.old)) result
             (state_of self.new) }

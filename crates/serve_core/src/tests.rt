@@ -5,7 +5,7 @@ ghost use Rattle.inst_table.specs.declared.place.Slot.TheVariants.{Free};
 ghost use Rattle.inst_table.specs.Places.{place_at};
 ghost use Rattle.serve_core.specs.Calls.{made};
 
-use crate::{Admitted, Ask, Core, Event, Stop, laws};
+use crate::{Admitted, Ask, Core, Event, WindowStop, laws};
 use clip_graph::Graph;
 use clip_term::Op;
 use frame_cache::FrameCache;
@@ -106,14 +106,14 @@ fn a_stop_ends_a_window(rt: HostRuntime) -> Result<(), Fail> {
     laws::calls_stand::<Untold>();
     let mut core = over_a_source(rt.alloc())?;
     core.begin_window(0, 2)?;
-    core.fail(1, Stop::Memory);
+    core.fail(1, WindowStop::Memory);
     assert_eq!(rt; core.take_output(0)?, None);
     let finished = core.end_window();
-    assert_eq!(rt; finished.stop, Some(Stop::Memory));
+    assert_eq!(rt; finished.stop, Some(WindowStop::Memory));
     assert!(rt; finished.frames.iter().all(|frame| frame.is_none()));
     let events = [Event::Fail {
         worker: 1,
-        stop: Stop::Memory,
+        stop: WindowStop::Memory,
     }];
     assert_eq!(rt; finished.events.as_slice(), events.as_slice());
     let mut table = core.into_table();

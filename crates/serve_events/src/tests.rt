@@ -1,4 +1,4 @@
-use crate::{Event, Record, Stop, Windowed, instance_for};
+use crate::{Event, Record, WindowStop, Windowed, instance_for};
 use fv_plane::Key;
 
 // An event is small, since a journal holds millions.
@@ -11,7 +11,7 @@ fn an_event_is_small(rt: HostRuntime) {
 #[test]
 fn says_what_it_is_about(rt: HostRuntime) {
     let key = Key { node: 4, n: 9 };
-    let stop = Stop::Changed {
+    let stop = WindowStop::Changed {
         node: 3,
         frame: 2,
         want: 64,
@@ -40,7 +40,7 @@ fn says_what_it_is_about(rt: HostRuntime) {
     }
     assert_eq!(rt; (instance_for(3, 7), instance_for(2, 7)), (0, 7));
     assert_eq!(rt; stop.source(), Some(3));
-    assert_eq!(rt; Stop::Memory.source(), None);
+    assert_eq!(rt; WindowStop::Memory.source(), None);
 }
 
 // A record keeps its windows in their order.

@@ -15,7 +15,7 @@ use fv_plane::{Info, Key};
 use inst_table::InstTable;
 use seq_source::SeqSource;
 use serve_core::{Core, Finished};
-use serve_events::{Event, Stop};
+use serve_events::{Event, WindowStop};
 use std::alloc::Global;
 use std::sync::Arc;
 use std::test::Fail;
@@ -127,7 +127,7 @@ fn makes_what_is_claimed(rt: HostRuntime) -> Result<(), Fail> {
 fn gives_up_what_it_claimed(rt: HostRuntime) -> Result<(), Fail> {
     let worker = 0;
     let (node, instance) = (0, 0);
-    let stop = Stop::Read { node };
+    let stop = WindowStop::Read { node };
     let trip = Trip::Read {
         rewinds: 1,
         place: 50,
