@@ -1,11 +1,10 @@
 -- A script's run, by its parts.
-use Rattle.std.proofs.Common.{◌≡◌, ◌∙◌, ap, refl, inl, inr, ℕ, true, false, Result, Ok, Err}
+use Rattle.std.proofs.Common.{◌≡◌, ◌∙◌, ap, ℕ, Result, Ok, Err}
 use Rattle.fv_plane.specs.declared.format.Info.{Info}
 use Rattle.avs_tree.specs.Tree.{Block}
 use Rattle.avs_values.specs.Values.{Text}
 use Rattle.avs_values.specs.declared.value.Value.{Value}
 use Rattle.avs_parse.specs.Load.{script_of}
-use Rattle.avs_meaning.specs.Faults.{script, refused, input}
 use Rattle.avs_meaning.specs.Meaning.{run, call_limit, clip_or_not, to_clip, executed, meaning_by}
 use Rattle.avs_meaning.specs.Outside.{Outside}
 use Rattle.avs_meaning.specs.State.{State, Outcome, Run, and_then}
@@ -19,7 +18,7 @@ use Rattle.avs_eval.specs.OutsideBy.{outside_by}
 use Rattle.avs_eval.proofs.BodyLemmas.{loaded_then}
 use Rattle.avs_eval.proofs.Failures.{also_fails, first_fails, then_fails}
 use Rattle.avs_eval.specs.Bodies.{body_by}
-use Rattle.avs_eval.specs.Evaluates.{Evaluates, error_of}
+use Rattle.avs_eval.specs.Evaluates.{Evaluates}
 
 module _ (outside : Outside) (here : Text) where
   -- where the statements fail, there is no clip
@@ -57,11 +56,10 @@ module _ (clips : Text → Result Info InputFault) (scripts : Text → Result Te
 
 -- ---- the answer
 
--- what a stop shows of a run is what its error tells
-pub error_shows : (outcome : Outcome ℕ) (stop : ScriptStop) → Fails outcome stop → Evaluates (meaning_by outcome) (Err (error_of stop))
-error_shows outcome (e.Fault kind name line) h = (script kind name line, (inl refl, ap meaning_by h))
-error_shows outcome (e.Refused name true line) h = (refused name, (inr (tt, refl), ap meaning_by h))
-error_shows outcome (e.Refused name false line) h = (refused name, (inr (tt, refl), ap meaning_by h))
-error_shows outcome (e.Input name why) h = ap meaning_by h
-error_shows outcome e.Read h = tt
-error_shows outcome e.Memory h = tt
+-- what a stop shows of a run is what it tells of the script
+pub stop_shows : (outcome : Outcome ℕ) (stop : ScriptStop) → Fails outcome stop → Evaluates (meaning_by outcome) (Err stop)
+stop_shows outcome (e.Fault kind name line) h = ap meaning_by h
+stop_shows outcome (e.Refused name nests line) h = ap meaning_by h
+stop_shows outcome (e.Input name why) h = ap meaning_by h
+stop_shows outcome e.Read h = tt
+stop_shows outcome e.Memory h = tt

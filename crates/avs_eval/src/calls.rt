@@ -29,7 +29,15 @@ use std::alloc::{AllocError, Global};
 impl<
     't,
     H: Host,
-    F: Fn(Global, &Table, &mut Machine, &mut H, u32, &Text, &[Statement]) -> Result<Value, ScriptStop>,
+    F: Fn(
+        Global,
+        &Table,
+        &mut Machine,
+        &mut H,
+        u32,
+        &Text,
+        &[Statement],
+    ) -> Result<Value, ScriptStop>,
 > Walker<'t, H, F> {
     // Opens the clip of a file.
     fn open(

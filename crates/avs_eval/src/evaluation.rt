@@ -11,7 +11,6 @@ ghost use Rattle.avs_eval.specs.Evaluates.{Evaluates, Opens, FailedRead};
 ghost use Rattle.avs_eval.specs.Walks.{Keeps};
 
 use crate::depth::run;
-use crate::error::EvalError;
 use crate::texts::load_body;
 use avs_meaning::{Crew, ScriptKind, ScriptStop, Table};
 use avs_state::{Host, Machine, fault_at};
@@ -106,7 +105,7 @@ pub fn eval<H: Host>(
     host: &mut H,
     name: &Text,
     text: &Text,
-) -> Result<Opened, EvalError>
+) -> Result<Opened, ScriptStop>
     requires short { length text.now ≤ text_limit }
     requires none { H.opened host.old ≡ [] }
     // Where the host tells its files, the answer is the script's meaning there.

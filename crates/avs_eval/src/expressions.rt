@@ -18,7 +18,15 @@ use std::alloc::{AllocError, Global};
 impl<
     't,
     H: Host,
-    F: Fn(Global, &Table, &mut Machine, &mut H, u32, &Text, &[Statement]) -> Result<Value, ScriptStop>,
+    F: Fn(
+        Global,
+        &Table,
+        &mut Machine,
+        &mut H,
+        u32,
+        &Text,
+        &[Statement],
+    ) -> Result<Value, ScriptStop>,
 > Walker<'t, H, F> {
     /// The value of an expression.
     #[cycle(expressions)]

@@ -10,7 +10,6 @@
 
 mod calls;
 mod depth;
-mod error;
 mod evaluation;
 mod expressions;
 mod flow;
@@ -20,5 +19,4 @@ mod statements;
 mod texts;
 mod walker;
 
-pub use error::EvalError;
 pub use evaluation::{Opened, eval};

@@ -52,7 +52,15 @@ fn settled(alloc: Global, machine: &Machine, value: Value) -> Result<Value, Scri
 impl<
     't,
     H: Host,
-    F: Fn(Global, &Table, &mut Machine, &mut H, u32, &Text, &[Statement]) -> Result<Value, ScriptStop>,
+    F: Fn(
+        Global,
+        &Table,
+        &mut Machine,
+        &mut H,
+        u32,
+        &Text,
+        &[Statement],
+    ) -> Result<Value, ScriptStop>,
 > Walker<'t, H, F> {
     #[cycle(statements)]
     #[tactic(auto, using(crate::proofs::Rows::trees))]

@@ -14,8 +14,8 @@ ghost use Rattle.avs_eval.specs.Bodies.{body_by, body_view};
 ghost use Rattle.avs_eval.specs.Walks.{Deeper, Keeps};
 
 use crate::walker::Walker;
-use avs_parse::{LoadFault, Loaded, load};
 use avs_meaning::{ScriptKind, ScriptStop, Table};
+use avs_parse::{LoadFault, Loaded, load};
 use avs_state::{Host, HostFault, Machine, fault_at};
 use avs_tree::{Script, Statement};
 use avs_values::Value;
@@ -80,7 +80,15 @@ pub(crate) fn load_body(
 impl<
     't,
     H: Host,
-    F: Fn(Global, &Table, &mut Machine, &mut H, u32, &Text, &[Statement]) -> Result<Value, ScriptStop>,
+    F: Fn(
+        Global,
+        &Table,
+        &mut Machine,
+        &mut H,
+        u32,
+        &Text,
+        &[Statement],
+    ) -> Result<Value, ScriptStop>,
 > Walker<'t, H, F> {
     /// Executes statements of the text of this name one call deeper.
     pub(crate) fn deeper(
@@ -191,7 +199,13 @@ impl<
     }
 
     // The text of a script's file.
-    fn script(&self, machine: &Machine, host: &mut H, name: &Text, line: u32) -> Result<Text, ScriptStop>
+    fn script(
+        &self,
+        machine: &Machine,
+        host: &mut H,
+        name: &Text,
+        line: u32,
+    ) -> Result<Text, ScriptStop>
         ensures told { Told H.told (λ text. text) (e.script_by self.now.here.now (H.scripts name.now) line)
             machine.now result machine.now }
         ensures kept { Keeps H.Host machine.now host.old result machine.now host.new }

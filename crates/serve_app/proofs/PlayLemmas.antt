@@ -29,18 +29,19 @@ use Rattle.serve_events.specs.declared.windows.Record.{Record}
 use Rattle.serve_events.specs.Keys.{frame_key}
 use Rattle.serve_core.specs.Sources.{with_told, all_told}
 use Rattle.prefetch.specs.Clips.{clip_at}
-use Rattle.avs_eval.specs.Evaluates.{Names}
+use Rattle.avs_eval.specs.Evaluates.{Evaluates}
 use Rattle.avs_eval.specs.declared.evaluation.Opened.{Opened}
-use Rattle.avs_meaning.specs.Faults.{Fault, input}
-use Rattle.avs_meaning.specs.declared.fault.InputFault.TheVariants as i
+use Rattle.avs_meaning.specs.Faults.{Fault, script, refused, input}
 use Rattle.avs_meaning.specs.Meaning as m
 use Rattle.avs_meaning.specs.declared.state.SourceClip.{SourceClip}
+use Rattle.avs_meaning.specs.declared.stop.ScriptStop.{ScriptStop}
+use Rattle.avs_meaning.specs.declared.stop.ScriptStop.TheVariants as of_script
 use Rattle.avs_state.specs.Sources.{source_of, sources_of}
 use Rattle.avs_files.specs.Opened.{told_of, IsOpened, AreOpened}
 use Rattle.avs_files.proofs.CallerLemmas.{frames_of, has_clip, infos_listed}
-use Rattle.serve_text.specs.declared.fault.InputFault.TheVariants.{NotThere, Y4m, Changed}
 use Rattle.serve_text.specs.declared.stop.Stop.{Stop}
 use Rattle.serve_text.specs.declared.stop.Stop.TheVariants as of_stop
+use Rattle.serve_text.specs.StopKinds.{stop_of, Names}
 use Rattle.serve_app.specs.Meaning.{meaning_in, HasPictures, IsBookOf, MeansClip}
 use Rattle.serve_app.specs.Info.{IsInfoOf, IsToldInfo, InfoShows}
 use Rattle.serve_app.specs.Clips.{book_told, IsClipOf, SomeFailed, PutsFrames, PutsSome, StreamShows}
@@ -227,9 +228,8 @@ module _ {S : Type 0} (of : of_source.Ghosts S) (told : Bool) (world : World) (s
     pub stream_shown : {I : Type 0} (faults : I → ℕ) (table : List (Place × Slot I)) (failed : Type 0) → (SomeFailed faults table → failed) → (stop : Stop)
         → StreamShows sink plan root (book_told of sources) out put faults table stop → RenderShows failed sink (told_of told world) script out put stop
     stream_shown faults table failed fails (of_stop.Script kind name line) shown = absurd shown
-    stream_shown faults table failed fails (of_stop.Input name NotThere) shown = absurd shown
-    stream_shown faults table failed fails (of_stop.Input name (Y4m fault)) shown = absurd shown
-    stream_shown faults table failed fails (of_stop.Input name (Changed frame want got)) shown = (in_told told world (λ w. ⊥) (none_of shown.0), shown.1)
+    stream_shown faults table failed fails (of_stop.Input name fault) shown = absurd shown
+    stream_shown faults table failed fails (of_stop.Changed name frame want got) shown = (in_told told world (λ w. ⊥) (none_of shown.0), shown.1)
     stream_shown faults table failed fails of_stop.Read shown = (fails shown.0, some_frames shown.1)
     stream_shown faults table failed fails of_stop.Write shown = (shown.0, record { prefix = λ clip is. shown.1 clip (of_script clip is); has_one = has_one })
     stream_shown faults table failed fails of_stop.Memory shown = some_frames shown
@@ -252,17 +252,24 @@ module _ {S : Type 0} (of : of_source.Ghosts S) (told : Bool) (world : World) (s
 
 -- ---- a script without a clip
 
+-- the stop of a script is told as a stop of the render
+pub told_as : (meaning : m.Meaning) (stop : ScriptStop) → Evaluates meaning (Err stop) → Tells meaning (Err (stop_of stop))
+told_as meaning (of_script.Fault kind name line) is = (script kind name line, (inl refl, is))
+told_as meaning (of_script.Refused name true line) is = (refused name, (inr (tt, refl), is))
+told_as meaning (of_script.Refused name false line) is = (refused name, (inr (tt, refl), is))
+told_as meaning (of_script.Input name fault) is = is
+told_as meaning of_script.Read is = tt
+told_as meaning of_script.Memory is = tt
+
 -- what a stop before anything is put shows
 pub before_stops : {K : Type 0} (told : Bool) (world : World) (script : List ℕ) (sink : Ghosts K) (out : K) (failed : Type 0) (before now : ℕ) (stop : Stop)
     → (IsTrue told → Tells (meaning_in world script) (Err stop)) → EndsBefore {X = Opened} before now (Err stop) → (HasRisen before now → failed)
     → RenderShows failed sink (told_of told world) script out out stop
 before_stops told world script sink out failed before now (of_stop.Script kind name line) tells ends fails =
     (in_told told world (λ w. (fault : Fault) × (Names kind name line fault × (meaning_in w script ≡ m.wrong fault))) tells, refl)
-before_stops told world script sink out failed before now (of_stop.Input name NotThere) tells ends fails =
-    (in_told told world (λ w. meaning_in w script ≡ m.wrong (input name i.NotThere)) tells, refl)
-before_stops told world script sink out failed before now (of_stop.Input name (Y4m fault)) tells ends fails =
-    (in_told told world (λ w. meaning_in w script ≡ m.wrong (input name (i.Y4m fault))) tells, refl)
-before_stops told world script sink out failed before now (of_stop.Input name (Changed frame want got)) tells ends fails = absurd ends
+before_stops told world script sink out failed before now (of_stop.Input name fault) tells ends fails =
+    (in_told told world (λ w. meaning_in w script ≡ m.wrong (input name fault)) tells, refl)
+before_stops told world script sink out failed before now (of_stop.Changed name frame want got) tells ends fails = absurd ends
 before_stops told world script sink out failed before now of_stop.Read tells ends fails = (fails ends, inl refl)
 before_stops told world script sink out failed before now of_stop.Write tells ends fails = absurd ends
 before_stops told world script sink out failed before now of_stop.Memory tells ends fails = inl refl
@@ -273,11 +280,9 @@ pub before_tells : {K : Type 0} (told : Bool) (world : World) (script : List ℕ
     → InfoShows failed sink (told_of told world) script out out stop
 before_tells told world script sink out failed before now (of_stop.Script kind name line) tells ends fails =
     before_stops told world script sink out failed before now (of_stop.Script kind name line) tells ends fails
-before_tells told world script sink out failed before now (of_stop.Input name NotThere) tells ends fails =
-    before_stops told world script sink out failed before now (of_stop.Input name NotThere) tells ends fails
-before_tells told world script sink out failed before now (of_stop.Input name (Y4m fault)) tells ends fails =
-    before_stops told world script sink out failed before now (of_stop.Input name (Y4m fault)) tells ends fails
-before_tells told world script sink out failed before now (of_stop.Input name (Changed frame want got)) tells ends fails = absurd ends
+before_tells told world script sink out failed before now (of_stop.Input name fault) tells ends fails =
+    before_stops told world script sink out failed before now (of_stop.Input name fault) tells ends fails
+before_tells told world script sink out failed before now (of_stop.Changed name frame want got) tells ends fails = absurd ends
 before_tells told world script sink out failed before now of_stop.Read tells ends fails = (fails ends, refl)
 before_tells told world script sink out failed before now of_stop.Write tells ends fails = absurd ends
 before_tells told world script sink out failed before now of_stop.Memory tells ends fails = refl

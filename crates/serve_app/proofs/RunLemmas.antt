@@ -10,21 +10,18 @@ use Rattle.fv_io.proofs.CallerLemmas.{gets_all, gets_none}
 use Rattle.fv_plane.specs.Clip.{Clip}
 use Rattle.y4m_stream.specs.Stream.{stream}
 use Rattle.avs_meaning.specs.Faults.{Fault, input}
-use Rattle.avs_meaning.specs.declared.fault.InputFault.TheVariants as clip_fault
 use Rattle.avs_meaning.specs.declared.fault.ScriptKind.{ScriptKind}
-use Rattle.avs_eval.specs.Evaluates.{Names}
-use Rattle.serve_text.specs.declared.fault.InputFault.TheVariants.{NotThere, Y4m, Changed}
 use Rattle.serve_text.specs.declared.stop.Stop.{Stop}
-use Rattle.serve_text.specs.declared.stop.Stop.TheVariants.{Script, Input, Read, Write, Memory}
-use Rattle.serve_text.specs.StopKinds.{status_of_stop}
+use Rattle.serve_text.specs.declared.stop.Stop.TheVariants.{Script, Input, Changed, Read, Write, Memory}
+use Rattle.serve_text.specs.StopKinds.{status_of_stop, Names}
 use Rattle.serve_app.specs.Info.{IsInfoOf, IsToldInfo, InfoShows}
 use Rattle.serve_app.specs.Playing.{PutsClip, PutsInfo}
 use Rattle.serve_app.specs.Meaning.{Meaning, a_clip, a_fault, MeansClip, Means, status_of, status_of_fault}
 use Rattle.prefetch.specs.Rendered.{PutsNothing}
-use Rattle.serve_app.specs.Rendered.{PutsWholeFrames}
-use Rattle.serve_app.specs.Stop.{IsOfScript, ScriptHasClip, PutsBefore, IsScriptFault, IsNamedFault, RenderShows}
+use Rattle.serve_app.specs.Rendered.{PutsWholeFrames, EndsInFrame}
+use Rattle.serve_app.specs.Stop.{IsOfScript, ScriptHasClip, HasFault, HasChanged, IsScriptFault, RenderShows}
 use Rattle.serve_text.specs.Lines.{Says, stop_line, usage_line, read_line, write_line, memory_line}
-use Rattle.serve_app.specs.Headline.{EndsByScript, EndsByInput, WriteFails, Causes, PutsWhole, Quiet, Unwritten, Headline, JournalEnds, InfoEnds, Ends}
+use Rattle.serve_app.specs.Headline.{EndsByScript, EndsByInput, EndsByChange, WriteFails, Causes, PutsWhole, Quiet, Unwritten, Headline, JournalEnds, InfoEnds, Ends}
 use Rattle.serve_app.specs.Journals.{cache_of, IsScriptSerial, IsRunOf, IsReport, ScriptCuts}
 use Rattle.serve_text.specs.Reports.{CutsReport, Reports}
 use Rattle.serve_app.specs.SelfTest.{IsLineOf, IsSelfLine, PutsSelfLine, SelfTestShows, SelfTestEnds}
@@ -56,6 +53,7 @@ script_status kind name line fault (inr is) = rw is.1 refl
 never_zero : (stop : Stop) → status_of_stop stop ≡ 0 → ⊥
 never_zero (Script kind name line) is = omega (arith, is)
 never_zero (Input name fault) is = omega (arith, is)
+never_zero (Changed name frame want got) is = omega (arith, is)
 never_zero Read is = omega (arith, is)
 never_zero Write is = omega (arith, is)
 never_zero Memory is = omega (arith, is)
@@ -63,6 +61,7 @@ never_zero Memory is = omega (arith, is)
 known_of : (stop : Stop) → (status_of_stop stop ≡ 0) ⊎ (2 ≤ status_of_stop stop) × (status_of_stop stop ≤ 6)
 known_of (Script kind name line) = inr (omega arith, omega arith)
 known_of (Input name fault) = inr (omega arith, omega arith)
+known_of (Changed name frame want got) = inr (omega arith, omega arith)
 known_of Read = inr (omega arith, omega arith)
 known_of Write = inr (omega arith, omega arith)
 known_of Memory = inr (omega arith, omega arith)
@@ -73,7 +72,8 @@ module _ {F S K E : Type 0} (files : of_files.Ghosts F S) (sink : Ghosts K) (lin
   -- what a stop shows, whatever was to be put
   abbrev Cause : Stop → Type 0
   Cause (Script kind name line) = IsScriptFault (files.world f) script kind name line × PutsNothing sink out new
-  Cause (Input name fault) = IsNamedFault (files.world f) script name fault × PutsBefore sink out new fault
+  Cause (Input name fault) = HasFault (files.world f) script (input name fault) × PutsNothing sink out new
+  Cause (Changed name frame want got) = HasChanged (files.world f) × EndsInFrame sink out new frame want got
   Cause Read = FilesFailed files f g
   Cause Write = SinkFailed sink out new × ScriptHasClip (files.world f) script
   Cause Memory = Unit {0}
@@ -81,13 +81,16 @@ module _ {F S K E : Type 0} (files : of_files.Ghosts F S) (sink : Ghosts K) (lin
   script_of : (stop : Stop) → Cause stop → Says lines err said (stop_line stop) → status_of_stop stop ≡ 2 → EndsByScript files sink lines f g out new err said script
   script_of (Script kind name line) shown says is = record { kind = kind; name = name; at = line; is = shown.0; line = says; put = shown.1 }
   script_of (Input name fault) shown says is = absurd (omega (arith, is))
+  script_of (Changed name frame want got) shown says is = absurd (omega (arith, is))
   script_of Read shown says is = absurd (omega (arith, is))
   script_of Write shown says is = absurd (omega (arith, is))
   script_of Memory shown says is = absurd (omega (arith, is))
 
-  input_of : (stop : Stop) → Cause stop → Says lines err said (stop_line stop) → status_of_stop stop ≡ 3 → EndsByInput files sink lines f g out new err said script
+  input_of : (stop : Stop) → Cause stop → Says lines err said (stop_line stop) → status_of_stop stop ≡ 3
+      → EndsByInput files sink lines f g out new err said script ⊎ EndsByChange files sink lines f g out new err said script
   input_of (Script kind name line) shown says is = absurd (omega (arith, is))
-  input_of (Input name fault) shown says is = record { name = name; fault = fault; is = shown.0; line = says; put = shown.1 }
+  input_of (Input name fault) shown says is = inl (record { name = name; fault = fault; is = shown.0; line = says; put = shown.1 })
+  input_of (Changed name frame want got) shown says is = inr (record { name = name; frame = frame; want = want; got = got; is = shown.0; line = says; put = shown.1 })
   input_of Read shown says is = absurd (omega (arith, is))
   input_of Write shown says is = absurd (omega (arith, is))
   input_of Memory shown says is = absurd (omega (arith, is))
@@ -95,6 +98,7 @@ module _ {F S K E : Type 0} (files : of_files.Ghosts F S) (sink : Ghosts K) (lin
   read_of : (stop : Stop) → Cause stop → Says lines err said (stop_line stop) → status_of_stop stop ≡ 4 → FilesFailed files f g × Says lines err said read_line
   read_of (Script kind name line) shown says is = absurd (omega (arith, is))
   read_of (Input name fault) shown says is = absurd (omega (arith, is))
+  read_of (Changed name frame want got) shown says is = absurd (omega (arith, is))
   read_of Read shown says is = (shown, says)
   read_of Write shown says is = absurd (omega (arith, is))
   read_of Memory shown says is = absurd (omega (arith, is))
@@ -105,6 +109,7 @@ module _ {F S K E : Type 0} (files : of_files.Ghosts F S) (sink : Ghosts K) (lin
   write_of : (stop : Stop) → Cause stop → Says lines err said (stop_line stop) → status_of_stop stop ≡ 5 → Fails
   write_of (Script kind name line) shown says is = absurd (omega (arith, is))
   write_of (Input name fault) shown says is = absurd (omega (arith, is))
+  write_of (Changed name frame want got) shown says is = absurd (omega (arith, is))
   write_of Read shown says is = absurd (omega (arith, is))
   write_of Write shown says is = (shown.0, shown.1, says)
   write_of Memory shown says is = absurd (omega (arith, is))
@@ -112,6 +117,7 @@ module _ {F S K E : Type 0} (files : of_files.Ghosts F S) (sink : Ghosts K) (lin
   memory_of : (stop : Stop) → Says lines err said (stop_line stop) → status_of_stop stop ≡ 6 → Says lines err said memory_line
   memory_of (Script kind name line) says is = absurd (omega (arith, is))
   memory_of (Input name fault) says is = absurd (omega (arith, is))
+  memory_of (Changed name frame want got) says is = absurd (omega (arith, is))
   memory_of Read says is = absurd (omega (arith, is))
   memory_of Write says is = absurd (omega (arith, is))
   memory_of Memory says is = says
@@ -124,9 +130,8 @@ module _ {F S K E : Type 0} (files : of_files.Ghosts F S) (sink : Ghosts K) (lin
   complete_of (Script kind name line) shown says world meaning is means no_fault no_failure =
       let wrong = shown.0 world is in
       inl (sym (script_status kind name line wrong.0 wrong.1.0) ∙ same_status world (a_fault wrong.0) meaning wrong.1.1 means)
-  complete_of (Input name NotThere) shown says world meaning is means no_fault no_failure = inl (same_status world (a_fault (input name clip_fault.NotThere)) meaning (shown.0 world is) means)
-  complete_of (Input name (Y4m fault)) shown says world meaning is means no_fault no_failure = inl (same_status world (a_fault (input name (clip_fault.Y4m fault))) meaning (shown.0 world is) means)
-  complete_of (Input name (Changed frame want got)) shown says world meaning is means no_fault no_failure = absurd (shown.0 world is)
+  complete_of (Input name fault) shown says world meaning is means no_fault no_failure = inl (same_status world (a_fault (input name fault)) meaning (shown.0 world is) means)
+  complete_of (Changed name frame want got) shown says world meaning is means no_fault no_failure = absurd (shown.0 world is)
   complete_of Read shown says world meaning is means no_fault no_failure = absurd (no_fault shown)
   complete_of Write shown says world meaning is means no_fault no_failure = absurd (no_failure (shown.0, shown.1, says))
   complete_of Memory shown says world meaning is means no_fault no_failure = inr refl
@@ -221,15 +226,15 @@ module _ {F S K E : Type 0} (files : of_files.Ghosts F S) (sink : Ghosts K) (lin
   cause_of : (stop : Stop) → Shown stop → Cause stop
   cause_of (Script kind name line) shown = shown
   cause_of (Input name fault) shown = shown
+  cause_of (Changed name frame want got) shown = shown
   cause_of Read shown = shown.0
   cause_of Write shown = (shown.0, (let front = shown.1 in front.has_one))
   cause_of Memory shown = tt
 
   prefix_of : (stop : Stop) → Shown stop → (clip : Clip) → IsOfScript (files.world f) script clip → PutsPrefix sink out new (stream clip)
   prefix_of (Script kind name line) shown clip is = none_is_prefix sink out new clip shown.1
-  prefix_of (Input name NotThere) shown clip is = none_is_prefix sink out new clip shown.1
-  prefix_of (Input name (Y4m fault)) shown clip is = none_is_prefix sink out new clip shown.1
-  prefix_of (Input name (Changed frame want got)) shown clip is = absurd (shown.0 is.world is.told_is)
+  prefix_of (Input name fault) shown clip is = none_is_prefix sink out new clip shown.1
+  prefix_of (Changed name frame want got) shown clip is = absurd (shown.0 is.world is.told_is)
   prefix_of Read shown clip is = frames_are_prefix sink out new clip _ _ is shown.1
   prefix_of Write shown clip is = (let front = shown.1 in front.prefix clip is)
   prefix_of Memory shown clip is = frames_are_prefix sink out new clip _ _ is shown
@@ -246,9 +251,8 @@ module _ {F S K E : Type 0} (files : of_files.Ghosts F S) (sink : Ghosts K) (lin
 
       by_stop : (stop : Stop) → Shown stop → PutsNothing sink out new
       by_stop (Script kind name line) shown = shown.1
-      by_stop (Input name NotThere) shown = shown.1
-      by_stop (Input name (Y4m fault)) shown = shown.1
-      by_stop (Input name (Changed frame want got)) shown = absurd (shown.0 world is)
+      by_stop (Input name fault) shown = shown.1
+      by_stop (Changed name frame want got) shown = absurd (shown.0 world is)
       by_stop Read shown = no_frames shown.1
       by_stop Write shown = absurd (no_clip (let front = shown.1 in front.has_one))
       by_stop Memory shown = no_frames shown
@@ -256,6 +260,7 @@ module _ {F S K E : Type 0} (files : of_files.Ghosts F S) (sink : Ghosts K) (lin
   frames_of : (stop : Stop) → Shown stop → (status_of_stop stop ≡ 4) ⊎ (status_of_stop stop ≡ 6) → PutsWholeFrames sink out new (IsOfScript (files.world f) script) (ScriptHasClip (files.world f) script)
   frames_of (Script kind name line) shown which = absurd (omega (arith, which))
   frames_of (Input name fault) shown which = absurd (omega (arith, which))
+  frames_of (Changed name frame want got) shown which = absurd (omega (arith, which))
   frames_of Read shown which = shown.1
   frames_of Write shown which = absurd (omega (arith, which))
   frames_of Memory shown which = shown
@@ -303,9 +308,8 @@ module _ {F S K E : Type 0} (files : of_files.Ghosts F S) (sink : Ghosts K) (lin
 
   info_cause : (stop : Stop) → Told stop → Cause stop
   info_cause (Script kind name line) shown = shown
-  info_cause (Input name NotThere) shown = shown
-  info_cause (Input name (Y4m fault)) shown = shown
-  info_cause (Input name (Changed frame want got)) shown = absurd shown
+  info_cause (Input name fault) shown = shown
+  info_cause (Changed name frame want got) shown = absurd shown
   info_cause Read shown = shown.0
   info_cause Write shown = (shown.0, shown.1)
   info_cause Memory shown = tt
@@ -315,27 +319,24 @@ module _ {F S K E : Type 0} (files : of_files.Ghosts F S) (sink : Ghosts K) (lin
 
   info_prefix : (stop : Stop) → Told stop → (text : List ℕ) → IsToldInfo (files.world f) script text → PutsPrefix sink out new text
   info_prefix (Script kind name line) shown text is = nothing_cut text shown.1
-  info_prefix (Input name NotThere) shown text is = nothing_cut text shown.1
-  info_prefix (Input name (Y4m fault)) shown text is = nothing_cut text shown.1
-  info_prefix (Input name (Changed frame want got)) shown text is = absurd shown
+  info_prefix (Input name fault) shown text is = nothing_cut text shown.1
+  info_prefix (Changed name frame want got) shown text is = absurd shown
   info_prefix Read shown text is = nothing_cut text shown.1
   info_prefix Write shown text is = shown.2 text is
   info_prefix Memory shown text is = nothing_cut text shown
 
   info_nothing : (stop : Stop) → Told stop → InWorld (files.world f) (λ world. ((clip : Clip) → MeansClip world script clip → ⊥) → PutsNothing sink out new)
   info_nothing (Script kind name line) shown world is none = shown.1
-  info_nothing (Input name NotThere) shown world is none = shown.1
-  info_nothing (Input name (Y4m fault)) shown world is none = shown.1
-  info_nothing (Input name (Changed frame want got)) shown world is none = absurd shown
+  info_nothing (Input name fault) shown world is none = shown.1
+  info_nothing (Changed name frame want got) shown world is none = absurd shown
   info_nothing Read shown world is none = shown.1
   info_nothing Write shown world is none = (let one = shown.1 world is in absurd (none one.0 one.1))
   info_nothing Memory shown world is none = shown
 
   info_unwritten : (stop : Stop) → Told stop → (status_of_stop stop ≡ 4) ⊎ (status_of_stop stop ≡ 6) → PutsNothing sink out new
   info_unwritten (Script kind name line) shown which = shown.1
-  info_unwritten (Input name NotThere) shown which = shown.1
-  info_unwritten (Input name (Y4m fault)) shown which = shown.1
-  info_unwritten (Input name (Changed frame want got)) shown which = absurd shown
+  info_unwritten (Input name fault) shown which = shown.1
+  info_unwritten (Changed name frame want got) shown which = absurd shown
   info_unwritten Read shown which = shown.1
   info_unwritten Write shown which = absurd (omega (arith, which))
   info_unwritten Memory shown which = shown
@@ -378,6 +379,7 @@ module _ {K E : Type 0} (sink : Ghosts K) (lines : Ghosts E) (out new : K) (err 
   self_test_of_stop : (stop : Stop) → SelfTestShows sink out new number stop → Says lines err said (stop_line stop) → SelfTestEnds sink lines out new err said number (status_of_stop stop)
   self_test_of_stop (Script kind name line) shown says = absurd shown
   self_test_of_stop (Input name fault) shown says = absurd shown
+  self_test_of_stop (Changed name frame want got) shown says = absurd shown
   self_test_of_stop Read shown says = absurd shown
   self_test_of_stop Write shown says = record {
     whole = λ is. absurd (omega (arith, is));

@@ -21,7 +21,7 @@ use Rattle.clip_graph.specs.Unfolding.{key_picture}
 use Rattle.inst_table.specs.declared.place.Place.{Place}
 use Rattle.inst_table.specs.declared.place.Slot.{Slot}
 use Rattle.inst_table.specs.Places.{shared_place}
-use Rattle.serve_events.specs.declared.event.Stop.TheVariants as worker
+use Rattle.serve_events.specs.declared.event.WindowStop.TheVariants as worker
 use Rattle.serve_events.specs.declared.windows.Record.{Record}
 use Rattle.serve_events.specs.Keys.{frame_key}
 use Rattle.serve_events.specs.SerialRun.{SerialWindows, one_more_window, windows_after}
@@ -40,7 +40,6 @@ use Rattle.prefetch.specs.Journal.{IsJournal, IsWholeJournal}
 use Rattle.prefetch.specs.Rendered.{Begins}
 use Rattle.prefetch.specs.Windows.{frames_at, pictures_text, PutsFirst, RendersAll, RenderStops}
 use Rattle.prefetch.proofs.TextLemmas.{text_of_part}
-use Rattle.serve_text.specs.declared.fault.InputFault.TheVariants.{Changed}
 use Rattle.serve_text.specs.declared.stop.Stop.{Stop}
 use Rattle.serve_text.specs.declared.stop.Stop.TheVariants as of_stop
 use Rattle.serve_app.specs.Clips.{IsClipOf, SomeFailed, PutsFrames, PutsSome, StreamShows}
@@ -208,6 +207,7 @@ module _ {K : Type 0} (sink : Ghosts K) (old new : K) where
       → HeadStops sink old new (head (application_at plan root).info) stop → StreamShows sink plan root (book_of (feed_of of) plan table) old new (faults_of of) table stop
   head_stops of plan root table (of_stop.Script kind name line) shown = absurd shown
   head_stops of plan root table (of_stop.Input name fault) shown = absurd shown
+  head_stops of plan root table (of_stop.Changed name frame want got) shown = absurd shown
   head_stops of plan root table of_stop.Read shown = absurd shown
   head_stops of plan root table of_stop.Write shown = (
     shown.0,

@@ -16,7 +16,6 @@ use Rattle.serve_core.specs.Sources.{all_told}
 use Rattle.serve_core.specs.Stands.{Book}
 use Rattle.prefetch.specs.Clips.{clip_at}
 use Rattle.prefetch.specs.Rendered.{Begins, PutsNothing}
-use Rattle.serve_text.specs.declared.fault.InputFault.TheVariants.{NotThere, Y4m, Changed}
 use Rattle.serve_text.specs.declared.stop.Stop.{Stop}
 use Rattle.serve_text.specs.declared.stop.Stop.TheVariants as of_stop
 use Rattle.serve_app.specs.Rendered.{PutsWholeFrames, EndsInFrame}
@@ -55,9 +54,8 @@ module _ {K : Type 0} (sink : Ghosts K) (plan : List Application) (root : ℕ) (
   module _ {I : Type 0} (faults : I → ℕ) (table : List (Place × Slot I)) where
     abbrev pub StreamShows : Stop → Type 0
     StreamShows (of_stop.Script kind name line) = ⊥
-    StreamShows (of_stop.Input name NotThere) = ⊥
-    StreamShows (of_stop.Input name (Y4m fault)) = ⊥
-    StreamShows (of_stop.Input name (Changed frame want got)) =
+    StreamShows (of_stop.Input name fault) = ⊥
+    StreamShows (of_stop.Changed name frame want got) =
         ((pictures : List (List Picture)) → book ≡ Some pictures → ⊥) × EndsInFrame sink old new frame want got
     StreamShows of_stop.Read = SomeFailed faults table × PutsSome
     StreamShows of_stop.Write = SinkFailed sink old new

@@ -9,11 +9,12 @@ use Rattle.fv_io.specs.Sink.{Puts, PutsPrefix, IsLater, SinkFailed}
 use Rattle.fv_io.specs.World.{World, InWorld}
 use Rattle.fv_plane.specs.Clip.{Clip}
 use Rattle.y4m_stream.specs.Stream.{stream}
+use Rattle.avs_meaning.specs.Faults.{input}
+use Rattle.avs_meaning.specs.declared.fault.InputFault.{InputFault}
 use Rattle.avs_meaning.specs.declared.fault.ScriptKind.{ScriptKind}
 use Rattle.command_line.specs.Command.{command_in}
 use Rattle.command_line.specs.declared.command.RenderOptions.{RenderOptions}
 use Rattle.serve_events.specs.declared.windows.Record.{Record}
-use Rattle.serve_text.specs.declared.fault.InputFault.{InputFault}
 use Rattle.serve_app.specs.Words.{IsRender, IsInfo, IsSelfTest}
 use Rattle.serve_app.specs.Meaning.{Meaning, MeansClip, Means, status_of}
 use Rattle.serve_app.specs.Info.{IsInfoOf, IsToldInfo}
@@ -21,9 +22,9 @@ use Rattle.serve_app.specs.Journals.{cache_of, IsScriptSerial, IsReport, ScriptC
 use Rattle.serve_text.specs.Reports.{CutsReport}
 use Rattle.serve_app.specs.SelfTest.{SelfTestEnds}
 use Rattle.prefetch.specs.Rendered.{PutsNothing}
-use Rattle.serve_app.specs.Rendered.{PutsWholeFrames}
-use Rattle.serve_app.specs.Stop.{IsOfScript, ScriptHasClip, PutsBefore, IsScriptFault, IsNamedFault}
-use Rattle.serve_text.specs.Lines.{Says, usage_line, read_line, write_line, memory_line, script_line, input_line}
+use Rattle.serve_app.specs.Rendered.{PutsWholeFrames, EndsInFrame}
+use Rattle.serve_app.specs.Stop.{IsOfScript, ScriptHasClip, HasFault, HasChanged, IsScriptFault}
+use Rattle.serve_text.specs.Lines.{Says, usage_line, read_line, write_line, memory_line, script_line, input_line, file_line, changed_kind}
 
 module _ {F S K E : Type 0} (files : of_files.Ghosts F S) (sink : Ghosts K) (lines : Ghosts E)
     (f g : F) (out new : K) (err said : E) where
@@ -37,13 +38,23 @@ module _ {F S K E : Type 0} (files : of_files.Ghosts F S) (sink : Ghosts K) (lin
       pub line : Says lines err said (script_line kind name at)
       pub put : PutsNothing sink out new
 
-    -- an input has a fault, and its line is put. Nothing is on the output, or the frames before, where the input changed
+    -- an input is no clip, its line is put, and nothing is on the output
     pub record EndsByInput : Type 0 where
       pub name : List ℕ
       pub fault : InputFault
-      pub is : IsNamedFault (files.world f) script name fault
+      pub is : HasFault (files.world f) script (input name fault)
       pub line : Says lines err said (input_line name fault)
-      pub put : PutsBefore sink out new fault
+      pub put : PutsNothing sink out new
+
+    -- an input changed, its line is put, and the frames before are on the output
+    pub record EndsByChange : Type 0 where
+      pub name : List ℕ
+      pub frame : ℕ
+      pub want : ℕ
+      pub got : ℕ
+      pub is : HasChanged (files.world f)
+      pub line : Says lines err said (file_line name (changed_kind frame want got))
+      pub put : EndsInFrame sink out new frame want got
 
     -- a write to the output failed
     abbrev pub WriteFails : Type 0
@@ -55,7 +66,7 @@ module _ {F S K E : Type 0} (files : of_files.Ghosts F S) (sink : Ghosts K) (lin
       pub known : (status ≡ 0) ⊎ (2 ≤ status) × (status ≤ 6)
       pub quiet : status ≡ 0 → Quiet
       pub by_script : status ≡ 2 → EndsByScript
-      pub by_input : status ≡ 3 → EndsByInput
+      pub by_input : status ≡ 3 → EndsByInput ⊎ EndsByChange
       pub read : status ≡ 4 → FilesFailed files f g × Says lines err said read_line
       pub write : status ≡ 5 → Unwritten
       pub memory : status ≡ 6 → Says lines err said memory_line

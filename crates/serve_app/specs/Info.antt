@@ -7,12 +7,12 @@ use Rattle.clip_graph.specs.Plan.{Application}
 use Rattle.prefetch.specs.Rendered.{PutsNothing}
 use Rattle.serve_text.specs.InfoText.{info_text}
 use Rattle.avs_meaning.specs.Crews.{Numbers, workers, window}
+use Rattle.avs_meaning.specs.Faults.{input}
 use Rattle.avs_meaning.specs.Meaning as m
-use Rattle.serve_text.specs.declared.fault.InputFault.TheVariants.{NotThere, Y4m, Changed}
 use Rattle.serve_text.specs.declared.stop.Stop.{Stop}
 use Rattle.serve_text.specs.declared.stop.Stop.TheVariants as of_stop
 use Rattle.serve_app.specs.Meaning.{meaning_in}
-use Rattle.serve_app.specs.Stop.{IsScriptFault, IsNamedFault, ScriptHasClip}
+use Rattle.serve_app.specs.Stop.{HasFault, IsScriptFault, ScriptHasClip}
 
 -- the text of the plan, the root and the workers that the script means
 pub record IsInfoOf (world : World) (script text : List ℕ) : Type 0 where
@@ -32,11 +32,9 @@ pub record IsToldInfo (told : Option World) (script text : List ℕ) : Type 0 wh
 abbrev pub InfoShows : {K : Type 0} → Type 0 → Ghosts K → Option World → List ℕ → K → K → Stop → Type 0
 InfoShows failed sink told script old new (of_stop.Script kind name line) =
     IsScriptFault told script kind name line × PutsNothing sink old new
-InfoShows failed sink told script old new (of_stop.Input name NotThere) =
-    IsNamedFault told script name NotThere × PutsNothing sink old new
-InfoShows failed sink told script old new (of_stop.Input name (Y4m fault)) =
-    IsNamedFault told script name (Y4m fault) × PutsNothing sink old new
-InfoShows failed sink told script old new (of_stop.Input name (Changed frame want got)) = ⊥
+InfoShows failed sink told script old new (of_stop.Input name fault) =
+    HasFault told script (input name fault) × PutsNothing sink old new
+InfoShows failed sink told script old new (of_stop.Changed name frame want got) = ⊥
 InfoShows failed sink told script old new of_stop.Read = failed × PutsNothing sink old new
 InfoShows failed sink told script old new of_stop.Write = SinkFailed sink old new × ScriptHasClip told script
     × ((text : List ℕ) → IsToldInfo told script text → PutsPrefix sink old new text)

@@ -8,14 +8,12 @@ use Rattle.fv_plane.specs.Clip.{Clip}
 use Rattle.y4m_stream.specs.Stream.{stream}
 use Rattle.avs_meaning.specs.Faults.{Fault, input}
 use Rattle.avs_meaning.specs.Meaning as m
-use Rattle.avs_meaning.specs.declared.fault.InputFault.TheVariants as i
-use Rattle.avs_eval.specs.Evaluates.{Names}
 use Rattle.avs_eval.specs.declared.evaluation.Opened.{Opened}
 use Rattle.clip_graph.specs.Plan.{Application}
 use Rattle.serve_app.specs.declared.play.Whole.{Whole}
 use Rattle.serve_app.specs.Info.{IsInfoOf}
 use Rattle.serve_app.specs.Meaning.{MeansClip}
-use Rattle.serve_text.specs.declared.fault.InputFault.TheVariants.{NotThere, Y4m, Changed}
+use Rattle.serve_text.specs.StopKinds.{Names}
 use Rattle.serve_text.specs.declared.stop.Stop.{Stop}
 use Rattle.serve_text.specs.declared.stop.Stop.TheVariants as of_stop
 
@@ -25,9 +23,8 @@ use Rattle.serve_text.specs.declared.stop.Stop.TheVariants as of_stop
 abbrev pub Tells : m.Meaning → Result Opened Stop → Type 0
 Tells meaning (Ok opened) = meaning ≡ m.clip opened.graph opened.root opened.prefetch
 Tells meaning (Err (of_stop.Script kind name line)) = (fault : Fault) × (Names kind name line fault × (meaning ≡ m.wrong fault))
-Tells meaning (Err (of_stop.Input name NotThere)) = meaning ≡ m.wrong (input name i.NotThere)
-Tells meaning (Err (of_stop.Input name (Y4m fault))) = meaning ≡ m.wrong (input name (i.Y4m fault))
-Tells meaning (Err (of_stop.Input name (Changed frame want got))) = ⊥
+Tells meaning (Err (of_stop.Input name fault)) = meaning ≡ m.wrong (input name fault)
+Tells meaning (Err (of_stop.Changed name frame want got)) = ⊥
 Tells meaning (Err of_stop.Read) = Unit {0}
 Tells meaning (Err of_stop.Write) = ⊥
 Tells meaning (Err of_stop.Memory) = Unit {0}
@@ -36,7 +33,7 @@ Tells meaning (Err of_stop.Memory) = Unit {0}
 abbrev pub EndsBefore : {X : Type 0} → ℕ → ℕ → Result X Stop → Type 0
 EndsBefore before now (Err of_stop.Read) = HasRisen before now
 EndsBefore before now (Err of_stop.Write) = ⊥
-EndsBefore before now (Err (of_stop.Input name (Changed frame want got))) = ⊥
+EndsBefore before now (Err (of_stop.Changed name frame want got)) = ⊥
 EndsBefore before now _ = Unit {0}
 
 -- ---- what was put

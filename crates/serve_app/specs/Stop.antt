@@ -6,21 +6,12 @@ use Rattle.fv_io.specs.World.{World, InWorld}
 use Rattle.fv_plane.specs.Clip.{Clip}
 use Rattle.prefetch.specs.Rendered.{PutsNothing}
 use Rattle.avs_meaning.specs.Faults.{Fault, input}
-use Rattle.avs_meaning.specs.declared.fault.InputFault.TheVariants as i
 use Rattle.avs_meaning.specs.declared.fault.ScriptKind.{ScriptKind}
-use Rattle.avs_eval.specs.Evaluates.{Names}
-use Rattle.serve_text.specs.declared.fault.InputFault.{InputFault}
-use Rattle.serve_text.specs.declared.fault.InputFault.TheVariants.{NotThere, Y4m, Changed}
+use Rattle.serve_text.specs.StopKinds.{Names}
 use Rattle.serve_text.specs.declared.stop.Stop.{Stop}
 use Rattle.serve_text.specs.declared.stop.Stop.TheVariants as of_stop
 use Rattle.serve_app.specs.Meaning.{MeansClip, Means, a_fault}
 use Rattle.serve_app.specs.Rendered.{PutsWholeFrames, PutsFront, EndsInFrame}
-
--- what a fault of an input leaves on the sink
-abbrev pub PutsBefore : {K : Type 0} → Ghosts K → K → K → InputFault → Type 0
-PutsBefore sink old new NotThere = PutsNothing sink old new
-PutsBefore sink old new (Y4m fault) = PutsNothing sink old new
-PutsBefore sink old new (Changed frame want got) = EndsInFrame sink old new frame want got
 
 -- a world is told, and the script means this clip in it
 pub record IsOfScript (told : Option World) (script : List ℕ) (clip : Clip) : Type 0 where
@@ -40,18 +31,18 @@ abbrev pub IsScriptFault : Option World → List ℕ → ScriptKind → List ℕ
 IsScriptFault told script kind name line =
     InWorld told (λ world. (fault : Fault) × (Names kind name line fault × Means world script (a_fault fault)))
 
--- a file in a world doesn't change
-abbrev pub IsNamedFault : Option World → List ℕ → List ℕ → InputFault → Type 0
-IsNamedFault told script name NotThere = HasFault told script (input name i.NotThere)
-IsNamedFault told script name (Y4m fault) = HasFault told script (input name (i.Y4m fault))
-IsNamedFault told script name (Changed frame want got) = InWorld told (λ world. ⊥)
+-- a file changed, which no file of a told world does
+abbrev pub HasChanged : Option World → Type 0
+HasChanged told = InWorld told (λ world. ⊥)
 
 -- what a stop of the render of this script shows, where a read failed only if this holds
 abbrev pub RenderShows : {K : Type 0} → Type 0 → Ghosts K → Option World → List ℕ → K → K → Stop → Type 0
 RenderShows failed sink told script old new (of_stop.Script kind name line) =
     IsScriptFault told script kind name line × PutsNothing sink old new
 RenderShows failed sink told script old new (of_stop.Input name fault) =
-    IsNamedFault told script name fault × PutsBefore sink old new fault
+    HasFault told script (input name fault) × PutsNothing sink old new
+RenderShows failed sink told script old new (of_stop.Changed name frame want got) =
+    HasChanged told × EndsInFrame sink old new frame want got
 RenderShows failed sink told script old new of_stop.Read =
     failed × PutsWholeFrames sink old new (IsOfScript told script) (ScriptHasClip told script)
 RenderShows failed sink told script old new of_stop.Write =

@@ -16,4 +16,3 @@ mod test_run;
 pub use run::{Ending, run_plain};
 pub use self_test::workload;
 pub use serve_events::{Event, Record, Windowed};
-pub use serve_text::InputFault;

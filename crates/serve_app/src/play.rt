@@ -28,12 +28,11 @@ use avs_meaning::{Crew, ScriptKind};
 use avs_state::{Host, HostFault};
 use frame_cache::FrameCache;
 use fv_io::{Failed, Sink, Source, Text};
-use serve_text::info_text;
 use inst_table::InstTable;
 use seq_source::SeqSource;
 use serve_core::Core;
 use serve_events::Record;
-use serve_text::{InputFault, Stop};
+use serve_text::{Stop, info_text};
 use serve_worker::{Instance, furnish};
 use std::alloc::{AllocError, Global};
 use std::sync::Arc;
@@ -58,13 +57,16 @@ pub(crate) fn evaluate<H: Host>(alloc: Global, host: &mut H, script: &Text) -> R
         Err(HostFault::Input(fault)) => {
             return Err(Stop::Input {
                 name: Text::from_str(alloc, script.as_str())?,
-                fault: InputFault::from(fault),
+                fault,
             });
         }
         Err(HostFault::Read) => return Err(Stop::Read),
         Err(HostFault::Memory) => return Err(Stop::Memory),
     };
-    Ok(eval(alloc, host, script, &text)?)
+    match eval(alloc, host, script, &text) {
+        Ok(opened) => Ok(opened),
+        Err(stop) => Err(Stop::from(stop)),
+    }
 }
 
 /// A clip whose frames were all put: how many there are, and its graph, which the core shared.

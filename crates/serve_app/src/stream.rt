@@ -19,8 +19,8 @@ use fv_io::{Failed, Sink, Source, Text};
 use fv_plane::Info;
 use prefetch::{RenderStop, render_plain};
 use serve_core::Core;
-use serve_events::{Record, Stop as WorkerStop};
-use serve_text::{InputFault, Stop};
+use serve_events::{Record, WindowStop};
+use serve_text::Stop;
 use serve_worker::Instance;
 use std::alloc::{AllocError, Global};
 use y4m_stream::print_head;
@@ -62,9 +62,9 @@ fn told_stop<S: Source>(alloc: Global, core: &Core<Instance<S>>, stop: RenderSto
     ensures { ToldAs stop result }
 {
     match stop {
-        RenderStop::Stopped(WorkerStop::Read { node: _ }) => Stop::Read,
+        RenderStop::Stopped(WindowStop::Read { node: _ }) => Stop::Read,
         RenderStop::Stopped(
-            WorkerStop::Changed {
+            WindowStop::Changed {
                 node,
                 frame,
                 want,
@@ -74,10 +74,14 @@ fn told_stop<S: Source>(alloc: Global, core: &Core<Instance<S>>, stop: RenderSto
             let Ok(name) = name_of(alloc, core.graph(), node) else {
                 return Stop::Memory;
             };
-            let fault = InputFault::Changed { frame, want, got };
-            Stop::Input { name, fault }
+            Stop::Changed {
+                name,
+                frame,
+                want,
+                got,
+            }
         }
-        RenderStop::Stopped(WorkerStop::Memory) | RenderStop::Memory => Stop::Memory,
+        RenderStop::Stopped(WindowStop::Memory) | RenderStop::Memory => Stop::Memory,
         RenderStop::Write => Stop::Write,
     }
 }

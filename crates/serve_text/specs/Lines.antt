@@ -8,10 +8,10 @@ use Rattle.y4m_stream.specs.declared.fault.Y4mFault.{Y4mFault}
 use Rattle.y4m_stream.specs.declared.fault.Y4mFault.TheVariants as of_stream
 use Rattle.y4m_stream.specs.FaultNames.{fault_name}
 use Rattle.avs_meaning.specs.FaultNames.{kind_name}
+use Rattle.avs_meaning.specs.declared.fault.InputFault.{InputFault}
+use Rattle.avs_meaning.specs.declared.fault.InputFault.TheVariants as of_input
 use Rattle.avs_meaning.specs.declared.fault.ScriptKind.{ScriptKind}
 use Rattle.avs_meaning.specs.declared.fault.ScriptKind.TheVariants as k
-use Rattle.serve_text.specs.declared.fault.InputFault.{InputFault}
-use Rattle.serve_text.specs.declared.fault.InputFault.TheVariants as of_input
 use Rattle.serve_text.specs.declared.stop.Stop.{Stop}
 use Rattle.serve_text.specs.declared.stop.Stop.TheVariants as of_stop
 
@@ -43,11 +43,13 @@ y4m_detail _ = []
 abbrev pub y4m_kind : Y4mFault → List ℕ
 y4m_kind fault = fault_name fault ++ y4m_detail fault
 
--- a kind and its numbers
 abbrev pub input_kind : InputFault → List ℕ
 input_kind of_input.NotThere = codes "NotThere"
 input_kind (of_input.Y4m fault) = y4m_kind fault
-input_kind (of_input.Changed frame want got) =
+
+-- the frame that isn't whole any more, the offset just past it, and the offset at which the bytes ended
+abbrev pub changed_kind : ℕ → ℕ → ℕ → List ℕ
+changed_kind frame want got =
     codes "Changed " ++ (decimal frame ++ (codes " want " ++ (decimal want ++ (codes " got " ++ decimal got))))
 
 -- the fault of the text of this name at a line
@@ -55,13 +57,18 @@ abbrev pub script_line : ScriptKind → List ℕ → ℕ → List ℕ
 script_line kind name line = codes "script fault: " ++ (name
     ++ (codes " line " ++ (decimal line ++ (codes ": " ++ (kind_text kind ++ codes "\n")))))
 
+-- a fault of this kind of the file of this name
+abbrev pub file_line : List ℕ → List ℕ → List ℕ
+file_line name kind = codes "input fault: " ++ (name ++ (codes ": " ++ (kind ++ codes "\n")))
+
 abbrev pub input_line : List ℕ → InputFault → List ℕ
-input_line name fault = codes "input fault: " ++ (name ++ (codes ": " ++ (input_kind fault ++ codes "\n")))
+input_line name fault = file_line name (input_kind fault)
 
 -- the line of a stop
 abbrev pub stop_line : Stop → List ℕ
 stop_line (of_stop.Script kind name line) = script_line kind name line
 stop_line (of_stop.Input name fault) = input_line name fault
+stop_line (of_stop.Changed name frame want got) = file_line name (changed_kind frame want got)
 stop_line of_stop.Read = read_line
 stop_line of_stop.Write = write_line
 stop_line of_stop.Memory = memory_line

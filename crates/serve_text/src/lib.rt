@@ -6,7 +6,6 @@
 #![tactic(auto)]
 
 mod counts;
-mod fault;
 mod info;
 mod lines;
 mod names;
@@ -15,7 +14,6 @@ mod say;
 mod stop;
 mod text;
 
-pub use fault::InputFault;
 pub use info::info_text;
 pub use lines::put_report;
 pub use names::filter_of;

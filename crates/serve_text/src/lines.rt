@@ -8,10 +8,10 @@ ghost use Rattle.serve_text.specs.Report.{report, node_line};
 ghost use Rattle.serve_text.specs.ReportLines.{lines_between};
 
 use crate::counts::{Counts, count_windows};
+use crate::filter_of;
 use arrayvec::ArrayString;
 use clip_graph::{Graph, Node};
 use fv_io::{Failed, Sink};
-use crate::filter_of;
 use itoa::Buffer;
 use serve_events::Record;
 

@@ -3,11 +3,11 @@ ghost use Rattle.serve_text.specs.Reports.{Reports};
 ghost use Rattle.serve_events.specs.Windows.{windows_of};
 ghost use Rattle.serve_text.specs.Report.{report};
 
+use crate::lines::put_report;
 use crate::say::say_stop;
 use crate::stop::Stop;
 use clip_graph::Graph;
 use fv_io::{Failed, Sink};
-use crate::put_report;
 use serve_events::Record;
 
 /// Puts the report of a journal and answers the status. Where it can't be put whole, it says so.

@@ -1,10 +1,9 @@
 // The lines on standard error. They allocate nothing, and a fault of the sink is ignored.
 ghost use Rattle.std.specs.Prelude.{◌≡◌, ◌++◌, flat_map, codes, decimal};
-ghost use Rattle.serve_text.specs.Lines.{Says, usage_line, script_line, input_line, stop_line};
+ghost use Rattle.serve_text.specs.Lines.{Says, usage_line, script_line, file_line, input_line, changed_kind, stop_line};
 
-use crate::fault::InputFault;
 use crate::stop::Stop;
-use avs_meaning::ScriptKind;
+use avs_meaning::{InputFault, ScriptKind};
 use fv_io::{Sink, Text};
 use itoa::Buffer;
 use y4m_stream::Y4mFault;
@@ -128,7 +127,7 @@ fn say_y4m<E: Sink>(err: &mut E, name: &Text, fault: Y4mFault)
 
 // Says that the input ended at `got` when the frame was read again.
 fn say_changed<E: Sink>(err: &mut E, name: &Text, frame: u32, want: u64, got: u64)
-    ensures { Says E.Sink err.old err.new (input_line name.now (InputFault.Changed frame want got)) }
+    ensures { Says E.Sink err.old err.new (file_line name.now (changed_kind frame want got)) }
 {
     let mut frame_digits = Buffer::new();
     let mut want_digits = Buffer::new();
@@ -159,7 +158,6 @@ fn say_input<E: Sink>(err: &mut E, name: &Text, fault: InputFault)
     match fault {
         InputFault::NotThere => say_input_kind(err, name, "NotThere"),
         InputFault::Y4m(fault) => say_y4m(err, name, fault),
-        InputFault::Changed { frame, want, got } => say_changed(err, name, frame, want, got),
     }
 }
 
@@ -170,6 +168,12 @@ pub fn say_stop<E: Sink>(err: &mut E, stop: &Stop)
     match stop {
         Stop::Script { kind, name, line } => say_script(err, kind, name, *line),
         Stop::Input { name, fault } => say_input(err, name, *fault),
+        Stop::Changed {
+            name,
+            frame,
+            want,
+            got,
+        } => say_changed(err, name, *frame, *want, *got),
         Stop::Read => say(err, &["read fault\n"]),
         Stop::Write => say(err, &["write fault\n"]),
         Stop::Memory => say(err, &["no memory\n"]),

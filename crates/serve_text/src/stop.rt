@@ -1,10 +1,8 @@
 // Why a render ends early.
 ghost use Rattle.std.specs.Prelude.{◌≡◌};
-ghost use Rattle.serve_text.specs.StopKinds.{status_of_stop};
+ghost use Rattle.serve_text.specs.StopKinds.{refusal, status_of_stop};
 
-use crate::fault::InputFault;
-use avs_eval::EvalError;
-use avs_meaning::{InputFault as ClipFault, ScriptKind};
+use avs_meaning::{InputFault, ScriptKind, ScriptStop};
 use fv_io::Text;
 use std::alloc::AllocError;
 
@@ -17,10 +15,18 @@ pub enum Stop {
         name: Text,
         line: u32,
     },
-    /// The file of this name has this fault.
+    /// The file of this name is no clip.
     Input {
         name: Text,
         fault: InputFault,
+    },
+    /// The bytes of the file of this name ended at `got` when they were read again, before `want`, the offset just past the
+    /// frame.
+    Changed {
+        name: Text,
+        frame: u32,
+        want: u64,
+        got: u64,
     },
     /// A read failed.
     Read,
@@ -38,6 +44,7 @@ impl Stop {
         match self {
             Stop::Script { .. } => 2,
             Stop::Input { .. } => 3,
+            Stop::Changed { .. } => 3,
             Stop::Read => 4,
             Stop::Write => 5,
             Stop::Memory => 6,
@@ -45,35 +52,34 @@ impl Stop {
     }
 }
 
-impl From<ClipFault> for InputFault {
-    ghost use Rattle.std.specs.Prelude.{◌≡◌};
-    ghost use Rattle.serve_text.specs.StopKinds.{input_of};
-
-    ghost from_gives = { λ fault input. input ≡ input_of fault };
-
-    fn from(fault: ClipFault) -> InputFault {
-        match fault {
-            ClipFault::NotThere => InputFault::NotThere,
-            ClipFault::Y4m(fault) => InputFault::Y4m(fault),
-        }
+// How a text is refused: it nests too deep, or another way.
+fn refusal(nests: bool) -> ScriptKind
+    ensures { result ≡ refusal nests }
+{
+    if nests {
+        ScriptKind::NestLimit
+    } else {
+        ScriptKind::Syntax
     }
 }
 
-impl From<EvalError> for Stop {
+impl From<ScriptStop> for Stop {
     ghost use Rattle.std.specs.Prelude.{◌≡◌};
-    ghost use Rattle.serve_text.specs.StopKinds.{stop_of_error};
+    ghost use Rattle.serve_text.specs.StopKinds.{stop_of};
 
-    ghost from_gives = { λ error stop. stop ≡ stop_of_error error };
+    ghost from_gives = { λ of stop. stop ≡ stop_of of };
 
-    fn from(error: EvalError) -> Stop {
-        match error {
-            EvalError::Fault { kind, name, line } => Stop::Script { kind, name, line },
-            EvalError::Input { name, fault } => Stop::Input {
+    fn from(of: ScriptStop) -> Stop {
+        match of {
+            ScriptStop::Fault { kind, name, line } => Stop::Script { kind, name, line },
+            ScriptStop::Refused { name, nests, line } => Stop::Script {
+                kind: refusal(nests),
                 name,
-                fault: InputFault::from(fault),
+                line,
             },
-            EvalError::Read => Stop::Read,
-            EvalError::Memory => Stop::Memory,
+            ScriptStop::Input { name, fault } => Stop::Input { name, fault },
+            ScriptStop::Read => Stop::Read,
+            ScriptStop::Memory => Stop::Memory,
         }
     }
 }

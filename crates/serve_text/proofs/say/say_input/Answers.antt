@@ -6,6 +6,3 @@ returns-in-NotThere g c = rw c.in-NotThere.is c.say_input_kind.ensures
 
 pub returns-in-Y4m : goal.returns-in-Y4m
 returns-in-Y4m g c = rw c.in-Y4m.is c.say_y4m.ensures
-
-pub returns-in-Changed : goal.returns-in-Changed
-returns-in-Changed g c = rw c.in-Changed.is c.say_changed.ensures

@@ -7,6 +7,9 @@ returns-in-Script g c = rw c.in-Script.is c.say_script.ensures
 pub returns-in-Input : goal.returns-in-Input
 returns-in-Input g c = rw c.in-Input.is c.say_input.ensures
 
+pub returns-in-Changed : goal.returns-in-Changed
+returns-in-Changed g c = rw c.in-Changed.is c.say_changed.ensures
+
 pub returns-in-Read : goal.returns-in-Read
 returns-in-Read g c = rw c.in-Read.is c.say.ensures
 
