@@ -1,7 +1,9 @@
 // The journal of a render, and its report.
 use crate::runs::{AGAIN, COPY, TWICE, files_of, run, start};
+use fv_io::Trip;
 use fv_plane::Key;
 use serve_app::Event;
+use serve_events::WindowStop;
 use std::test::Fail;
 
 // The frame of a source, and the frame that is made of it.
@@ -9,19 +11,20 @@ const INPUT: Key = Key { node: 0, n: 2 };
 
 const OUTPUT: Key = Key { node: 1, n: 0 };
 
-// In a cache of one frame the first frame is lost to keep the second.
+// The input is made and the output after it. In a cache of one frame the input goes from it first. Where the source fails
+// inside the input, both claims are given up.
 #[test]
 fn a_render_leaves_its_journal(rt: HostRuntime) -> Result<(), Fail> {
     let alloc = rt.alloc();
-    let worker = 0;
-    let (node, instance) = (0, 0);
-    let want = [
+    let (worker, node, instance) = (0, 0, 0);
+    let (key, stop) = (INPUT, WindowStop::Read { node });
+    let opening = [
         Event::Take { worker, n: 0 },
         Event::Claim {
             worker,
             key: OUTPUT,
         },
-        Event::Claim { worker, key: INPUT },
+        Event::Claim { worker, key },
         Event::Enter {
             worker,
             node,
@@ -32,26 +35,48 @@ fn a_render_leaves_its_journal(rt: HostRuntime) -> Result<(), Fail> {
             node,
             instance,
         },
-        Event::Publish { worker, key: INPUT },
-        Event::Evict { worker, key: INPUT },
-        Event::Publish {
+    ];
+    let made = Event::Publish { worker, key };
+    let evicted = Event::Evict { worker, key };
+    let answered = Event::Publish {
+        worker,
+        key: OUTPUT,
+    };
+    let delivered = Event::Deliver { worker, n: 0 };
+    let given_up = [
+        Event::Abandon { worker, key },
+        Event::Abandon {
             worker,
             key: OUTPUT,
         },
-        Event::Deliver { worker, n: 0 },
+        Event::Fail { worker, stop },
     ];
-    let script = b"Y4MSource(\"m4.y4m\").Trim(2, 2)";
-    let mut files = files_of(alloc, script, &[], &[])?;
-    let words = ["render", "--cache", "1", "s.avs"];
-    let (ending, _, _) = run(alloc, &words, &mut files, (99, 99))?;
-    let Some(journal) = &ending.journal else {
-        return Err(Fail::from("no journal"));
+    let trip = Trip::Read {
+        rewinds: 1,
+        place: 56,
     };
-    let [window] = journal.windows.as_slice() else {
-        return Err(Fail::from("no single window"));
-    };
-    assert_eq!(rt; (window.first, window.count), (0, 1));
-    assert_eq!(rt; window.events.as_slice(), want.as_slice());
+    for (trips, cache, status, closing) in [
+        (&[], "64", 0, &[made, answered, delivered]),
+        (&[], "1", 0, &[made, evicted, answered, delivered]),
+        (&[trip], "64", 4, &given_up),
+    ] as [(&[Trip], &str, u8, &[Event]); 3]
+    {
+        let script = b"Y4MSource(\"m4.y4m\").Trim(2, 2)";
+        let mut files = files_of(alloc, script, &[], trips)?;
+        let words = ["render", "--cache", cache, "s.avs"];
+        let (ending, _, _) = run(alloc, &words, &mut files, (99, 99))?;
+        assert_eq!(rt; ending.status, status);
+        let Some(journal) = &ending.journal else {
+            return Err(Fail::from("no journal"));
+        };
+        let [window] = journal.windows.as_slice() else {
+            return Err(Fail::from("no single window"));
+        };
+        assert_eq!(rt; (window.first, window.count), (0, 1));
+        assert!(rt; window.events.starts_with(&opening));
+        assert!(rt; window.events.ends_with(closing));
+        assert_eq!(rt; window.events.len(), opening.len() + closing.len());
+    }
     Ok(())
 }
 
