@@ -368,9 +368,7 @@ if_back e b rest other block1 claim else1 n ts us (t1, t2, t3, t4, key, cond1, b
 while_back : (e : Expr) (b : Block) → BlockClaim b → KindClaim (while e b)
 unfolding parsing.while_kind
 while_back e b block1 n ts us (t1, t2, key, cond1, body) deep follows =
-    keyword_kind w.While n (while e b) ts t1 us key
-    (then_gives _ (subst (λ z. Gives e t2 (parsing.condition n (block_below n) z)) (sym (tail_at (s.Keyword w.While) ts t1 key)) (gives_condition e n t1 t2 cond1 (omega arith)))
-    (then_gives _ (gives_body b block1 n t2 us body (omega arith)) (subst (λ z. Gives (while e b) us (Ok (while e z, us))) (sym (list_block b)) gives)))
+    keyword_kind w.While n (while e b) ts t1 us key (then_gives _ (gives_arm e b block1 n ts t1 t2 us (tail_at (s.Keyword w.While) ts t1 key) cond1 body (omega arith) (omega arith)) gives)
 
 for_step_back : (c : Option Expr) (n : ℕ) (ts us vs : Lexemes) → ForStep c ts us → IsPunctuation m.RightParen us vs → step_nesting c < n → Gives c us (parsing.for_step n (block_below n) ts)
 unfolding parsing.for_step reach is_punctuation

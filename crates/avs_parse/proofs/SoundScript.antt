@@ -176,7 +176,7 @@ module _ (levels_left : ℕ) (inner : Parser (List StatementIs))
 
   on_while : (ts : Lexemes) → IsKeyword w.While ts (tail ts) → On (KindAt ts) (parsing.while_kind levels_left inner ts)
   unfolding parsing.while_kind
-  on_while ts key = then_on (on_condition (tail ts)) (λ e us p. then_on (on_body us) (λ b vs q. was_parsed ((tail ts, us, key, p.0, q.0), omega (arith, p.1, q.1))))
+  on_while ts key = then_on (on_arm ts) (λ a us (vs, condition, body, first, rest). was_parsed ((tail ts, vs, key, condition, body), omega (arith, first, rest)))
 
   for_step_on : (b : Bool) (ts : Lexemes) → is_punctuation m.Comma ts ≡ b → 0 < levels_left → On (λ c us. ForStep c ts us × (step_nesting c < levels_left)) (parsing.for_step_by levels_left inner b ts)
   for_step_on false ts h may_open = was_parsed (refl, may_open)

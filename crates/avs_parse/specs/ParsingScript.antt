@@ -72,6 +72,7 @@ module _ (levels_left : ℕ) (inner : Parser (List StatementIs)) where
   unfoldable pub condition : Parser Expr
   condition ts = and_then (opens_punctuation m.LeftParen levels_left ts) (λ _ us. and_then (below levels_left 8 us) (λ e vs. and_then (expect m.RightParen vs) (λ _. pure e)))
 
+  -- `if` or `while` with its condition and body
   unfoldable pub one_arm : Parser ArmIs
   one_arm ts = and_then (condition (tail ts)) (λ e us. and_then (body us) (λ b. pure (e, block_of b)))
 
@@ -89,7 +90,7 @@ module _ (levels_left : ℕ) (inner : Parser (List StatementIs)) where
   if_kind ts = and_then (one_arm ts) (λ a us. and_then (more_arms (length us) (a ∷ []) us) (λ arms vs. and_then (other vs) (λ found. pure (if_ (arms_of arms) (else_of (option_map block_of found))))))
 
   unfoldable pub while_kind : Parser Kind
-  while_kind ts = and_then (condition (tail ts)) (λ e us. and_then (body us) (λ b. pure (while e (block_of b))))
+  while_kind ts = and_then (one_arm ts) (λ a. pure (while a.0 a.1))
 
   abbrev pub for_step_by : Bool → Parser (Option Expr)
   for_step_by false = pure None

@@ -183,9 +183,9 @@ impl<F: Fn(Global, &mut Tokens<'_>, u32, u8) -> Result<Expr, ParseStop>> Grammar
             (r.grouped self.now.levels_left (r.below self.now.levels_left) tokens.old) result tokens.new }
     {
         tokens.open(self.levels_left)?;
-        let inside = self.inner(tokens, EXPRESSION)?;
+        let inside = Box::new(self.alloc, self.inner(tokens, EXPRESSION)?)?;
         tokens.expect(Punctuation::RightParen)?;
-        Ok(Expr::Group(Box::new(self.alloc, inside)?))
+        Ok(Expr::Group(inside))
     }
 
     #[tactic(auto, unfolding(crate::specs::ParsingExpr::primary))]

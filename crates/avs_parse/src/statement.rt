@@ -30,7 +30,7 @@ struct ForHead {
     name: Text,
     first: Box<Expr>,
     last: Box<Expr>,
-    step: Option<Expr>,
+    step: Option<Box<Expr>>,
 }
 
 // Whether a statement of this kind ends with a brace.
@@ -102,7 +102,7 @@ impl<F: Fn(Global, &mut Tokens<'_>, u32) -> Result<Vec<Statement>, ParseStop>> B
         Ok(condition)
     }
 
-    // `if` with its condition and body.
+    // `if` or `while` with its condition and body.
     #[tactic(auto, unfolding(crate::specs::ParsingScript::one_arm))]
     fn arm(&self, tokens: &mut Tokens<'_>) -> Result<Arm, ParseStop>
         requires { ParsesInside self.now.levels_left (F.pre self.now.parse) (F.post self.now.parse) }
@@ -171,23 +171,21 @@ impl<F: Fn(Global, &mut Tokens<'_>, u32) -> Result<Vec<Statement>, ParseStop>> B
         ensures { Answers kind_view
             (r.while_kind self.now.levels_left (r.block_below self.now.levels_left) tokens.old) result tokens.new }
     {
-        tokens.take();
-        let condition = self.condition(tokens)?;
-        let body = self.body(tokens)?;
+        let Arm { condition, body } = self.arm(tokens)?;
         Ok(StatementKind::While { condition, body })
     }
 
     #[tactic(auto, unfolding(crate::specs::ParsingScript::for_step))]
-    fn for_step(&self, tokens: &mut Tokens<'_>) -> Result<Option<Expr>, ParseStop>
+    fn for_step(&self, tokens: &mut Tokens<'_>) -> Result<Option<Box<Expr>>, ParseStop>
         requires { 0 < self.now.levels_left }
-        ensures { Answers (λ found. option_map expr_view found)
+        ensures { Answers (λ found. option_map (λ step. expr_view step.value) found)
             (r.for_step self.now.levels_left (r.block_below self.now.levels_left) tokens.old) result tokens.new }
     {
         if !tokens.is(Punctuation::Comma) {
             return Ok(None);
         }
         tokens.take();
-        let step = self.inside(tokens)?;
+        let step = Box::new(self.alloc, self.inside(tokens)?)?;
         Ok(Some(step))
     }
 
@@ -226,7 +224,7 @@ impl<F: Fn(Global, &mut Tokens<'_>, u32) -> Result<Vec<Statement>, ParseStop>> B
             name: head.name,
             first: Box::into_inner(head.first),
             last: Box::into_inner(head.last),
-            step: head.step,
+            step: head.step.map(Box::into_inner),
             body,
         })
     }
