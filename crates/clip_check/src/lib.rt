@@ -21,6 +21,3 @@ pub use soft::check_soft;
 pub use space::check_space;
 pub use term::{check, info};
 pub use time::check_time;
-
-#[cfg(test)]
-mod tests;

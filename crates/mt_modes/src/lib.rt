@@ -11,5 +11,3 @@ mod table;
 pub use laws::{finds_names, keeps_rule};
 pub use table::{ModeFault, ModeTable};
 
-#[cfg(test)]
-mod tests;
