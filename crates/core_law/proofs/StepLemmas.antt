@@ -20,8 +20,8 @@ use Rattle.inst_table.specs.Lent.{Lent}
 use Rattle.inst_table.specs.Places.{same_place, slot_at, with_slot}
 use Rattle.serve_events.specs.declared.event.Event.{Event}
 use Rattle.serve_events.specs.declared.event.Event.TheVariants.{Hit, Claim, Enter, Leave, Evict, Publish, Abandon, Take, Deliver, Fail}
-use Rattle.serve_events.specs.declared.event.Stop.{Stop}
-use Rattle.serve_events.specs.declared.event.Stop.TheVariants.{Read, Changed, Memory}
+use Rattle.serve_events.specs.declared.event.WindowStop.{WindowStop}
+use Rattle.serve_events.specs.declared.event.WindowStop.TheVariants.{Read, Changed, Memory}
 use Rattle.serve_events.specs.Events.{worker_of}
 use Rattle.serve_events.specs.Keys.{IsKey, frame_key, mode_at}
 use Rattle.serve_events.specs.Own.{has_got, has_got_all, may_fail, names_source}
@@ -277,13 +277,13 @@ module _ {I F : Type 0} {see : Picture → F} {make : Key → List F → F} {tol
         meant = r.meant;
       })
 
-  causes : (w : ℕ) (why : Stop) → may_fail w why c.journal ≡ true → (is_changed (Some why) ≡ true → told ≡ false) → may_stop machine now w why ≡ true
+  causes : (w : ℕ) (why : WindowStop) → may_fail w why c.journal ≡ true → (is_changed (Some why) ≡ true → told ≡ false) → may_stop machine now w why ≡ true
   causes w (Read i) h untold = entered_law machine w i c.journal start now r.runs (inl h)
   causes w (Changed i n want got) h untold =
       both_true (both_true (entered_law machine w i c.journal start now r.runs (inl (left_true _ _ h))) (right_true _ _ h)) (ap not (untold refl))
   causes w Memory h untold = refl
 
-  pub fail_step : (d : CoreValue I) (w : ℕ) (why : Stop) → w < c.fixed.workers → slice_get c.failed w ≡ Some false → may_fail w why c.journal ≡ true
+  pub fail_step : (d : CoreValue I) (w : ℕ) (why : WindowStop) → w < c.fixed.workers → slice_get c.failed w ≡ Some false → may_fail w why c.journal ≡ true
       → names_source c.fixed.plan why ≡ true → (is_changed (Some why) ≡ true → told ≡ false) → d ≡ failing c w why → IsRun see make told start d
   fail_step d w why less fresh cause source untold is = subst (IsRun see make told start) (sym is) (record {
     got = r.got;

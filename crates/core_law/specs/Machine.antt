@@ -12,8 +12,8 @@ use Rattle.inst_table.specs.declared.place.Place.{Place}
 use Rattle.inst_table.specs.Places.{place_at, same_place}
 use Rattle.serve_events.specs.declared.event.Event.{Event}
 use Rattle.serve_events.specs.declared.event.Event.TheVariants.{Hit, Claim, Enter, Leave, Evict, Publish, Abandon, Take, Deliver, Fail}
-use Rattle.serve_events.specs.declared.event.Stop.{Stop}
-use Rattle.serve_events.specs.declared.event.Stop.TheVariants.{Read, Changed, Memory}
+use Rattle.serve_events.specs.declared.event.WindowStop.{WindowStop}
+use Rattle.serve_events.specs.declared.event.WindowStop.TheVariants.{Read, Changed, Memory}
 use Rattle.serve_events.specs.Events.{worker_of}
 use Rattle.serve_events.specs.Keys.{frame_key, mode_at, instance_of}
 use Rattle.serve_events.specs.Own.{names_source}
@@ -50,7 +50,7 @@ pub record State (F : Type 0) : Type 0 where
   -- for each worker whether it failed
   pub failed : List Bool
   -- the first stop
-  pub stop : Option Stop
+  pub stop : Option WindowStop
 
 -- what a window begins in: these frames are cached, these places are free, and nothing has happened yet
 abbrev pub opening : {F : Type 0} → List (Key × F) → List Place → ℕ → ℕ → State F
@@ -116,7 +116,7 @@ module _ {F : Type 0} where
 
 module _ {F : Type 0} (m : Machine F) where
   -- a source that stopped the worker is one that it entered, and over a told book none ends too early
-  abbrev pub may_stop : State F → ℕ → Stop → Bool
+  abbrev pub may_stop : State F → ℕ → WindowStop → Bool
   may_stop s w (Read i) = is_entered w i s.entered
   may_stop s w (Changed i n want got) = is_entered w i s.entered && nat_lt got want && not m.is_told
   may_stop s w Memory = true

@@ -11,7 +11,7 @@ use Rattle.inst_table.specs.declared.place.Slot.{Slot}
 use Rattle.inst_table.specs.declared.place.Slot.TheVariants.{Free, Leased}
 use Rattle.inst_table.specs.Lent.{Lent}
 use Rattle.inst_table.specs.Places.{slot_at}
-use Rattle.serve_events.specs.declared.event.Stop.{Stop}
+use Rattle.serve_events.specs.declared.event.WindowStop.{WindowStop}
 use Rattle.serve_events.specs.Keys.{IsKey, frame_key, mode_at}
 use Rattle.serve_events.specs.Own.{has_got, has_got_all, may_fail, names_source}
 use Rattle.serve_core.specs.declared.answers.Ask.TheVariants.{Hit as Found, Claimed}
@@ -109,7 +109,7 @@ module _ (I F : Type 0) (see : Picture → F) (make : Key → List F → F) (tol
         → ((xs : List F) → gathered w (input_keys c.fixed.plan k) r.got ≡ Some xs → make k xs ≡ see x)
         → d ≡ published c w k x → Run d
     -- no told book has a source that ends too early
-    pub fails : (c d : CoreValue I) (w : ℕ) (why : Stop) → Run c → w < c.fixed.workers
+    pub fails : (c d : CoreValue I) (w : ℕ) (why : WindowStop) → Run c → w < c.fixed.workers
         → slice_get c.failed w ≡ Some false → may_fail w why c.journal ≡ true → names_source c.fixed.plan why ≡ true
         → (is_changed (Some why) ≡ true → told ≡ false) → d ≡ failing c w why → Run d
 

@@ -14,7 +14,7 @@ use fv_io::{MemSource, Trip};
 use fv_plane::{Info, Key};
 use inst_table::InstTable;
 use serve_core::{Core, Finished};
-use serve_events::{Event, Stop};
+use serve_events::{Event, WindowStop};
 use serve_worker::{Instance, Worker, furnish, run_alone};
 use std::alloc::Global;
 use std::sync::Arc;
@@ -97,7 +97,7 @@ fn closes_what_it_claimed(rt: HostRuntime) -> Result<(), Fail> {
     };
     let delivered = Event::Deliver { worker, n: 0 };
     let evicted = Event::Evict { worker, key: INPUT };
-    let stop = Stop::Read { node };
+    let stop = WindowStop::Read { node };
     let given_up = [
         Event::Abandon { worker, key: INPUT },
         Event::Abandon {
@@ -114,7 +114,7 @@ fn closes_what_it_claimed(rt: HostRuntime) -> Result<(), Fail> {
         (&[], true, None, &[made, answered, delivered]),
         (&[], false, None, &[made, evicted, answered, delivered]),
         (&[trip], true, Some(stop), &given_up),
-    ] as [(&[Trip], bool, Option<Stop>, &[Event]); 3]
+    ] as [(&[Trip], bool, Option<WindowStop>, &[Event]); 3]
     {
         let left = finished(rt.alloc(), trips, roomy)?;
         assert!(rt; left.events.len() >= 5);

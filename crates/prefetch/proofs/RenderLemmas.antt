@@ -12,7 +12,7 @@ use Rattle.fv_plane.specs.declared.format.Info.{Info}
 use Rattle.fv_plane.specs.declared.key.Key.{Key}
 use Rattle.fv_plane.specs.Picture.{Picture}
 use Rattle.clip_graph.specs.Plan.{Application}
-use Rattle.serve_events.specs.declared.event.Stop.{Stop}
+use Rattle.serve_events.specs.declared.event.WindowStop.{WindowStop}
 use Rattle.serve_events.specs.Own.{names_source}
 use Rattle.serve_events.specs.SerialRun.{Serial, SerialWindows, serial_window, one_more_window, windows_after, serial_run}
 use Rattle.serve_events.specs.Windows.{WindowEvents}

@@ -11,7 +11,7 @@ use Rattle.fv_plane.specs.Picture.{Picture}
 use Rattle.clip_graph.specs.Plan.{Application, application_at, IsPlan}
 use Rattle.clip_graph.specs.Unfolding.{key_picture}
 use Rattle.serve_events.specs.declared.event.Event.{Event}
-use Rattle.serve_events.specs.declared.event.Stop.{Stop}
+use Rattle.serve_events.specs.declared.event.WindowStop.{WindowStop}
 use Rattle.serve_events.specs.Keys.{frame_key}
 use Rattle.serve_events.specs.SerialRun.{Serial, SerialWindows, serial_window, one_more_window, windows_after, serial_run}
 use Rattle.serve_events.specs.Windows.{WindowEvents}
@@ -84,7 +84,7 @@ module _ {I : Type 0} (holds : I → Option Info) (feed : I → Option (List Pic
   ended_stands : (c d : CoreValue I) (book : Book) (numbers : List ℕ) → d ≡ ended c → Stands feed faults book numbers c → Stands feed faults book numbers d
   ended_stands c d book numbers is s = subst (Stands feed faults book numbers) (sym is) (law.end_window book numbers c s)
 
-  pub ends_idle : (plan : List Application) (c1 c2 : CoreValue I) (count : ℕ) (r : Result (Unit {0}) Stop) → OnOk r (Served holds feed faults ends plan c1 count c2) → IfErr r (λ why. WindowCut holds feed faults ends plan c1 why c2) → (c2.claims ≡ []) × (leases_out c2.table ≡ 0)
+  pub ends_idle : (plan : List Application) (c1 c2 : CoreValue I) (count : ℕ) (r : Result (Unit {0}) WindowStop) → OnOk r (Served holds feed faults ends plan c1 count c2) → IfErr r (λ why. WindowCut holds feed faults ends plan c1 why c2) → (c2.claims ≡ []) × (leases_out c2.table ≡ 0)
   ends_idle plan c1 c2 count (Ok u) ok err = (ok.claims, none_leased c2.table ok.free)
   ends_idle plan c1 c2 count (Err why) ok err = (err.claims, none_leased c2.table err.free)
 
@@ -102,11 +102,11 @@ module _ {I : Type 0} (holds : I → Option Info) (feed : I → Option (List Pic
         held = held ∙ ap (λ (z : CoreValue I). held_in holds z.table) begins;
       })
 
-  pub window_stays : (c c1 c2 d : CoreValue I) (first count n : ℕ) (r : Result (Unit {0}) Stop) → c1 ≡ begun c first count → OnOk r (Served holds feed faults ends c.fixed.plan c1 n c2) → IfErr r (λ why. WindowCut holds feed faults ends c.fixed.plan c1 why c2) → d ≡ ended c2 → Stays holds c d
+  pub window_stays : (c c1 c2 d : CoreValue I) (first count n : ℕ) (r : Result (Unit {0}) WindowStop) → c1 ≡ begun c first count → OnOk r (Served holds feed faults ends c.fixed.plan c1 n c2) → IfErr r (λ why. WindowCut holds feed faults ends c.fixed.plan c1 why c2) → d ≡ ended c2 → Stays holds c d
   window_stays c c1 c2 d first count n (Ok u) begins ok err is = ended_stays c c1 c2 d first count begins ok.fixed ok.claims ok.free ok.held is
   window_stays c c1 c2 d first count n (Err why) begins ok err is = ended_stays c c1 c2 d first count begins err.fixed err.claims err.free err.held is
 
-  pub window_ends : (c c1 c2 d : CoreValue I) (first count : ℕ) (r : Result (Unit {0}) Stop) (finished : Finished) → IsPlan c.fixed.plan → c1 ≡ begun c first count
+  pub window_ends : (c c1 c2 d : CoreValue I) (first count : ℕ) (r : Result (Unit {0}) WindowStop) (finished : Finished) → IsPlan c.fixed.plan → c1 ≡ begun c first count
       → OnOk r (Served holds feed faults ends c.fixed.plan c1 count c2) → IfErr r (λ why. WindowCut holds feed faults ends c.fixed.plan c1 why c2) → d ≡ ended c2 → finished.frames.items ≡ c2.outputs.frames → finished.events.items ≡ c2.journal
       → length finished.frames.items ≡ c2.fixed.count → ((j : ℕ) (x : Picture) → slice_get finished.frames.items j ≡ Some (Some x) → x.shape ≡ shape_at c2.fixed.plan c2.fixed.root)
       → WindowEnds holds feed faults ends c first count finished r d

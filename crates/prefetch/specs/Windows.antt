@@ -8,7 +8,7 @@ use Rattle.fv_plane.specs.Bytes.{bytes_of}
 use Rattle.fv_plane.specs.Picture.{Picture}
 use Rattle.y4m_stream.specs.Stream.{frames_text}
 use Rattle.clip_graph.specs.Plan.{Application, application_at}
-use Rattle.serve_events.specs.declared.event.Stop.{Stop}
+use Rattle.serve_events.specs.declared.event.WindowStop.{WindowStop}
 use Rattle.serve_events.specs.Own.{names_source}
 use Rattle.serve_events.specs.SerialRun.{Serial, SerialWindows, serial_window, windows_after}
 use Rattle.serve_events.specs.Windows.{WindowEvents}
@@ -75,14 +75,14 @@ module _ {I : Type 0} (holds : I → Option Info) (feed : I → Option (List Pic
         → StandsStill feed faults (λ now. Unit {0}) book d
 
   -- or it was cut short
-  pub record WindowStopped (finished : Finished) (why : Stop) (d : CoreValue I) : Type 0 where
+  pub record WindowStopped (finished : Finished) (why : WindowStop) (d : CoreValue I) : Type 0 where
     pub cut : CutWork c.fixed.plan c.fixed.root 0 finished.events.items
     pub named : names_source c.fixed.plan why ≡ true
     pub ended : EndShows ends d.table why
     pub stands : (book : Book) (numbers : List ℕ) → Stands feed faults book numbers c
         → StandsStill feed faults (λ now. StopFits feed faults book now c.fixed.plan d.table why) book d
 
-  abbrev pub WindowEnds : ℕ → ℕ → Finished → Result (Unit {0}) Stop → CoreValue I → Type 0
+  abbrev pub WindowEnds : ℕ → ℕ → Finished → Result (Unit {0}) WindowStop → CoreValue I → Type 0
   WindowEnds first count finished (Ok u) d = WindowWhole first count finished d
   WindowEnds first count finished (Err why) d = WindowStopped finished why d
 
@@ -108,7 +108,7 @@ module _ {I : Type 0} (holds : I → Option Info) (feed : I → Option (List Pic
 
     -- it was cut short, and nothing of it was put
     pub record CutsWindow (first count : ℕ) (log : List WindowEvents) (old : K) (longer : List WindowEvents) (new : K)
-        (d : CoreValue I) (why : Stop) : Type 0 where
+        (d : CoreValue I) (why : WindowStop) : Type 0 where
       pub finished : Finished
       pub stays : Stays holds c d
       pub stopped : WindowStopped finished why d
@@ -148,7 +148,7 @@ module _ {I : Type 0} (holds : I → Option Info) (feed : I → Option (List Pic
             (frames_at c.fixed.plan c.fixed.root) windows
 
       -- the window of the next outputs was cut short, and its frames were not put
-      pub record StopsAfter (size : ℕ) (windows : List WindowEvents) (why : Stop) (d : CoreValue I) : Type 0 where
+      pub record StopsAfter (size : ℕ) (windows : List WindowEvents) (why : WindowStop) (d : CoreValue I) : Type 0 where
         pub stays : Stays holds c d
         pub count : ℕ
         pub few : count ≤ frames_at c.fixed.plan c.fixed.root

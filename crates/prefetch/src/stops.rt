@@ -1,11 +1,11 @@
 // Why a render ends early.
-use serve_events::Stop;
+use serve_events::WindowStop;
 
 /// Why not all frames were put.
 #[derive(Clone, Copy, Debug, PartialEq, Eq)]
 pub enum RenderStop {
     /// A worker stopped.
-    Stopped(Stop),
+    Stopped(WindowStop),
     /// The sink failed: its count of faults rose in the call.
     Write,
     /// Out of memory.

@@ -11,7 +11,7 @@ use crate::frames::put_frames;
 use crate::stops::RenderStop;
 use fv_io::{Failed, Sink};
 use serve_core::{Core, Finished};
-use serve_events::{Record, Stop, Windowed};
+use serve_events::{Record, WindowStop, Windowed};
 use serve_worker::{Worker, Works, run_alone};
 use std::alloc::{AllocError, Global};
 use std::sync::Arc;
@@ -23,7 +23,7 @@ fn run_window<I: Works>(
     worker: &mut Worker,
     first: u32,
     count: u32,
-) -> Result<(Finished, Result<(), Stop>), AllocError>
+) -> Result<(Finished, Result<(), WindowStop>), AllocError>
     requires between { core.old.fixed.count ≡ 0 }
     requires worker { worker.old.plan ≡ core.old.fixed.plan }
     requires plan { IsPlan core.old.fixed.plan }

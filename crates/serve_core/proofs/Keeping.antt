@@ -19,7 +19,7 @@ use Rattle.inst_table.specs.Places.{same_place, slot_at, with_slot, shared_place
 use Rattle.inst_table.proofs.CallerLemmas.{has_put}
 use Rattle.serve_events.specs.declared.event.Event.{Event}
 use Rattle.serve_events.specs.declared.event.Event.TheVariants.{Hit, Claim, Enter, Leave, Publish, Abandon, Take, Deliver, Fail}
-use Rattle.serve_events.specs.declared.event.Stop.{Stop}
+use Rattle.serve_events.specs.declared.event.WindowStop.{WindowStop}
 use Rattle.serve_events.specs.SerialRun.{eviction}
 use Rattle.serve_core.specs.CoreValue.{CoreValue, Fixed}
 use Rattle.serve_core.specs.Holds.{claims_at}
@@ -337,7 +337,7 @@ module _ {I : Type 0} {holds : I → Option Info} {c : CoreValue I} {owed writte
   pub fail_owed : (w : ℕ) → slice_get c.failed w ≡ Some false → 1 ≤ owed
   fail_owed w at = let is = v.owed_is in let l = fail_count w at in omega (arith, is, l)
 
-  pub failed_kept : (w : ℕ) (why : Stop) (failed : List Bool) (stop : Option Stop) (journal : List Event) (less after more : ℕ)
+  pub failed_kept : (w : ℕ) (why : WindowStop) (failed : List Bool) (stop : Option WindowStop) (journal : List Event) (less after more : ℕ)
       → slice_get c.failed w ≡ Some false
       → failed ≡ set c.failed w true → stop ≡ Some (kept_stop c.stop why) → journal ≡ c.journal ++ Fail w why ∷ [] → after ≡ written + 1 → less + 1 ≡ owed → more ≡ room
       → Kept holds (record c { failed = failed; stop = stop; journal = journal }) less after more

@@ -17,8 +17,8 @@ use Rattle.inst_table.specs.Places.{same_place, slot_at, with_slot, shared_place
 use Rattle.inst_table.proofs.CallerLemmas.{same_places, slot_other}
 use Rattle.serve_events.specs.declared.event.Event.{Event}
 use Rattle.serve_events.specs.declared.event.Event.TheVariants.{Hit, Claim, Enter, Leave, Publish, Abandon, Take, Deliver, Fail}
-use Rattle.serve_events.specs.declared.event.Stop.{Stop}
-use Rattle.serve_events.specs.declared.event.Stop.TheVariants.{Read, Changed, Memory}
+use Rattle.serve_events.specs.declared.event.WindowStop.{WindowStop}
+use Rattle.serve_events.specs.declared.event.WindowStop.TheVariants.{Read, Changed, Memory}
 use Rattle.serve_events.specs.Keys.{frame_key}
 use Rattle.serve_events.specs.SerialRun.{eviction}
 use Rattle.serve_core.specs.declared.answers.Ask.{Ask}
@@ -159,17 +159,17 @@ module _ {I : Type 0} {feed : I → Option (List Picture)} {faults : I → ℕ} 
     changed = changed_on (Deliver w n ∷ []) (refl, tt);
   }
 
-  failed_read : (why : Stop) (i : ℕ) → StopFits feed faults book numbers c.fixed.plan c.table why → has_read i (Fail 0 why ∷ []) ≡ true → HasFailed feed faults book numbers c.fixed.plan c.table i
+  failed_read : (why : WindowStop) (i : ℕ) → StopFits feed faults book numbers c.fixed.plan c.table why → has_read i (Fail 0 why ∷ []) ≡ true → HasFailed feed faults book numbers c.fixed.plan c.table i
   failed_read (Read j) i fits h = subst (HasFailed feed faults book numbers c.fixed.plan c.table) (eqb-true j i (left_or (j == i) h)) fits
   failed_read (Changed j n want got) i fits h = absurd (cc)
   failed_read Memory i fits h = absurd (cc)
 
-  failed_change : (why : Stop) → StopFits feed faults book numbers c.fixed.plan c.table why → has_changed (Fail 0 why ∷ []) ≡ true → book ≡ None
+  failed_change : (why : WindowStop) → StopFits feed faults book numbers c.fixed.plan c.table why → has_changed (Fail 0 why ∷ []) ≡ true → book ≡ None
   failed_change (Read j) fits h = absurd (cc)
   failed_change (Changed j n want got) fits h = fits
   failed_change Memory fits h = absurd (cc)
 
-  failing_stands : (w : ℕ) (why : Stop) → StopFits feed faults book numbers c.fixed.plan c.table why → Stands feed faults book numbers (failing c w why)
+  failing_stands : (w : ℕ) (why : WindowStop) → StopFits feed faults book numbers c.fixed.plan c.table why → Stands feed faults book numbers (failing c w why)
   failing_stands w why fits = record {
     cached = v.cached;
     outputs = v.outputs;

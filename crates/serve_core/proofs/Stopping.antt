@@ -3,7 +3,7 @@ use Rattle.std.proofs.Common.{◌≡◌, ℕ, Bool, true, false, ◌||◌, List,
 use Rattle.fv_plane.specs.declared.key.Key.{Key}
 use Rattle.serve_events.specs.declared.event.Event.{Event}
 use Rattle.serve_events.specs.declared.event.Event.TheVariants.{Publish, Fail}
-use Rattle.serve_events.specs.declared.event.Stop.{Stop}
+use Rattle.serve_events.specs.declared.event.WindowStop.{WindowStop}
 use Rattle.serve_events.specs.SerialRun.{eviction}
 use Rattle.serve_core.specs.Stops.{kept_stop, stop_of, earlier, first_stop, is_read, has_read, is_changed, has_changed}
 
@@ -16,7 +16,7 @@ pub first_append : (es fs : List Event) → first_stop (es ++ fs) ≡ earlier (f
 first_append [] fs = refl
 first_append (e ∷ es) fs = ap (earlier (stop_of e)) (first_append es fs) ∙ joined (stop_of e)
   where
-    joined : (o : Option Stop) → earlier o (earlier (first_stop es) (first_stop fs)) ≡ earlier (earlier o (first_stop es)) (first_stop fs)
+    joined : (o : Option WindowStop) → earlier o (earlier (first_stop es) (first_stop fs)) ≡ earlier (earlier o (first_stop es)) (first_stop fs)
     joined None = refl
     joined (Some why) = refl
 
@@ -24,18 +24,18 @@ quiet_none : (fs : List Event) → AreQuiet fs → first_stop fs ≡ None
 quiet_none [] q = refl
 quiet_none (e ∷ es) q = ap (λ o. earlier o (first_stop es)) q.0 ∙ quiet_none es q.1
 
-earlier_none : (o : Option Stop) → earlier o None ≡ o
+earlier_none : (o : Option WindowStop) → earlier o None ≡ o
 earlier_none None = refl
 earlier_none (Some why) = refl
 
 pub first_quiet : (es fs : List Event) → AreQuiet fs → first_stop (es ++ fs) ≡ first_stop es
 first_quiet es fs q = first_append es fs ∙ (ap (earlier (first_stop es)) (quiet_none fs q) ∙ earlier_none (first_stop es))
 
-kept_earlier : (o : Option Stop) (why : Stop) → Some (kept_stop o why) ≡ earlier o (Some why)
+kept_earlier : (o : Option WindowStop) (why : WindowStop) → Some (kept_stop o why) ≡ earlier o (Some why)
 kept_earlier None why = refl
 kept_earlier (Some first) why = refl
 
-pub first_fail : (es : List Event) (w : ℕ) (why : Stop) → Some (kept_stop (first_stop es) why) ≡ first_stop (es ++ Fail w why ∷ [])
+pub first_fail : (es : List Event) (w : ℕ) (why : WindowStop) → Some (kept_stop (first_stop es) why) ≡ first_stop (es ++ Fail w why ∷ [])
 first_fail es w why = kept_earlier (first_stop es) why ∙ sym (first_append es (Fail w why ∷ []))
 
 joined_or : (a b c : Bool) → (a || (b || c)) ≡ ((a || b) || c)
@@ -73,7 +73,7 @@ eviction_quiet w None k = (refl, tt)
 eviction_quiet w (Some j) k = (refl, (refl, tt))
 
 -- where there is no stop, no read was refused
-unstopped_after : (i : ℕ) (o : Option Stop) (es : List Event) → (first_stop es ≡ None → has_read i es ≡ false) → earlier o (first_stop es) ≡ None
+unstopped_after : (i : ℕ) (o : Option WindowStop) (es : List Event) → (first_stop es ≡ None → has_read i es ≡ false) → earlier o (first_stop es) ≡ None
     → (is_read i o || has_read i es) ≡ false
 unstopped_after i None es later h = later h
 unstopped_after i (Some why) es later h = absurd (cc)

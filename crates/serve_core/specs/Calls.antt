@@ -10,7 +10,7 @@ use Rattle.inst_table.specs.declared.place.Slot.{Slot}
 use Rattle.inst_table.specs.declared.place.Slot.TheVariants.{Free, Leased as LeasedTo}
 use Rattle.inst_table.specs.Places.{slot_at, with_slot}
 use Rattle.serve_events.specs.declared.event.Event.TheVariants.{Hit, Claim, Enter, Leave, Publish, Abandon, Take, Deliver, Fail}
-use Rattle.serve_events.specs.declared.event.Stop.{Stop}
+use Rattle.serve_events.specs.declared.event.WindowStop.{WindowStop}
 use Rattle.serve_events.specs.SerialRun.{eviction}
 use Rattle.serve_core.specs.declared.answers.Ask.{Ask}
 use Rattle.serve_core.specs.declared.answers.Ask.TheVariants.{Hit as Found, Claimed, Taken, Stopped}
@@ -74,7 +74,7 @@ module _ {I : Type 0} where
     journal = c.journal ++ Deliver w n ∷ [];
   }
 
-  abbrev pub failing : CoreValue I → ℕ → Stop → CoreValue I
+  abbrev pub failing : CoreValue I → ℕ → WindowStop → CoreValue I
   failing c w why = record c {
     failed = slice_set c.failed w true;
     stop = Some (kept_stop c.stop why);

@@ -6,7 +6,7 @@ use Rattle.clip_graph.specs.Plan.{Application}
 use Rattle.inst_table.specs.declared.place.Place.{Place}
 use Rattle.inst_table.specs.declared.place.Slot.{Slot}
 use Rattle.serve_events.specs.declared.event.Event.{Event}
-use Rattle.serve_events.specs.declared.event.Stop.{Stop}
+use Rattle.serve_events.specs.declared.event.WindowStop.{WindowStop}
 
 -- what a window does not change: the outputs are `count` frames of the root from `first` on, and `opening` are the keys
 -- that were cached when the window began; between windows there is no output
@@ -33,5 +33,5 @@ pub record CoreValue (I : Type 0) : Type 0 where
   pub table : List (Place × Slot I)
   pub outputs : Outputs
   pub failed : List Bool
-  pub stop : Option Stop
+  pub stop : Option WindowStop
   pub journal : List Event

@@ -5,8 +5,8 @@ use Rattle.inst_table.specs.declared.place.Place.{Place}
 use Rattle.inst_table.specs.declared.place.Slot.{Slot}
 use Rattle.inst_table.specs.declared.place.Slot.TheVariants.{Free, Leased}
 use Rattle.inst_table.specs.Places.{slot_at, shared_place}
-use Rattle.serve_events.specs.declared.event.Stop.{Stop}
-use Rattle.serve_events.specs.declared.event.Stop.TheVariants.{Read, Changed, Memory}
+use Rattle.serve_events.specs.declared.event.WindowStop.{WindowStop}
+use Rattle.serve_events.specs.declared.event.WindowStop.TheVariants.{Read, Changed, Memory}
 
 -- a claim on a frame of the node
 abbrev pub claims_at : ℕ → ℕ → List (Key × ℕ) → Bool
@@ -25,7 +25,7 @@ is_free_at (Some (Free x)) = true
 is_free_at (Some (Leased w)) = false
 
 -- the source whose read failed is in the table
-abbrev pub IsThere : {I : Type 0} → List (Place × Slot I) → Stop → Type 0
+abbrev pub IsThere : {I : Type 0} → List (Place × Slot I) → WindowStop → Type 0
 IsThere table (Read i) = is_free_at (slot_at (shared_place i) table) ≡ true
 IsThere table (Changed i n want got) = Unit {0}
 IsThere table Memory = Unit {0}

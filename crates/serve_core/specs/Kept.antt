@@ -9,7 +9,7 @@ use Rattle.inst_table.specs.declared.place.Place.{Place}
 use Rattle.inst_table.specs.declared.place.Slot.{Slot}
 use Rattle.inst_table.specs.declared.place.Slot.TheVariants.{Free, Leased}
 use Rattle.serve_events.specs.declared.event.Event.{Event}
-use Rattle.serve_events.specs.declared.event.Stop.{Stop}
+use Rattle.serve_events.specs.declared.event.WindowStop.{WindowStop}
 use Rattle.serve_core.specs.declared.answers.Ask.{Ask}
 use Rattle.serve_core.specs.declared.answers.Ask.TheVariants.{Hit as Found, Claimed, Taken, Stopped}
 use Rattle.serve_core.specs.declared.answers.Admitted.{Admitted}
@@ -81,7 +81,7 @@ pub record PlanKept (plan : List Application) (root workers : ℕ) : Type 0 wher
 
 -- between windows nothing is open and the journal is empty
 pub record IsBetween {I : Type 0} (claims : List (Key × ℕ)) (table : List (Place × Slot I)) (failed : List Bool)
-    (stop : Option Stop) (journal : List Event) : Type 0 where
+    (stop : Option WindowStop) (journal : List Event) : Type 0 where
   pub unclaimed : claims ≡ []
   pub unlent : leases_out table ≡ 0
   pub unfailed : failed ≡ []

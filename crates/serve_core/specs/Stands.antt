@@ -11,8 +11,8 @@ use Rattle.inst_table.specs.declared.place.Place.{Place}
 use Rattle.inst_table.specs.declared.place.Slot.{Slot}
 use Rattle.inst_table.specs.declared.place.Slot.TheVariants.{Free, Leased as LeasedTo}
 use Rattle.inst_table.specs.Places.{slot_at, shared_place}
-use Rattle.serve_events.specs.declared.event.Stop.{Stop}
-use Rattle.serve_events.specs.declared.event.Stop.TheVariants.{Read, Changed, Memory}
+use Rattle.serve_events.specs.declared.event.WindowStop.{WindowStop}
+use Rattle.serve_events.specs.declared.event.WindowStop.TheVariants.{Read, Changed, Memory}
 use Rattle.serve_events.specs.Keys.{frame_key}
 use Rattle.serve_core.specs.declared.answers.Ask.{Ask}
 use Rattle.serve_core.specs.declared.answers.Ask.TheVariants.{Hit as Found, Claimed, Taken, Stopped}
@@ -73,7 +73,7 @@ module _ {I : Type 0} (feed : I → Option (List Picture)) (faults : I → ℕ) 
     pub more : ExceedsAct (application_at plan i).act instance
 
   -- why a worker may fail: a read that failed, or over an untold book a file that ended too early
-  abbrev pub StopFits : List Application → List (Place × Slot I) → Stop → Type 0
+  abbrev pub StopFits : List Application → List (Place × Slot I) → WindowStop → Type 0
   StopFits plan table (Read i) = HasFailed plan table i
   StopFits plan table (Changed i n want got) = book ≡ None
   StopFits plan table Memory = Unit {0}
@@ -110,7 +110,7 @@ module _ {I : Type 0} (feed : I → Option (List Picture)) (faults : I → ℕ) 
     pub deliver : (book : Book) (numbers : List ℕ) (c : CoreValue I) (w n : ℕ) (x : Picture)
         → Stands feed faults book numbers c → c.fixed.first ≤ n → IsRight book c.fixed.plan (frame_key c.fixed.root n) x
         → Stands feed faults book numbers (delivered c w n x)
-    pub fail : (book : Book) (numbers : List ℕ) (c : CoreValue I) (w : ℕ) (why : Stop)
+    pub fail : (book : Book) (numbers : List ℕ) (c : CoreValue I) (w : ℕ) (why : WindowStop)
         → Stands feed faults book numbers c → StopFits feed faults book numbers c.fixed.plan c.table why
         → Stands feed faults book numbers (failing c w why)
     pub begin_window : (book : Book) (numbers : List ℕ) (c : CoreValue I) (first count : ℕ)

@@ -2,15 +2,15 @@
 use Rattle.std.specs.Prelude.{ℕ, ◌==◌, Bool, true, false, ◌||◌, List, [], ◌∷◌, Option, Some, None}
 use Rattle.serve_events.specs.declared.event.Event.{Event}
 use Rattle.serve_events.specs.declared.event.Event.TheVariants.{Hit, Claim, Enter, Leave, Evict, Publish, Abandon, Take, Deliver, Fail}
-use Rattle.serve_events.specs.declared.event.Stop.{Stop}
-use Rattle.serve_events.specs.declared.event.Stop.TheVariants.{Read, Changed, Memory}
+use Rattle.serve_events.specs.declared.event.WindowStop.{WindowStop}
+use Rattle.serve_events.specs.declared.event.WindowStop.TheVariants.{Read, Changed, Memory}
 
 -- the first stop is kept
-abbrev pub kept_stop : Option Stop → Stop → Stop
+abbrev pub kept_stop : Option WindowStop → WindowStop → WindowStop
 kept_stop None why = why
 kept_stop (Some first) why = first
 
-abbrev pub stop_of : Event → Option Stop
+abbrev pub stop_of : Event → Option WindowStop
 stop_of (Fail w why) = Some why
 stop_of (Hit w k) = None
 stop_of (Claim w k) = None
@@ -22,16 +22,16 @@ stop_of (Abandon w k) = None
 stop_of (Take w n) = None
 stop_of (Deliver w n) = None
 
-abbrev pub earlier : Option Stop → Option Stop → Option Stop
+abbrev pub earlier : Option WindowStop → Option WindowStop → Option WindowStop
 earlier None later = later
 earlier (Some why) later = Some why
 
 -- the stop of the first failure
-abbrev pub first_stop : List Event → Option Stop
+abbrev pub first_stop : List Event → Option WindowStop
 first_stop [] = None
 first_stop (e ∷ es) = earlier (stop_of e) (first_stop es)
 
-abbrev pub is_read : ℕ → Option Stop → Bool
+abbrev pub is_read : ℕ → Option WindowStop → Bool
 is_read i None = false
 is_read i (Some (Read j)) = j == i
 is_read i (Some (Changed j n want got)) = false
@@ -42,7 +42,7 @@ abbrev pub has_read : ℕ → List Event → Bool
 has_read i [] = false
 has_read i (e ∷ es) = is_read i (stop_of e) || has_read i es
 
-abbrev pub is_changed : Option Stop → Bool
+abbrev pub is_changed : Option WindowStop → Bool
 is_changed None = false
 is_changed (Some (Read i)) = false
 is_changed (Some (Changed i n want got)) = true

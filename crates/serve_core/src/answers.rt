@@ -1,7 +1,7 @@
 // What the calls of a core answer.
 use fv_plane::Frame;
 use inst_table::Lease;
-use serve_events::{Event, Stop};
+use serve_events::{Event, WindowStop};
 
 /// What a worker learns that asks for a frame.
 #[derive(Drop)]
@@ -13,7 +13,7 @@ pub enum Ask {
     /// Another worker has the claim on it.
     Taken { by: u32 },
     /// The window was stopped.
-    Stopped(Stop),
+    Stopped(WindowStop),
 }
 
 /// What a worker learns that asks for its instance of a node.
@@ -23,7 +23,7 @@ pub enum Admitted<I> {
     /// Another worker has it.
     Busy { holder: u32 },
     /// The window was stopped.
-    Stopped(Stop),
+    Stopped(WindowStop),
 }
 
 /// What a window left.
@@ -32,7 +32,7 @@ pub struct Finished {
     /// The outputs in their order, `None` for one that was not delivered.
     pub frames: Vec<Option<Frame>>,
     /// The first stop, or `None` where there was none.
-    pub stop: Option<Stop>,
+    pub stop: Option<WindowStop>,
     /// The journal.
     pub events: Vec<Event>,
 }

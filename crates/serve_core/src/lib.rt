@@ -10,5 +10,5 @@ pub mod laws;
 mod state;
 
 pub use answers::{Admitted, Ask, Finished};
-pub use serve_events::{Event, Record, Stop, Windowed};
+pub use serve_events::{Event, Record, WindowStop, Windowed};
 pub use state::Core;

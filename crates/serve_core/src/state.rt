@@ -25,7 +25,7 @@ use clip_graph::Graph;
 use frame_cache::FrameCache;
 use fv_plane::{Frame, Key};
 use inst_table::{Entered, Held, InstTable, Lease};
-use serve_events::{Event, Stop};
+use serve_events::{Event, WindowStop};
 use std::alloc::{AllocError, Global};
 use std::marker::Model;
 use std::mem;
@@ -53,7 +53,7 @@ pub struct Core<I: Held> {
     taken: Vec<u32>,
     frames: Vec<Option<Frame>>,
     failed: Vec<bool>,
-    stop: Option<Stop>,
+    stop: Option<WindowStop>,
     journal: Vec<Event>,
     // The events that may still have to come, for which the journal has room.
     owed: usize,
@@ -357,7 +357,7 @@ impl<I: Held> Core<I> {
 
     /// Stops the window, by a worker that hasn't failed in it. A source that the stop names is one that the worker
     /// entered, and one whose read failed is in the table. The first stop is kept. It takes no memory.
-    pub fn fail(&mut self, worker: u32, stop: Stop)
+    pub fn fail(&mut self, worker: u32, stop: WindowStop)
         requires worker { worker < self.old.fixed.workers }
         requires fresh { slice_get self.old.failed worker ≡ Some false }
         requires cause { may_fail worker stop self.old.journal ≡ true }
@@ -430,7 +430,7 @@ impl<I: Held> Core<I> {
 }
 
 // The stop that is kept.
-fn first_of(kept: Option<Stop>, stop: Stop) -> Stop
+fn first_of(kept: Option<WindowStop>, stop: WindowStop) -> WindowStop
     ensures { result ≡ kept_stop kept stop }
 {
     match kept {

@@ -4,8 +4,8 @@ use Rattle.std.specs.Cmp.Derive.{both_true}
 use Rattle.fv_plane.specs.declared.key.Key.{Key}
 use Rattle.serve_events.specs.declared.event.Event.{Event}
 use Rattle.serve_events.specs.declared.event.Event.TheVariants.{Hit, Claim, Enter, Leave, Evict, Publish, Abandon, Take, Deliver, Fail}
-use Rattle.serve_events.specs.declared.event.Stop.{Stop}
-use Rattle.serve_events.specs.declared.event.Stop.TheVariants.{Read, Changed, Memory}
+use Rattle.serve_events.specs.declared.event.WindowStop.{WindowStop}
+use Rattle.serve_events.specs.declared.event.WindowStop.TheVariants.{Read, Changed, Memory}
 use Rattle.serve_events.specs.Events.{worker_of}
 use Rattle.serve_events.specs.Own.{gives, has_got, has_got_all, enters, has_entered, may_fail, own_events, IsOwn}
 use Rattle.serve_events.specs.SerialRun.{eviction}
@@ -56,7 +56,7 @@ now_entered w i (e ∷ es) fs h =
 pub entered_now : (w i j : ℕ) (es fs : List Event) → has_entered w i (es ++ Enter w i j ∷ fs) ≡ true
 entered_now w i j es fs = now_entered w i es (Enter w i j ∷ fs) (rw (eq-eqb w w refl) (rw (eq-eqb i i refl) refl))
 
-pub still_fails : (w : ℕ) (why : Stop) (es fs : List Event) → may_fail w why es ≡ true → may_fail w why (es ++ fs) ≡ true
+pub still_fails : (w : ℕ) (why : WindowStop) (es fs : List Event) → may_fail w why es ≡ true → may_fail w why (es ++ fs) ≡ true
 still_fails w (Read i) es fs h = was_entered w i es fs h
 still_fails w (Changed i n want got) es fs h = both_true (was_entered w i es fs (left_true _ _ h)) (right_true _ _ h)
 still_fails w Memory es fs h = refl
@@ -106,7 +106,7 @@ own_entered w i (e ∷ es) = let ih = own_entered w i es in ⊎_elim
     (λ (g : (worker_of e == w) ≡ false). rw g (ih ∙ ap (λ b. b || has_entered w i es) (sym (enters_own w i e g))))
     (test (worker_of e == w))
 
-own_fails : (w : ℕ) (why : Stop) (es : List Event) → may_fail w why (own_events w es) ≡ may_fail w why es
+own_fails : (w : ℕ) (why : WindowStop) (es : List Event) → may_fail w why (own_events w es) ≡ may_fail w why es
 own_fails w (Read i) es = own_entered w i es
 own_fails w (Changed i n want got) es = ap (λ b. b && nat_lt got want) (own_entered w i es)
 own_fails w Memory es = refl

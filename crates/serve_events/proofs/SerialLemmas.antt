@@ -8,7 +8,7 @@ use Rattle.clip_graph.specs.Unfolding.{input_keys, IsKeyBelow}
 use Rattle.clip_graph.proofs.UnfoldingLemmas.{inputs_are_keys}
 use Rattle.serve_events.specs.declared.event.Event.{Event}
 use Rattle.serve_events.specs.declared.event.Event.TheVariants.{Take, Fail}
-use Rattle.serve_events.specs.declared.event.Stop.{Stop}
+use Rattle.serve_events.specs.declared.event.WindowStop.{WindowStop}
 use Rattle.serve_events.specs.Keys.{frame_key, has}
 use Rattle.serve_events.specs.SerialRun.{Serial, each_produced, serial_production_within, serial_production, serial_window}
 use Rattle.serve_events.specs.Work.{Production, Productions, hit, made, done, more, Deliveries, none, also, CutShort, untaken, taken, CutWork, failed, SerialIsWhole}
@@ -63,11 +63,11 @@ serial_is_whole = record {
 }
 
 -- the two ways in which a failed worker's events end
-pub failed_between : (plan : List Application) (root w : ℕ) (ns : List ℕ) (es : List Event) (why : Stop) → Deliveries plan root w ns es
+pub failed_between : (plan : List Application) (root w : ℕ) (ns : List ℕ) (es : List Event) (why : WindowStop) → Deliveries plan root w ns es
     → CutWork plan root w (es ++ Fail w why ∷ [])
 failed_between plan root w ns es why whole = failed why (untaken whole)
 
-pub failed_within : (plan : List Application) (root w : ℕ) (ns : List ℕ) (n : ℕ) (es fs : List Event) (why : Stop)
+pub failed_within : (plan : List Application) (root w : ℕ) (ns : List ℕ) (n : ℕ) (es fs : List Event) (why : WindowStop)
     → Deliveries plan root w ns es → CutShort plan w (frame_key root n) fs
     → CutWork plan root w (es ++ (Take w n ∷ (fs ++ Fail w why ∷ [])))
 failed_within plan root w ns n es fs why whole cut =

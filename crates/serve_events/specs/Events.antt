@@ -3,8 +3,8 @@ use Rattle.std.specs.Prelude.{ℕ, Option, Some, None}
 use Rattle.fv_plane.specs.declared.key.Key.{Key}
 use Rattle.serve_events.specs.declared.event.Event.{Event}
 use Rattle.serve_events.specs.declared.event.Event.TheVariants.{Hit, Claim, Enter, Leave, Evict, Publish, Abandon, Take, Deliver, Fail}
-use Rattle.serve_events.specs.declared.event.Stop.{Stop}
-use Rattle.serve_events.specs.declared.event.Stop.TheVariants.{Read, Changed, Memory}
+use Rattle.serve_events.specs.declared.event.WindowStop.{WindowStop}
+use Rattle.serve_events.specs.declared.event.WindowStop.TheVariants.{Read, Changed, Memory}
 
 abbrev pub worker_of : Event → ℕ
 worker_of (Hit w k) = w
@@ -42,7 +42,7 @@ node_of (Take w n) = None
 node_of (Deliver w n) = None
 node_of (Fail w why) = None
 
-abbrev pub source_of : Stop → Option ℕ
+abbrev pub source_of : WindowStop → Option ℕ
 source_of (Read i) = Some i
 source_of (Changed i n want got) = Some i
 source_of Memory = None

@@ -4,8 +4,8 @@ use Rattle.fv_plane.specs.declared.key.Key.{Key}
 use Rattle.clip_graph.specs.Plan.{Application, application_at, is_source}
 use Rattle.serve_events.specs.declared.event.Event.{Event}
 use Rattle.serve_events.specs.declared.event.Event.TheVariants.{Hit, Enter, Publish}
-use Rattle.serve_events.specs.declared.event.Stop.{Stop}
-use Rattle.serve_events.specs.declared.event.Stop.TheVariants.{Read, Changed, Memory}
+use Rattle.serve_events.specs.declared.event.WindowStop.{WindowStop}
+use Rattle.serve_events.specs.declared.event.WindowStop.TheVariants.{Read, Changed, Memory}
 use Rattle.serve_events.specs.Events.{worker_of}
 use Rattle.serve_events.specs.Keys.{same_key}
 
@@ -32,13 +32,13 @@ has_entered w i [] = false
 has_entered w i (e ∷ es) = enters w i e || has_entered w i es
 
 -- a failure names a node that the worker entered
-abbrev pub may_fail : ℕ → Stop → List Event → Bool
+abbrev pub may_fail : ℕ → WindowStop → List Event → Bool
 may_fail w (Read i) es = has_entered w i es
 may_fail w (Changed i n want got) es = has_entered w i es && nat_lt got want
 may_fail w Memory es = true
 
 -- a stop at a source is at a source of the plan
-abbrev pub names_source : List Application → Stop → Bool
+abbrev pub names_source : List Application → WindowStop → Bool
 names_source plan (Read i) = is_source (application_at plan i).act
 names_source plan (Changed i n want got) = is_source (application_at plan i).act
 names_source plan Memory = true
@@ -53,4 +53,4 @@ pub record IsOwn : Type 0 where
   pub got : (w : ℕ) (k : Key) (es : List Event) → has_got w k (own_events w es) ≡ has_got w k es
   pub got_all : (w : ℕ) (ks : List Key) (es : List Event) → has_got_all w ks (own_events w es) ≡ has_got_all w ks es
   pub entered : (w i : ℕ) (es : List Event) → has_entered w i (own_events w es) ≡ has_entered w i es
-  pub fails : (w : ℕ) (why : Stop) (es : List Event) → may_fail w why (own_events w es) ≡ may_fail w why es
+  pub fails : (w : ℕ) (why : WindowStop) (es : List Event) → may_fail w why (own_events w es) ≡ may_fail w why es

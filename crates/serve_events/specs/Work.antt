@@ -6,7 +6,7 @@ use Rattle.clip_graph.specs.Plan.{Application, IsPlan}
 use Rattle.clip_graph.specs.Unfolding.{input_keys}
 use Rattle.serve_events.specs.declared.event.Event.{Event}
 use Rattle.serve_events.specs.declared.event.Event.TheVariants.{Hit, Claim, Publish, Abandon, Take, Deliver, Fail}
-use Rattle.serve_events.specs.declared.event.Stop.{Stop}
+use Rattle.serve_events.specs.declared.event.WindowStop.{WindowStop}
 use Rattle.serve_events.specs.Keys.{frame_key}
 use Rattle.serve_events.specs.SerialRun.{eviction, leases, serial_production, serial_window}
 
@@ -52,7 +52,7 @@ pub data CutDeliveries (plan : List Application) (root w : ℕ) : List Event →
 
 -- the events of a worker that failed end with its failure; one that another's stop cut short has no such event
 pub data CutWork (plan : List Application) (root w : ℕ) : List Event → Type 0 where
-  failed : {es : List Event} (why : Stop) → CutDeliveries plan root w es → CutWork plan root w (es ++ Fail w why ∷ [])
+  failed : {es : List Event} (why : WindowStop) → CutDeliveries plan root w es → CutWork plan root w (es ++ Fail w why ∷ [])
 
 -- what one worker alone makes of a key, and of a window, is whole
 pub record SerialIsWhole : Type 0 where

@@ -6,7 +6,7 @@ use fv_plane::Key;
 
 /// Why a window stops.
 #[derive(Clone, Copy, Debug, PartialEq, Eq)]
-pub enum Stop {
+pub enum WindowStop {
     /// The source of this node was refused by a fault.
     Read {
         node: u32,
@@ -75,7 +75,7 @@ pub enum Event {
     /// The worker stopped. The first stop of a window is kept.
     Fail {
         worker: u32,
-        stop: Stop,
+        stop: WindowStop,
     },
 }
 
@@ -124,15 +124,15 @@ impl Event {
     }
 }
 
-impl Stop {
+impl WindowStop {
     /// The node of the source that stopped the window.
     pub fn source(&self) -> Option<u32>
         ensures { result ≡ source_of self.now }
     {
         match *self {
-            Stop::Read { node } => Some(node),
-            Stop::Changed { node, .. } => Some(node),
-            Stop::Memory => None,
+            WindowStop::Read { node } => Some(node),
+            WindowStop::Changed { node, .. } => Some(node),
+            WindowStop::Memory => None,
         }
     }
 }

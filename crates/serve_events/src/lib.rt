@@ -9,6 +9,6 @@ mod instance;
 pub mod laws;
 mod windows;
 
-pub use event::{Event, Stop};
+pub use event::{Event, WindowStop};
 pub use instance::instance_for;
 pub use windows::{Record, Windowed};

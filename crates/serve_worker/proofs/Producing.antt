@@ -25,8 +25,8 @@ use Rattle.inst_table.specs.Places.{slot_at, shared_place, with_slot}
 use Rattle.inst_table.proofs.CallerLemmas.{slot_put}
 use Rattle.serve_events.specs.declared.event.Event.{Event}
 use Rattle.serve_events.specs.declared.event.Event.TheVariants.{Hit, Claim, Enter, Leave, Publish, Abandon}
-use Rattle.serve_events.specs.declared.event.Stop.{Stop}
-use Rattle.serve_events.specs.declared.event.Stop.TheVariants.{Read, Changed, Memory}
+use Rattle.serve_events.specs.declared.event.WindowStop.{WindowStop}
+use Rattle.serve_events.specs.declared.event.WindowStop.TheVariants.{Read, Changed, Memory}
 use Rattle.serve_events.specs.Keys.{has, mode_at, instance_of}
 use Rattle.serve_events.specs.Own.{has_got, has_got_all, has_entered}
 use Rattle.serve_events.specs.SerialRun.{Serial, serial_production_within, each_produced, made_after, leases, eviction, eviction_from}
@@ -71,11 +71,11 @@ module _ {I : Type 0} (holds : I → Option Info) (feed : I → Option (List Pic
   memory_stop c d keeps = record { cause = refl; named = refl; there = tt; ended = tt; right = λ book numbers s. ((keeps book numbers s).0, tt) }
 
   -- a stop of later work
-  pub stop_since : (c d e : CoreValue I) (why : Stop) → Keeps holds feed faults ends plan c d (λ book numbers. Unit {0}) → StopIs holds feed faults ends plan d why e → StopIs holds feed faults ends plan c why e
+  pub stop_since : (c d e : CoreValue I) (why : WindowStop) → Keeps holds feed faults ends plan c d (λ book numbers. Unit {0}) → StopIs holds feed faults ends plan d why e → StopIs holds feed faults ends plan c why e
   stop_since c d e why keeps s = record { cause = s.cause; named = s.named; there = s.there; ended = s.ended; right = λ book numbers st. s.right book numbers (keeps book numbers st).0 }
 
   -- a claim is given up after it
-  pub stop_abandoned : (c d e : CoreValue I) (k : Key) (why : Stop) → StopIs holds feed faults ends plan c why d → e ≡ abandoned d 0 k → StopIs holds feed faults ends plan c why e
+  pub stop_abandoned : (c d e : CoreValue I) (k : Key) (why : WindowStop) → StopIs holds feed faults ends plan c why d → e ≡ abandoned d 0 k → StopIs holds feed faults ends plan c why e
   stop_abandoned c d e k why s is = subst (StopIs holds feed faults ends plan c why) (sym is) (record {
     cause = still_fails 0 why d.journal (Abandon 0 k ∷ []) s.cause;
     named = s.named;
@@ -87,7 +87,7 @@ module _ {I : Type 0} (holds : I → Option Info) (feed : I → Option (List Pic
   -- ONE FRAME
 
   -- a filter of mode 1
-  pub plain_made : (c : CoreValue I) (k : Key) (inputs : List Picture) (r : Result Picture Stop) → Alone plan c → k.node < length plan → mode_at plan k.node ≡ 1
+  pub plain_made : (c : CoreValue I) (k : Key) (inputs : List Picture) (r : Result Picture WindowStop) → Alone plan c → k.node < length plan → mode_at plan k.node ≡ 1
       → IfOk r (λ x. (own : Option (List Picture)) → IsMade plan k own inputs x) → IfOk r (λ x. Made holds feed faults ends plan c k inputs x c)
   plain_made c k inputs (Err e) a less one is = tt
   plain_made c k inputs (Ok x) a less one is =
@@ -101,7 +101,7 @@ module _ {I : Type 0} (holds : I → Option Info) (feed : I → Option (List Pic
   pub unmade_now : (c d : CoreValue I) (k : Key) → Alone plan c → d ≡ c → Unmade holds feed faults ends plan c k Memory d
   unmade_now c d k a e = subst (Unmade holds feed faults ends plan c k Memory) (sym e) (record { events = []; which = inl refl; went = went_none holds c a.free; stops = memory_stop c c (same_stands c) })
 
-  pub plain_unmade : (c : CoreValue I) (k : Key) (r : Result Picture Stop) → Alone plan c → IfErr r (λ why. why ≡ Memory) → IfErr r (λ why. Unmade holds feed faults ends plan c k why c)
+  pub plain_unmade : (c : CoreValue I) (k : Key) (r : Result Picture WindowStop) → Alone plan c → IfErr r (λ why. why ≡ Memory) → IfErr r (λ why. Unmade holds feed faults ends plan c k why c)
   plain_unmade c k (Ok x) a is = tt
   plain_unmade c k (Err why) a is = subst (λ w. Unmade holds feed faults ends plan c k w c) (sym is) (unmade_now c c k a refl)
 
@@ -160,7 +160,7 @@ module _ {I : Type 0} (holds : I → Option Info) (feed : I → Option (List Pic
       pick (joined op) e = other (ap is_source e)
       pick (soft op) e = other (ap is_source e)
 
-  pub made_ok : (c c1 e : CoreValue I) (k : Key) (inputs : List Picture) (l : Lent I) (r : Result Picture Stop) → Alone plan c → k.node < length plan → (mode_at plan k.node ≡ 1 → ⊥) → c.stop ≡ first_stop c.journal → Admits c 0 k.node (Lends l) c1
+  pub made_ok : (c c1 e : CoreValue I) (k : Key) (inputs : List Picture) (l : Lent I) (r : Result Picture WindowStop) → Alone plan c → k.node < length plan → (mode_at plan k.node ≡ 1 → ⊥) → c.stop ≡ first_stop c.journal → Admits c 0 k.node (Lends l) c1
       → Returned holds feed faults ends plan k inputs l c1 r e → IfOk r (λ x. Made holds feed faults ends plan c k inputs x e)
   made_ok c c1 e k inputs l (Err why) a less many first adm ret = tt
   made_ok c c1 e k inputs l (Ok x) a less many first adm ret = record {
@@ -204,7 +204,7 @@ module _ {I : Type 0} (holds : I → Option Info) (feed : I → Option (List Pic
   untold_book (joined op) x book numbers is untold fits = absurd (cc)
   untold_book (soft op) x book numbers is untold fits = absurd (cc)
 
-  make_stop : (c c1 e : CoreValue I) (i : ℕ) (l : Lent I) (value : I) (why : Stop) → Alone plan c → i < length plan → c.stop ≡ first_stop c.journal → Admits c 0 i (Lends l) c1 → e ≡ left c1 0 l.place value → feed value ≡ feed l.value → faults l.value ≤ faults value
+  make_stop : (c c1 e : CoreValue I) (i : ℕ) (l : Lent I) (value : I) (why : WindowStop) → Alone plan c → i < length plan → c.stop ≡ first_stop c.journal → Admits c 0 i (Lends l) c1 → e ≡ left c1 0 l.place value → feed value ≡ feed l.value → faults l.value ≤ faults value
       → MakeStops feed faults ends plan i l.value value why → StopIs holds feed faults ends plan c why e
   make_stop c c1 e i l value Memory a less first adm is f g m = memory_stop c e (λ book numbers s. ((lent_stands c c1 e i l value first adm (leased_now c c1 i l adm) is f g book numbers s).0, tt))
   make_stop c c1 e i l value (Read j) a less first adm is f g m =
@@ -232,7 +232,7 @@ module _ {I : Type 0} (holds : I → Option Info) (feed : I → Option (List Pic
             (both.0, untold_book (application_at plan i).act l.value book numbers m.source m.untold (source_fits c i l book numbers a less m.source adm.1 both.1));
       }
 
-  pub made_err : (c c1 e : CoreValue I) (k : Key) (inputs : List Picture) (l : Lent I) (r : Result Picture Stop) → Alone plan c → k.node < length plan → (mode_at plan k.node ≡ 1 → ⊥) → c.stop ≡ first_stop c.journal → Admits c 0 k.node (Lends l) c1
+  pub made_err : (c c1 e : CoreValue I) (k : Key) (inputs : List Picture) (l : Lent I) (r : Result Picture WindowStop) → Alone plan c → k.node < length plan → (mode_at plan k.node ≡ 1 → ⊥) → c.stop ≡ first_stop c.journal → Admits c 0 k.node (Lends l) c1
       → Returned holds feed faults ends plan k inputs l c1 r e → IfErr r (λ why. Unmade holds feed faults ends plan c k why e)
   made_err c c1 e k inputs l (Ok x) a less many first adm ret = tt
   made_err c c1 e k inputs l (Err why) a less many first adm ret = record {
@@ -344,7 +344,7 @@ module _ {I : Type 0} (holds : I → Option Info) (feed : I → Option (List Pic
   gathered_went c e bound ks inputs g = (g.ran bound (omega arith)).went
 
   -- a stop inside the inputs
-  pub stopped_inside : (c d e f : CoreValue I) (k : Key) (why : Stop) → AllFrom (k.node + 1) c.claims → Asked c 0 k Claimed d → Stopped holds feed faults ends plan d (CutInputs plan 0 (input_keys plan k)) why e → f ≡ abandoned e 0 k → Stopped holds feed faults ends plan c (CutShort plan 0 k) why f
+  pub stopped_inside : (c d e f : CoreValue I) (k : Key) (why : WindowStop) → AllFrom (k.node + 1) c.claims → Asked c 0 k Claimed d → Stopped holds feed faults ends plan d (CutInputs plan 0 (input_keys plan k)) why e → f ≡ abandoned e 0 k → Stopped holds feed faults ends plan c (CutShort plan 0 k) why f
   stopped_inside c d e f k why above asked s is = record {
     events = Claim 0 k ∷ (s.events ++ Abandon 0 k ∷ []);
     cut = inside s.cut;
@@ -353,7 +353,7 @@ module _ {I : Type 0} (holds : I → Option Info) (feed : I → Option (List Pic
   }
 
   -- a stop after the inputs
-  pub stopped_after : (c d e u f : CoreValue I) (k : Key) (inputs : List Picture) (why : Stop) → IsPlan plan → k.node < length plan → AllFrom (k.node + 1) c.claims → Asked c 0 k Claimed d → Gathered holds feed faults ends plan d k.node (input_keys plan k) inputs e → Unmade holds feed faults ends plan e k why u → f ≡ abandoned u 0 k
+  pub stopped_after : (c d e u f : CoreValue I) (k : Key) (inputs : List Picture) (why : WindowStop) → IsPlan plan → k.node < length plan → AllFrom (k.node + 1) c.claims → Asked c 0 k Claimed d → Gathered holds feed faults ends plan d k.node (input_keys plan k) inputs e → Unmade holds feed faults ends plan e k why u → f ≡ abandoned u 0 k
       → Stopped holds feed faults ends plan c (CutShort plan 0 k) why f
   stopped_after c d e u f k inputs why ok less above asked g n is =
       let es : List Event = (each_produced (serial_production_within k.node plan d.fixed.capacity) (keys_of d.cache) (input_keys plan k)).events in
@@ -401,7 +401,7 @@ module _ {I : Type 0} (holds : I → Option Info) (feed : I → Option (List Pic
           let t : Ran holds d e (f (each_produced f (keys_of c.cache) ks).keys k) = subst (λ (z : ℕ × List Key). Ran holds d e (serial_production_within most plan z.0 z.1 k)) (λ i. (cap i, r.keys i)) s in
           subst (Ran holds c e) (sym (produced_more f (keys_of c.cache) ks k)) (record { went = went_more holds c d e (each_produced f (keys_of c.cache) ks).events (f (each_produced f (keys_of c.cache) ks).keys k).events r.went t.went; keys = t.keys })
 
-  pub stopped_within : (c d e : CoreValue I) (k j : Key) (ks js : List Key) (inputs : List Picture) (why : Stop) → IsPlan plan → k.node < length plan → input_keys plan k ≡ ks ++ j ∷ js → Gathered holds feed faults ends plan c k.node ks inputs d → Stopped holds feed faults ends plan d (CutShort plan 0 j) why e
+  pub stopped_within : (c d e : CoreValue I) (k j : Key) (ks js : List Key) (inputs : List Picture) (why : WindowStop) → IsPlan plan → k.node < length plan → input_keys plan k ≡ ks ++ j ∷ js → Gathered holds feed faults ends plan c k.node ks inputs d → Stopped holds feed faults ends plan d (CutShort plan 0 j) why e
       → Stopped holds feed faults ends plan c (CutInputs plan 0 (input_keys plan k)) why e
   stopped_within c d e k j ks js inputs why ok less is g s =
       let lower = all_front plan k.node ks (j ∷ js) (subst (All (IsKeyBelow plan k.node)) is (inputs_are_keys plan k ok less)) in

@@ -10,8 +10,8 @@ use Rattle.clip_graph.specs.Plan.{Application, application_at}
 use Rattle.frame_cache.proofs.CallerLemmas.{test}
 use Rattle.serve_events.specs.declared.event.Event.{Event}
 use Rattle.serve_events.specs.declared.event.Event.TheVariants.{Take, Deliver, Fail}
-use Rattle.serve_events.specs.declared.event.Stop.{Stop}
-use Rattle.serve_events.specs.declared.event.Stop.TheVariants.{Memory}
+use Rattle.serve_events.specs.declared.event.WindowStop.{WindowStop}
+use Rattle.serve_events.specs.declared.event.WindowStop.TheVariants.{Memory}
 use Rattle.serve_events.specs.Keys.{IsKey, frame_key}
 use Rattle.serve_events.specs.SerialRun.{Serial, serial_production, serial_production_within, serial_delivery, serial_window}
 use Rattle.serve_events.specs.Work.{CutShort, CutWork, Deliveries}
@@ -118,7 +118,7 @@ module _ {I : Type 0} (holds : I → Option Info) (feed : I → Option (List Pic
   pub untaken_cut : (c d : CoreValue I) → Alone plan c → d ≡ c → StepCut holds feed faults ends plan c Memory d
   untaken_cut c d a is = subst (StepCut holds feed faults ends plan c Memory) (sym is) (record { events = []; cut = inl refl; journal = sym (append-nil c.journal); claims = refl; fixed = refl; failed = refl; stop = refl; free = a.free; held = refl; stops = memory_stop holds feed faults ends plan c c (λ book numbers s. (s, tt)) })
 
-  pub taken_cut : (c d e : CoreValue I) (r n : ℕ) (why : Stop) → TookOutput c 0 (Some n) d → r ≡ d.fixed.root → Stopped holds feed faults ends plan d (CutShort plan 0 (record { node = r; n = n })) why e → StepCut holds feed faults ends plan c why e
+  pub taken_cut : (c d e : CoreValue I) (r n : ℕ) (why : WindowStop) → TookOutput c 0 (Some n) d → r ≡ d.fixed.root → Stopped holds feed faults ends plan d (CutShort plan 0 (record { node = r; n = n })) why e → StepCut holds feed faults ends plan c why e
   taken_cut c d e r n why took root s =
       let root' : r ≡ c.fixed.root = root ∙ ap (λ (z : CoreValue I). z.fixed.root) took.3 in
       record {
@@ -224,7 +224,7 @@ module _ {I : Type 0} (holds : I → Option Info) (feed : I → Option (List Pic
       whole : served holds feed faults ends plan c (suc i) ≡ (let z = serial_delivery (c.fixed.first + i) (serial_production plan c.fixed.capacity a.keys (frame_key c.fixed.root (c.fixed.first + i))) in record { events = a.events ++ z.events; keys = z.keys })
       whole = window_more plan c.fixed.root c.fixed.capacity (keys_of c.cache) c.fixed.first i (c.fixed.first + i) refl
 
-  pub cut_window : (c d e f : CoreValue I) (i : ℕ) (why : Stop) → Alone plan c → c.fixed.root < length plan → Served holds feed faults ends plan c i d → StepCut holds feed faults ends plan d why e → f ≡ failing e 0 why → WindowCut holds feed faults ends plan c why f
+  pub cut_window : (c d e f : CoreValue I) (i : ℕ) (why : WindowStop) → Alone plan c → c.fixed.root < length plan → Served holds feed faults ends plan c i d → StepCut holds feed faults ends plan d why e → f ≡ failing e 0 why → WindowCut holds feed faults ends plan c why f
   cut_window c d e f i why a root v s is = ⊎_elim
       (λ (h : s.events ≡ []). done (es ++ Fail 0 why ∷ []) (failed_between plan c.fixed.root 0 ns es why all) (ap (λ l. l ++ Fail 0 why ∷ []) (before ∙ (ap (λ l. (c.journal ++ es) ++ l) h ∙ append-nil (c.journal ++ es))) ∙ append_assoc c.journal es (Fail 0 why ∷ [])))
       (λ (h : (fs : List Event) × (s.events ≡ Take 0 (next_output d) ∷ fs) × CutShort plan 0 (frame_key d.fixed.root (next_output d)) fs). done (es ++ (Take 0 (next_output d) ∷ (h.0 ++ Fail 0 why ∷ [])))

@@ -7,8 +7,8 @@ use Rattle.fv_plane.specs.declared.key.Key.{Key}
 use Rattle.fv_plane.specs.Picture.{Picture}
 use Rattle.y4m_stream.specs.Index.{Indexed, IsIndex}
 use Rattle.seq_source.specs.FrameSource.{FrameSource, frames_of, end_of}
-use Rattle.serve_events.specs.declared.event.Stop.{Stop}
-use Rattle.serve_events.specs.declared.event.Stop.TheVariants.{Read, Changed, Memory}
+use Rattle.serve_events.specs.declared.event.WindowStop.{WindowStop}
+use Rattle.serve_events.specs.declared.event.WindowStop.TheVariants.{Read, Changed, Memory}
 use Rattle.serve_worker.specs.declared.instance.Instance.{Instance}
 use Rattle.serve_worker.specs.declared.instance.Instance.TheVariants.{Plain, Scratch, Source}
 
@@ -47,7 +47,7 @@ module _ {S : Type 0} (source : Ghosts S) where
     pub untold : (frames : List Picture) → frames_of source old ≡ Some frames → ⊥
     pub ended : EndsInFrame new.index frame want got
 
-  abbrev pub ReadStops : Key → FrameSource S → FrameSource S → Stop → Type 0
+  abbrev pub ReadStops : Key → FrameSource S → FrameSource S → WindowStop → Type 0
   ReadStops k old new (Read j) = (j ≡ k.node) × SourceFailed source old.source new.source
   ReadStops k old new (Changed j frame want got) = ReadEndsEarly k j frame want got old new
   ReadStops k old new Memory = Unit {0}

@@ -15,8 +15,8 @@ use Rattle.inst_table.specs.Lent.{Lent}
 use Rattle.inst_table.specs.Places.{slot_at, shared_place}
 use Rattle.serve_events.specs.declared.event.Event.{Event}
 use Rattle.serve_events.specs.declared.event.Event.TheVariants.{Publish}
-use Rattle.serve_events.specs.declared.event.Stop.{Stop}
-use Rattle.serve_events.specs.declared.event.Stop.TheVariants.{Read, Changed, Memory}
+use Rattle.serve_events.specs.declared.event.WindowStop.{WindowStop}
+use Rattle.serve_events.specs.declared.event.WindowStop.TheVariants.{Read, Changed, Memory}
 use Rattle.serve_events.specs.Own.{has_got, has_got_all, may_fail, names_source}
 use Rattle.serve_events.specs.SerialRun.{serial_production_within, each_produced, leases, eviction_from}
 use Rattle.serve_core.specs.Calls.{left}
@@ -34,7 +34,7 @@ pub record EndsThere {I : Type 0} (ends : I → ℕ → ℕ → ℕ → Type 0) 
   pub there : slot_at (shared_place i) table ≡ Some (Free instance)
   pub early : ends instance frame want got
 
-abbrev pub EndShows : {I : Type 0} → (I → ℕ → ℕ → ℕ → Type 0) → List (Place × Slot I) → Stop → Type 0
+abbrev pub EndShows : {I : Type 0} → (I → ℕ → ℕ → ℕ → Type 0) → List (Place × Slot I) → WindowStop → Type 0
 EndShows ends table (Read i) = Unit {0}
 EndShows ends table (Changed i frame want got) = EndsThere ends table i frame want got
 EndShows ends table Memory = Unit {0}
@@ -42,12 +42,12 @@ EndShows ends table Memory = Unit {0}
 module _ {I : Type 0} (holds : I → Option Info) (feed : I → Option (List Picture)) (faults : I → ℕ)
     (ends : I → ℕ → ℕ → ℕ → Type 0) (plan : List Application) where
   -- what an instance made of a key, or why it stopped
-  abbrev pub MadeBy : Key → List Picture → I → I → Result Picture Stop → Type 0
+  abbrev pub MadeBy : Key → List Picture → I → I → Result Picture WindowStop → Type 0
   MadeBy k inputs old new (Ok frame) = IsMade plan k (feed old) inputs frame
   MadeBy k inputs old new (Err why) = MakeStops feed faults ends plan k.node old new why
 
   -- an instance was used and given back
-  pub record Returned (k : Key) (inputs : List Picture) (l : Lent I) (c : CoreValue I) (made : Result Picture Stop)
+  pub record Returned (k : Key) (inputs : List Picture) (l : Lent I) (c : CoreValue I) (made : Result Picture WindowStop)
       (d : CoreValue I) : Type 0 where
     pub value : I
     pub core : d ≡ left c 0 l.place value
@@ -67,7 +67,7 @@ module _ {I : Type 0} (holds : I → Option Info) (feed : I → Option (List Pic
     AreRight ks frames book = (b : List (List Picture)) → book ≡ Some b → frames ≡ map (key_picture b plan) ks
 
     -- why worker 0 stops: the stop names a source that it entered, whose fault shows in the table
-    pub record StopIs (why : Stop) (d : CoreValue I) : Type 0 where
+    pub record StopIs (why : WindowStop) (d : CoreValue I) : Type 0 where
       pub cause : may_fail 0 why d.journal ≡ true
       pub named : names_source plan why ≡ true
       pub there : IsThere d.table why
@@ -82,7 +82,7 @@ module _ {I : Type 0} (holds : I → Option Info) (feed : I → Option (List Pic
       pub right : Keeps d (λ book numbers. AreRight (input_keys plan k) inputs book → IsRight book plan k frame)
 
     -- it was not made
-    pub record Unmade (k : Key) (why : Stop) (d : CoreValue I) : Type 0 where
+    pub record Unmade (k : Key) (why : WindowStop) (d : CoreValue I) : Type 0 where
       pub events : List Event
       pub which : (events ≡ []) ⊎ (events ≡ leases plan 0 k.node)
       pub went : Went holds c d events
@@ -121,7 +121,7 @@ module _ {I : Type 0} (holds : I → Option Info) (feed : I → Option (List Pic
       pub right : Keeps d (λ book numbers. AreRight ks frames book)
 
     -- the work was cut short, with events of this kind
-    pub record Stopped (IsCut : List Event → Type 0) (why : Stop) (d : CoreValue I) : Type 0 where
+    pub record Stopped (IsCut : List Event → Type 0) (why : WindowStop) (d : CoreValue I) : Type 0 where
       pub events : List Event
       pub cut : IsCut events
       pub went : Went holds c d events

@@ -6,7 +6,7 @@ use Rattle.fv_plane.specs.Picture.{Picture}
 use Rattle.clip_graph.specs.Plan.{Application, application_at}
 use Rattle.serve_events.specs.declared.event.Event.{Event}
 use Rattle.serve_events.specs.declared.event.Event.TheVariants.{Take}
-use Rattle.serve_events.specs.declared.event.Stop.{Stop}
+use Rattle.serve_events.specs.declared.event.WindowStop.{WindowStop}
 use Rattle.serve_events.specs.Keys.{frame_key}
 use Rattle.serve_events.specs.Own.{names_source}
 use Rattle.serve_events.specs.SerialRun.{Serial, serial_production, serial_delivery, serial_window}
@@ -62,7 +62,7 @@ module _ {I : Type 0} (holds : I → Option Info) (feed : I → Option (List Pic
   CutOutput es = (es ≡ []) ⊎ ((fs : List Event) × (es ≡ Take 0 (next_output c) ∷ fs)
       × CutShort plan 0 (frame_key c.fixed.root (next_output c)) fs)
 
-  pub record StepCut (why : Stop) (d : CoreValue I) : Type 0 where
+  pub record StepCut (why : WindowStop) (d : CoreValue I) : Type 0 where
     pub events : List Event
     pub cut : CutOutput events
     pub journal : d.journal ≡ c.journal ++ events
@@ -94,7 +94,7 @@ module _ {I : Type 0} (holds : I → Option Info) (feed : I → Option (List Pic
     pub right : Keeps holds feed faults ends plan c d (λ book numbers. Unit {0})
 
   -- the window was cut short by a stop
-  pub record WindowCut (why : Stop) (d : CoreValue I) : Type 0 where
+  pub record WindowCut (why : WindowStop) (d : CoreValue I) : Type 0 where
     pub events : List Event
     pub cut : CutWork plan c.fixed.root 0 events
     pub journal : d.journal ≡ c.journal ++ events

@@ -5,8 +5,8 @@ use Rattle.fv_plane.specs.Picture.{Picture, IsPicture}
 use Rattle.fv_plane.specs.declared.key.Key.{Key}
 use Rattle.clip_graph.specs.Plan.{Application, application_at, is_source}
 use Rattle.clip_graph.specs.Unfolding.{key_made}
-use Rattle.serve_events.specs.declared.event.Stop.{Stop}
-use Rattle.serve_events.specs.declared.event.Stop.TheVariants.{Read, Changed, Memory}
+use Rattle.serve_events.specs.declared.event.WindowStop.{WindowStop}
+use Rattle.serve_events.specs.declared.event.WindowStop.TheVariants.{Read, Changed, Memory}
 use Rattle.serve_core.specs.Sources.{shape_at}
 
 -- a source shows its frame where its frames are told, and a filter makes its frame of those that it asks
@@ -35,7 +35,7 @@ module _ {I : Type 0} (feed : I → Option (List Picture)) (faults : I → ℕ) 
     pub ended : ends new frame want got
 
   -- why no frame of node i was made
-  abbrev pub MakeStops : List Application → ℕ → I → I → Stop → Type 0
+  abbrev pub MakeStops : List Application → ℕ → I → I → WindowStop → Type 0
   MakeStops plan i old new (Read j) = ReadFails plan i j old new
   MakeStops plan i old new (Changed j frame want got) = EndsEarly plan i j frame want got old new
   MakeStops plan i old new Memory = Unit {0}

@@ -9,7 +9,7 @@ use crate::works::Works;
 use clip_graph::Graph;
 use fv_plane::Key;
 use serve_core::Core;
-use serve_events::Stop;
+use serve_events::WindowStop;
 use std::alloc::Global;
 use std::marker::Model;
 use std::sync::Arc;
@@ -48,7 +48,7 @@ impl Worker {
 }
 
 // Delivers the next output. False where all are taken.
-fn deliver_next<I: Works>(alloc: Global, core: &mut Core<I>, graph: &Graph) -> Result<bool, Stop>
+fn deliver_next<I: Works>(alloc: Global, core: &mut Core<I>, graph: &Graph) -> Result<bool, WindowStop>
     requires alone { Alone graph.now core.old }
     requires ready { Ready graph.now core.old }
     ensures ok { IfOk result (λ more. Stepped I.holds I.feed I.faults I.ends graph.now core.old more core.new) }
@@ -57,7 +57,7 @@ fn deliver_next<I: Works>(alloc: Global, core: &mut Core<I>, graph: &Graph) -> R
     let n = match core.take_output(0) {
         Ok(Some(n)) => n,
         Ok(None) => return Ok(false),
-        Err(_) => return Err(Stop::Memory),
+        Err(_) => return Err(WindowStop::Memory),
     };
     let key = Key {
         node: core.root(),
@@ -73,7 +73,7 @@ fn deliver_next<I: Works>(alloc: Global, core: &mut Core<I>, graph: &Graph) -> R
 }
 
 // Takes and delivers outputs until none is left, or one is cut short.
-fn deliver_all<I: Works>(alloc: Global, core: &mut Core<I>, graph: &Graph) -> Result<(), Stop>
+fn deliver_all<I: Works>(alloc: Global, core: &mut Core<I>, graph: &Graph) -> Result<(), WindowStop>
     requires alone { Alone graph.now core.old }
     requires fresh { Fresh graph.now core.old }
     ensures ok { OnOk result (Served I.holds I.feed I.faults I.ends graph.now core.old core.old.fixed.count core.new) }
@@ -98,7 +98,7 @@ pub fn run_alone<I: Works>(
     alloc: Global,
     worker: &mut Worker,
     core: &mut Core<I>,
-) -> Result<(), Stop>
+) -> Result<(), WindowStop>
     requires alone { Alone worker.old.plan core.old }
     requires fresh { Fresh worker.old.plan core.old }
     ensures ok { OnOk result

@@ -11,7 +11,7 @@ use clip_frames::make_frame;
 use clip_graph::Graph;
 use flt_soft::Scratch;
 use fv_plane::{Frame, Key};
-use serve_events::Stop;
+use serve_events::WindowStop;
 use std::alloc::{AllocError, Global};
 
 /// The frame that a filter makes of the frames of its inputs.
@@ -21,18 +21,18 @@ pub(crate) fn filtered(
     key: Key,
     inputs: &[Frame],
     scratch: &mut Scratch,
-) -> Result<Frame, Stop>
+) -> Result<Frame, WindowStop>
     requires key { IsKey graph.now key }
     requires filter { is_source (application_at graph.now key.node).act ≡ false }
     requires shapes { AreOfKeys graph.now (input_keys graph.now key) inputs.now }
     ensures made { IfOk result (λ frame. (own : Option (List Picture)) → IsMade graph.now key own inputs.now frame) }
-    ensures stop { IfErr result (λ stop. stop ≡ Stop.Memory) }
+    ensures stop { IfErr result (λ stop. stop ≡ WindowStop.Memory) }
 {
     match make_frame(alloc, graph, key, inputs, scratch) {
         Ok(frame) => {
             frame.shape();
             Ok(frame)
         }
-        Err(AllocError) => Err(Stop::Memory),
+        Err(AllocError) => Err(WindowStop::Memory),
     }
 }

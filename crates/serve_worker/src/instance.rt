@@ -19,7 +19,7 @@ use fv_io::Source;
 use fv_plane::{Frame, Key};
 use inst_table::Held;
 use seq_source::{SeqFault, SeqSource};
-use serve_events::Stop;
+use serve_events::WindowStop;
 use std::alloc::Global;
 
 /// What a node keeps from frame to frame.
@@ -50,7 +50,7 @@ impl<S: Source> Works for Instance<S> {
         graph: &Graph,
         key: Key,
         inputs: &[Frame],
-    ) -> Result<Frame, Stop> {
+    ) -> Result<Frame, WindowStop> {
         prove!(key.node < graph.len());
         match self {
             Instance::Plain => {
@@ -64,7 +64,7 @@ impl<S: Source> Works for Instance<S> {
 }
 
 // The frame that a source reads.
-fn read<S: Source>(source: &mut SeqSource<S>, key: Key) -> Result<Frame, Stop>
+fn read<S: Source>(source: &mut SeqSource<S>, key: Key) -> Result<Frame, WindowStop>
     requires { key.n < source.old.index.info.frames }
     ensures frame { IfOk result (λ frame. ForSome (frames_of S.Source source.old) (λ frames.
         slice_get frames key.n ≡ Some frame)) }
@@ -79,13 +79,13 @@ fn read<S: Source>(source: &mut SeqSource<S>, key: Key) -> Result<Frame, Stop>
             frame.shape();
             Ok(frame)
         }
-        Err(SeqFault::Read) => Err(Stop::Read { node: key.node }),
-        Err(SeqFault::Changed { frame, want, got }) => Err(Stop::Changed {
+        Err(SeqFault::Read) => Err(WindowStop::Read { node: key.node }),
+        Err(SeqFault::Changed { frame, want, got }) => Err(WindowStop::Changed {
             node: key.node,
             frame,
             want,
             got,
         }),
-        Err(SeqFault::Memory) => Err(Stop::Memory),
+        Err(SeqFault::Memory) => Err(WindowStop::Memory),
     }
 }

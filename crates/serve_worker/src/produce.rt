@@ -21,7 +21,7 @@ use flt_soft::Scratch;
 use fv_plane::{Frame, Key};
 use inst_table::Lease;
 use serve_core::{Admitted, Ask, Core};
-use serve_events::Stop;
+use serve_events::WindowStop;
 use std::alloc::Global;
 
 // Works with an instance that is out, and gives it back.
@@ -32,7 +32,7 @@ fn lend<I: Works>(
     graph: &Graph,
     key: Key,
     frames: &[Frame],
-) -> Result<Frame, Stop>
+) -> Result<Frame, WindowStop>
     requires worker { 0 < core.old.fixed.workers }
     requires plan { core.old.fixed.plan ≡ graph.now }
     requires lease { slot_at lease.place core.old.table ≡ Some (Leased 0) }
@@ -55,7 +55,7 @@ fn make<I: Works>(
     graph: &Graph,
     key: Key,
     frames: &[Frame],
-) -> Result<Frame, Stop>
+) -> Result<Frame, WindowStop>
     requires alone { Alone graph.now core.old }
     requires key { IsKey graph.now key }
     requires claim { claims_at 0 key.node core.old.claims ≡ true }
@@ -72,7 +72,7 @@ fn make<I: Works>(
         Ok(Admitted::Leased(lease)) => lend(alloc, core, lease, graph, key, frames),
         Ok(Admitted::Busy { holder: _ }) => unreachable!(),
         Ok(Admitted::Stopped(_)) => unreachable!(),
-        Err(_) => Err(Stop::Memory),
+        Err(_) => Err(WindowStop::Memory),
     }
 }
 
@@ -83,7 +83,7 @@ fn finish<I: Works>(
     graph: &Graph,
     key: Key,
     frames: &[Frame],
-) -> Result<Frame, Stop>
+) -> Result<Frame, WindowStop>
     requires alone { Alone graph.now core.old }
     requires key { IsKey graph.now key }
     requires claim { at_key key core.old.claims ≡ Some 0 }
@@ -98,11 +98,11 @@ fn finish<I: Works>(
         Err(stop) => return Err(stop),
     };
     let Ok(kept) = frame.share() else {
-        return Err(Stop::Memory);
+        return Err(WindowStop::Memory);
     };
     match core.publish(0, key, kept) {
         Ok(()) => Ok(frame),
-        Err(_) => Err(Stop::Memory),
+        Err(_) => Err(WindowStop::Memory),
     }
 }
 
@@ -114,7 +114,7 @@ pub(crate) fn produce<I: Works>(
     core: &mut Core<I>,
     graph: &Graph,
     key: Key,
-) -> Result<Frame, Stop>
+) -> Result<Frame, WindowStop>
     requires alone { Alone graph.now core.old }
     requires key { IsKey graph.now key }
     requires above { AllFrom (key.node + 1) core.old.claims }
@@ -127,7 +127,7 @@ pub(crate) fn produce<I: Works>(
         Ok(Ask::Claimed) => {}
         Ok(Ask::Taken { by: _ }) => unreachable!(),
         Ok(Ask::Stopped(_)) => unreachable!(),
-        Err(_) => return Err(Stop::Memory),
+        Err(_) => return Err(WindowStop::Memory),
     }
     let frames = match gather(alloc, core, graph, key) {
         Ok(frames) => frames,
@@ -152,7 +152,7 @@ fn gather<I: Works>(
     core: &mut Core<I>,
     graph: &Graph,
     key: Key,
-) -> Result<Vec<Frame>, Stop>
+) -> Result<Vec<Frame>, WindowStop>
     requires alone { Alone graph.now core.old }
     requires key { IsKey graph.now key }
     requires above { AllFrom key.node core.old.claims }
@@ -169,11 +169,11 @@ fn gather<I: Works>(
             Err(stop) => return Err(stop),
         };
         let Ok(()) = frames.push(frame) else {
-            return Err(Stop::Memory);
+            return Err(WindowStop::Memory);
         };
         // A frame of more inputs than can be counted would be out of memory before.
         let Some(next) = i.checked_add(1) else {
-            return Err(Stop::Memory);
+            return Err(WindowStop::Memory);
         };
         i = next;
     }

@@ -9,7 +9,7 @@ ghost use Rattle.serve_worker.specs.Works.{IsMade, MakeStops};
 use clip_graph::Graph;
 use fv_plane::{Frame, Key};
 use inst_table::Held;
-use serve_events::Stop;
+use serve_events::WindowStop;
 use std::alloc::Global;
 
 /// An instance of a node at work.
@@ -27,7 +27,7 @@ pub trait Works: Held {
         graph: &Graph,
         key: Key,
         inputs: &[Frame],
-    ) -> Result<Frame, Stop>
+    ) -> Result<Frame, WindowStop>
         requires key { IsKey graph.now key }
         requires source { Self.holds self.old ≡ opened_at graph.now key.node }
         requires shapes { AreOfKeys graph.now (input_keys graph.now key) inputs.now }
