@@ -21,4 +21,3 @@ pub use state::{SourceClip, Variable};
 pub use stop::ScriptStop;
 pub use table::{Row, Table};
 pub use takes::signatures;
-

@@ -17,7 +17,7 @@ ghost use Rattle.avs_state.specs.States.{state_of, defined_view};
 
 use crate::variables::{set_in, value_in};
 use crate::{ByName, Definition, fault_at};
-use avs_meaning::{Crew, ScriptKind, SourceClip, ScriptStop, Variable};
+use avs_meaning::{Crew, ScriptKind, ScriptStop, SourceClip, Variable};
 use avs_tree::Function;
 use avs_values::Value;
 use clip_check::check;
@@ -190,7 +190,12 @@ impl Machine {
 
     /// Adds a function of the text of this name.
     #[tactic(auto, unfolding(crate::specs::States::state_of), using(crate::proofs::StateLemmas::put_new))]
-    pub fn define(&mut self, alloc: Global, function: Function, here: &Text) -> Result<(), ScriptStop>
+    pub fn define(
+        &mut self,
+        alloc: Global,
+        function: Function,
+        here: &Text,
+    ) -> Result<(), ScriptStop>
         ensures gives { Gives (λ u. u) (d.define (function_view function) here.now (state_of self.old)) result
             (state_of self.new) }
         ensures opened { (state_of self.new).opened ≡ (state_of self.old).opened }
@@ -230,8 +235,7 @@ impl Machine {
     /// The info of a clip, by its place.
     #[tactic(auto, unfolding(crate::specs::States::state_of), using(crate::proofs::StateLemmas::lawful_at))]
     pub fn info_of(&self, alloc: Global, i: u32, here: &Text, line: u32) -> Result<Info, ScriptStop>
-        ensures gives { Gives (λ info. info) (f.info_of here.now i line (state_of self.now)) result (state_of self.now)
-            }
+        ensures gives { Gives (λ info. info) (f.info_of here.now i line (state_of self.now)) result (state_of self.now) }
         ensures lawful { IfOk result IsLawful }
         ensures inside { OnOk result (i < length (state_of self.now).plan) }
     {

@@ -26,4 +26,3 @@ pub use parameter::{Param, Signature};
 pub use plain_fn::PlainFn;
 pub use takes::signature;
 pub use value::{Kind, Value};
-

@@ -34,7 +34,7 @@ use Rattle.clip_term.proofs.PassedLemmas.{passed, limits_shape}
 use Rattle.clip_term.proofs.TimeLocal.{time_local}
 use Rattle.clip_graph.specs.Plan.{Application, application_at, infos_at, IsPlan}
 use Rattle.clip_graph.specs.Unfolding.{input_keys, key_made}
-use Rattle.clip_reference.proofs.ListedLemmas.{listed, blank_listed}
+use Rattle.clip_term.proofs.ListedLemmas.{listed, blank_listed}
 use Rattle.flt_space.proofs.CallerLemmas.{not_refused, shape_made}
 use Rattle.flt_merge.specs.Joined.{CanJoin, join_picture}
 use Rattle.flt_merge.proofs.CallerLemmas.{can_join, joined_is}

@@ -6,8 +6,6 @@
 
 mod inputs;
 mod make;
-#[cfg(test)]
-mod tests;
 
 pub use inputs::input_at;
 pub use make::make_frame;

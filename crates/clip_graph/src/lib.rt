@@ -10,6 +10,3 @@ mod node;
 
 pub use graph::{Graph, GraphFault};
 pub use node::Node;
-
-#[cfg(test)]
-mod tests;

@@ -1,9 +1,7 @@
 pub mod StackLemmas
 pub mod WeightLemmas
-pub mod ListedLemmas
 pub mod ReadyLemmas
 pub mod AskedLemmas
 pub mod InfoLemmas
 pub mod TermLemmas
 pub mod SizeLemmas
-pub mod BuiltLemmas

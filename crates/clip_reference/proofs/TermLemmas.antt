@@ -28,7 +28,7 @@ use Rattle.clip_term.proofs.LawfulLemmas.{checks_lawful}
 use Rattle.clip_term.proofs.SoundLemmas.{counted, sounds_lawful}
 use Rattle.clip_reference.specs.Sources.{HasSource, HasSources, HaveSources}
 use Rattle.clip_reference.proofs.InfoLemmas.{told}
-use Rattle.clip_reference.proofs.ListedLemmas.{listed, blank_listed}
+use Rattle.clip_term.proofs.ListedLemmas.{listed, blank_listed}
 
 pub node : (t : Term) → term_of t ≡ applied (act_of (out-Term t).op) (clips (map term_of (out-Term t).inputs.items))
 unfolding term_of

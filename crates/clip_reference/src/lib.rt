@@ -12,8 +12,6 @@ mod place;
 mod reference;
 mod soft;
 mod space;
-#[cfg(test)]
-mod tests;
 
 pub use book::Book;
 pub use reference::reference_frame;

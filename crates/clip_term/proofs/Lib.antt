@@ -17,3 +17,4 @@ pub mod LimitLemmas
 pub mod AskedLemmas
 pub mod SoundLemmas
 pub mod BoundedLemmas
+pub mod ListedLemmas

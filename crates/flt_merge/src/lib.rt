@@ -12,6 +12,3 @@ mod stack;
 
 pub use clip_check::check_join;
 pub use join::make_join;
-
-#[cfg(test)]
-mod tests;

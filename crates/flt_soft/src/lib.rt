@@ -17,4 +17,3 @@ pub use clip_check::check_soft;
 pub use make::make_soft;
 pub use matrix::{MatrixFault, read_matrix};
 pub use scratch::Scratch;
-

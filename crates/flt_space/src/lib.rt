@@ -15,6 +15,3 @@ mod turn;
 
 pub use clip_check::check_space;
 pub use make::make_space;
-
-#[cfg(test)]
-mod tests;

@@ -1,4 +1,3 @@
 pub mod NumberLemmas
 pub mod LengthLemmas
 pub mod ShownLemmas
-pub mod ExampleLemmas

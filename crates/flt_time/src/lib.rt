@@ -7,8 +7,6 @@
 mod named;
 mod rows;
 mod shown;
-#[cfg(test)]
-mod tests;
 
 pub use clip_check::check_time;
 pub use shown::source_number;

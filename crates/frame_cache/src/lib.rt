@@ -7,6 +7,3 @@
 mod cache;
 
 pub use cache::FrameCache;
-
-#[cfg(test)]
-mod tests;

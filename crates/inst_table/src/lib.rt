@@ -13,6 +13,3 @@ pub use held::Held;
 pub use lease::{Entered, Lease};
 pub use place::{Place, Slot};
 pub use table::InstTable;
-
-#[cfg(test)]
-mod tests;

@@ -10,6 +10,3 @@ mod table;
 
 pub use laws::{finds_names, keeps_rule};
 pub use table::{ModeFault, ModeTable};
-
-#[cfg(test)]
-mod tests;

@@ -12,6 +12,3 @@ mod state;
 pub use answers::{Admitted, Ask, Finished};
 pub use serve_events::{Event, Record, WindowStop, Windowed};
 pub use state::Core;
-
-#[cfg(test)]
-mod tests;

@@ -12,6 +12,3 @@ mod windows;
 pub use event::{Event, WindowStop};
 pub use instance::instance_for;
 pub use windows::{Record, Windowed};
-
-#[cfg(test)]
-mod tests;

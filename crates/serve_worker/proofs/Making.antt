@@ -10,7 +10,7 @@ use Rattle.clip_term.specs.ClipTerm.{Act, source, plain, time, space, joined, so
 use Rattle.clip_graph.specs.Plan.{Application, application_at, is_source, IsPlan, IsCounted}
 use Rattle.clip_graph.specs.Unfolding.{input_keys, key_made, key_picture}
 use Rattle.clip_graph.proofs.UnfoldingLemmas.{unfolds}
-use Rattle.clip_reference.proofs.ListedLemmas.{listed}
+use Rattle.clip_term.proofs.ListedLemmas.{listed}
 use Rattle.inst_table.specs.Places.{shared_place}
 use Rattle.serve_events.specs.Keys.{mode_at, instance_in}
 use Rattle.serve_core.specs.Sources.{place_of}

@@ -48,7 +48,11 @@ impl Worker {
 }
 
 // Delivers the next output. False where all are taken.
-fn deliver_next<I: Works>(alloc: Global, core: &mut Core<I>, graph: &Graph) -> Result<bool, WindowStop>
+fn deliver_next<I: Works>(
+    alloc: Global,
+    core: &mut Core<I>,
+    graph: &Graph,
+) -> Result<bool, WindowStop>
     requires alone { Alone graph.now core.old }
     requires ready { Ready graph.now core.old }
     ensures ok { IfOk result (λ more. Stepped I.holds I.feed I.faults I.ends graph.now core.old more core.new) }

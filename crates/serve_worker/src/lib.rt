@@ -16,6 +16,3 @@ pub use clip_frames::input_at;
 pub use furnishing::furnish;
 pub use instance::Instance;
 pub use works::Works;
-
-#[cfg(test)]
-mod tests;

@@ -14,6 +14,3 @@ mod view;
 pub use booked::Booked;
 pub use seat::{LockSeat, Turn};
 pub use turn_lock::{NoLock, TurnLock};
-
-#[cfg(test)]
-mod tests;

@@ -25,4 +25,3 @@ pub use head_reading::{Head, read_head};
 pub use head_writing::print_head;
 pub use indexing::index;
 pub use stream_index::Index;
-

@@ -1,0 +1,118 @@
+// Frames as the filters make them, compared with the frames of their definitions, sample by sample.
+ghost use Rattle.std.specs.Prelude.{◌≡◌, length, IfOk};
+ghost use Rattle.fv_plane.specs.Info.{IsLawful};
+ghost use Rattle.clip_graph.specs.Plan.{application_at};
+ghost use Rattle.clip_graph.specs.Unfolding.{IsKeyBelow};
+ghost use Rattle.clip_term.specs.ClipTerm.{term_of};
+ghost use Rattle.clip_term.specs.Terms.{IsSoundTerm};
+ghost use Rattle.clip_reference.specs.Sources.{HasSources};
+
+use crate::clips::{book_of, info_of, picture};
+use crate::plans::add_row;
+use crate::terms::term_of_row;
+use clip_check::info;
+use clip_frames::{input_at, make_frame};
+use clip_graph::Graph;
+use clip_reference::{Book, reference_frame};
+use clip_term::{Op, Term};
+use flt_soft::Scratch;
+use fv_plane::{Frame, Info, Key, PixelType};
+use std::alloc::{AllocError, Global};
+use std::process::Abort;
+use std::test::Fail;
+
+// A frame of a node, by plain recursion.
+fn frame_of(
+    rt: &impl Abort,
+    alloc: Global,
+    graph: &Graph,
+    key: Key,
+    scratch: &mut Scratch,
+) -> Result<Frame, AllocError>
+    requires { IsKeyBelow graph.now (length graph.now) key }
+    ensures { IfOk result (λ frame. frame.shape ≡ (application_at graph.now key.node).info.shape) }
+{
+    assert!(rt; key.node < graph.len());
+    let node = graph.node(key.node);
+    if let Op::Source { number, .. } = &node.op {
+        return picture(rt, alloc, node.info.shape, *number, key.n);
+    }
+    let mut frames = Vec::new(alloc);
+    let mut i = 0;
+    while let Some(input) = input_at(graph, key, i) {
+        frames.push(frame_of(rt, alloc, graph, input, scratch)?)?;
+        assert!(rt; i < 100);
+        i += 1;
+    }
+    make_frame(alloc, graph, key, &frames, scratch)
+}
+
+// Whether two frames are equal, row by row.
+fn are_equal(made: &Frame, want: &Frame) -> bool {
+    let shape = want.shape();
+    if made.shape() != shape {
+        return false;
+    }
+    for plane in 0..shape.kind.planes() {
+        for y in 0..shape.plane_height(plane) {
+            if made.row(plane, y) != want.row(plane, y) {
+                return false;
+            }
+        }
+    }
+    true
+}
+
+// Compares all frames of a node with those of a term.
+fn compare_frames(
+    rt: &impl Abort,
+    alloc: Global,
+    graph: &Graph,
+    node: u32,
+    term: &Term,
+    book: &Book,
+) -> Result<Info, Fail>
+    requires sound { IsSoundTerm (term_of term.now) }
+    requires sources { HasSources book.now (term_of term.now) }
+{
+    let info = info(term)?;
+    assert!(rt; node < graph.len());
+    assert_eq!(rt; graph.node(node).info, info);
+    let mut scratch = Scratch::new(alloc);
+    for n in 0..info.frames {
+        let made = frame_of(rt, alloc, graph, Key { node, n }, &mut scratch)?;
+        let want = reference_frame(alloc, term, n, book)?;
+        assert!(rt; are_equal(&made, &want), "at {n} of {info:?}");
+    }
+    Ok(info)
+}
+
+// Compares the ops of a row over clips with this info.
+fn compare(rt: &impl Abort, alloc: Global, info: Info, row: u32) -> Result<Info, Fail>
+    requires { IsLawful info }
+{
+    let book = book_of(rt, alloc, info)?;
+    let term = term_of_row(alloc, &book, info, row)?;
+    let mut graph = Graph::new(alloc);
+    let node = add_row(rt, alloc, &mut graph, info, row)?;
+    compare_frames(rt, alloc, &graph, node, &term, &book)
+}
+
+// Behind the number of the ops stand the length and the size of what they make.
+#[test]
+fn makes_the_frames_of_the_definitions(rt: HostRuntime) -> Result<(), Fail> {
+    for (kind, width, height, row, frames, wide, high) in [
+        (PixelType::YV12, 6, 4, 0, 5, 6, 4),
+        (PixelType::YV12, 6, 4, 1, 5, 8, 2),
+        (PixelType::YV24, 5, 3, 2, 10, 3, 5),
+        (PixelType::Y8, 9, 5, 3, 5, 13, 16),
+    ] {
+        let clip = info_of(&rt, kind, width, height);
+        let made = compare(&rt, rt.alloc(), clip, row)?;
+        assert_eq!(rt;
+            (made.frames, made.shape.width, made.shape.height),
+            (frames, wide, high)
+        );
+    }
+    Ok(())
+}
