@@ -1,3 +1,4 @@
+mod Kept
 mod Failures
 mod Rows
 mod BodyLemmas

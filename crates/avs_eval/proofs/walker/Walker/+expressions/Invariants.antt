@@ -1,9 +1,9 @@
 -- What is left gives what the whole gives, and the state has kept what it keeps.
-use Rattle.std.proofs.Common.{◌≡◌, ◌≤◌, map, drop, IsTrue}
+use Rattle.std.proofs.Common.{◌≡◌, map, drop, IsTrue}
 use Rattle.avs_tree.specs.View.{args_of, method_calls_of, steps_of, arg_view, method_call_view, step_view}
-use Rattle.avs_state.specs.Sources.{sources_of}
 use Rattle.avs_state.specs.States.{state_of}
 use Rattle.avs_eval.specs.At as r
+use Rattle.avs_eval.proofs.Kept.{Kept}
 use Rattle.avs_eval.proofs.walker.Walker.+expressions.Given as goal
 
 abbrev pub invariant-givens_of-loop-arg : goal.invariant-givens_of-loop-arg
@@ -12,9 +12,7 @@ invariant-givens_of-loop-arg g l =
     record {
       told : IsTrue g.H.Host.told → givens (args_of (map arg_view (drop l.arg-index l.args))) l.given.items (state_of l.machine)
           ≡ givens (args_of (map arg_view l.args)) l.fn.given.items (state_of l.fn.machine);
-      opened : (state_of l.fn.machine).opened ≡ g.H.Host.opened l.fn.host → (state_of l.machine).opened ≡ g.H.Host.opened l.host;
-      listed : sources_of (state_of l.fn.machine).plan ≡ (state_of l.fn.machine).opened → sources_of (state_of l.machine).plan ≡ (state_of l.machine).opened;
-      later : g.H.Host.faults l.fn.host ≤ g.H.Host.faults l.host;
+      kept : Kept g.H.Host l.fn.machine l.fn.host l.machine l.host;
     }
 
 abbrev pub invariant-calls_from-loop-call : goal.invariant-calls_from-loop-call
@@ -23,9 +21,7 @@ invariant-calls_from-loop-call g l =
     record {
       told : IsTrue g.H.Host.told → calls (method_calls_of (map method_call_view (drop l.call-index l.calls))) l.value (state_of l.machine)
           ≡ calls (method_calls_of (map method_call_view l.calls)) l.fn.first (state_of l.fn.machine);
-      opened : (state_of l.fn.machine).opened ≡ g.H.Host.opened l.fn.host → (state_of l.machine).opened ≡ g.H.Host.opened l.host;
-      listed : sources_of (state_of l.fn.machine).plan ≡ (state_of l.fn.machine).opened → sources_of (state_of l.machine).plan ≡ (state_of l.machine).opened;
-      later : g.H.Host.faults l.fn.host ≤ g.H.Host.faults l.host;
+      kept : Kept g.H.Host l.fn.machine l.fn.host l.machine l.host;
     }
 
 abbrev pub invariant-steps_from-loop-step : goal.invariant-steps_from-loop-step
@@ -34,7 +30,5 @@ invariant-steps_from-loop-step g l =
     record {
       told : IsTrue g.H.Host.told → steps (steps_of (map step_view (drop l.step-index l.steps))) l.value (state_of l.machine)
           ≡ steps (steps_of (map step_view l.steps)) l.fn.first (state_of l.fn.machine);
-      opened : (state_of l.fn.machine).opened ≡ g.H.Host.opened l.fn.host → (state_of l.machine).opened ≡ g.H.Host.opened l.host;
-      listed : sources_of (state_of l.fn.machine).plan ≡ (state_of l.fn.machine).opened → sources_of (state_of l.machine).plan ≡ (state_of l.machine).opened;
-      later : g.H.Host.faults l.fn.host ≤ g.H.Host.faults l.host;
+      kept : Kept g.H.Host l.fn.machine l.fn.host l.machine l.host;
     }

@@ -1,10 +1,10 @@
 -- What is left gives what the whole gives, and the state has kept what it keeps.
-use Rattle.std.proofs.Common.{◌≡◌, ◌≤◌, ◌-◌, map, drop, IsTrue}
+use Rattle.std.proofs.Common.{◌≡◌, ◌-◌, map, drop, IsTrue}
 use Rattle.avs_tree.specs.View.{expr_view, arm_view, statement_view, block_of, block_view, arms_of}
 use Rattle.avs_meaning.specs.Loops as m
-use Rattle.avs_state.specs.Sources.{sources_of}
 use Rattle.avs_state.specs.States.{state_of}
 use Rattle.avs_eval.specs.At as r
+use Rattle.avs_eval.proofs.Kept.{Kept}
 use Rattle.avs_eval.proofs.walker.Walker.+statements.Given as goal
 
 abbrev pub invariant-arms_of-loop-arm : goal.invariant-arms_of-loop-arm
@@ -13,9 +13,7 @@ invariant-arms_of-loop-arm g l =
     record {
       told : IsTrue g.H.Host.told → arms (arms_of (map arm_view (drop l.arm-index l.arms))) l.line (state_of l.machine)
           ≡ arms (arms_of (map arm_view l.arms)) l.line (state_of l.fn.machine);
-      opened : (state_of l.fn.machine).opened ≡ g.H.Host.opened l.fn.host → (state_of l.machine).opened ≡ g.H.Host.opened l.host;
-      listed : sources_of (state_of l.fn.machine).plan ≡ (state_of l.fn.machine).opened → sources_of (state_of l.machine).plan ≡ (state_of l.machine).opened;
-      later : g.H.Host.faults l.fn.host ≤ g.H.Host.faults l.host;
+      kept : Kept g.H.Host l.fn.machine l.fn.host l.machine l.host;
     }
 
 abbrev pub invariant-turns-loop-turn : goal.invariant-turns-loop-turn
@@ -25,9 +23,7 @@ invariant-turns-loop-turn g l =
     record {
       told : IsTrue g.H.Host.told → m.turns l.self.here.now (l.most - l._turn) test l.line body (state_of l.machine)
           ≡ r.loop_of g.H.Host.clips g.H.Host.scripts l.self.depth l.self.here.now (expr_view l.test) l.line (block_view l.body) (state_of l.fn.machine);
-      opened : (state_of l.fn.machine).opened ≡ g.H.Host.opened l.fn.host → (state_of l.machine).opened ≡ g.H.Host.opened l.host;
-      listed : sources_of (state_of l.fn.machine).plan ≡ (state_of l.fn.machine).opened → sources_of (state_of l.machine).plan ≡ (state_of l.machine).opened;
-      later : g.H.Host.faults l.fn.host ≤ g.H.Host.faults l.host;
+      kept : Kept g.H.Host l.fn.machine l.fn.host l.machine l.host;
     }
 
 abbrev pub invariant-counts-loop-turn : goal.invariant-counts-loop-turn
@@ -37,9 +33,7 @@ invariant-counts-loop-turn g l =
       told : IsTrue g.H.Host.told
           → m.counts l.self.here.now (l.most - l._turn) l.name l.counter.at l.counter.last l.counter.step l.line body (state_of l.machine)
           ≡ r.count_of g.H.Host.clips g.H.Host.scripts l.self.depth l.self.here.now l.name l.fn.first.at l.fn.first.last l.fn.first.step l.line (block_view l.body) (state_of l.fn.machine);
-      opened : (state_of l.fn.machine).opened ≡ g.H.Host.opened l.fn.host → (state_of l.machine).opened ≡ g.H.Host.opened l.host;
-      listed : sources_of (state_of l.fn.machine).plan ≡ (state_of l.fn.machine).opened → sources_of (state_of l.machine).plan ≡ (state_of l.machine).opened;
-      later : g.H.Host.faults l.fn.host ≤ g.H.Host.faults l.host;
+      kept : Kept g.H.Host l.fn.machine l.fn.host l.machine l.host;
     }
 
 abbrev pub invariant-block_of-loop-statement : goal.invariant-block_of-loop-statement
@@ -48,7 +42,5 @@ invariant-block_of-loop-statement g l =
     record {
       told : IsTrue g.H.Host.told → block (block_of (map statement_view (drop l.statement-index l.body))) (state_of l.machine)
           ≡ block (block_view l.body) (state_of l.fn.machine);
-      opened : (state_of l.fn.machine).opened ≡ g.H.Host.opened l.fn.host → (state_of l.machine).opened ≡ g.H.Host.opened l.host;
-      listed : sources_of (state_of l.fn.machine).plan ≡ (state_of l.fn.machine).opened → sources_of (state_of l.machine).plan ≡ (state_of l.machine).opened;
-      later : g.H.Host.faults l.fn.host ≤ g.H.Host.faults l.host;
+      kept : Kept g.H.Host l.fn.machine l.fn.host l.machine l.host;
     }

@@ -1,10 +1,10 @@
 -- What is left gives what the whole gives, and the state has kept what it keeps.
-use Rattle.std.proofs.Common.{◌≡◌, ◌≤◌, map, drop, IsTrue}
+use Rattle.std.proofs.Common.{◌≡◌, map, drop, IsTrue}
 use Rattle.avs_tree.specs.View.{statement_view, block_of, block_view}
 use Rattle.avs_values.specs.declared.value.Value.TheVariants.{Undefined}
-use Rattle.avs_state.specs.Sources.{sources_of}
 use Rattle.avs_state.specs.States.{state_of}
 use Rattle.avs_eval.specs.At as r
+use Rattle.avs_eval.proofs.Kept.{Kept}
 use Rattle.avs_eval.proofs.walker.Walker.body_of.Given as goal
 
 abbrev pub invariant-loop-statement : goal.invariant-loop-statement
@@ -13,7 +13,5 @@ invariant-loop-statement g l =
     record {
       told : IsTrue g.H.Host.told → body (block_of (map statement_view (drop l.statement-index l.body))) l.last (state_of l.machine)
           ≡ body (block_view l.body) Undefined (state_of l.fn.machine);
-      opened : (state_of l.fn.machine).opened ≡ g.H.Host.opened l.fn.host → (state_of l.machine).opened ≡ g.H.Host.opened l.host;
-      listed : sources_of (state_of l.fn.machine).plan ≡ (state_of l.fn.machine).opened → sources_of (state_of l.machine).plan ≡ (state_of l.machine).opened;
-      later : g.H.Host.faults l.fn.host ≤ g.H.Host.faults l.host;
+      kept : Kept g.H.Host l.fn.machine l.fn.host l.machine l.host;
     }
