@@ -101,7 +101,7 @@ impl<F: Fn(Global, &mut Tokens<'_>, u32, u8) -> Result<Expr, ParseStop>> Grammar
     }
 
     // The arguments after the first.
-    #[tactic(auto, using(crate::proofs::Turns::one_more, crate::proofs::Turns::no_more), unfolding(crate::specs::ParsingExpr::more_args))]
+    #[tactic(auto, unfolding(crate::specs::ParsingExpr::more_args))]
     fn more_args(&self, tokens: &mut Tokens<'_>, mut args: Vec<Arg>) -> Result<Vec<Arg>, ParseStop>
         requires deeper { ParsesDeeper self.now.levels_left (F.pre self.now.parse) (F.post self.now.parse) }
         requires may_open { 0 < self.now.levels_left }
@@ -231,7 +231,7 @@ impl<F: Fn(Global, &mut Tokens<'_>, u32, u8) -> Result<Expr, ParseStop>> Grammar
         Ok(MethodCall { name, args, line })
     }
 
-    #[tactic(auto, using(crate::proofs::Turns::one_more, crate::proofs::Turns::no_more), unfolding(crate::specs::ParsingExpr::more_method_calls))]
+    #[tactic(auto, unfolding(crate::specs::ParsingExpr::more_method_calls))]
     fn method_calls(&self, tokens: &mut Tokens<'_>) -> Result<Vec<MethodCall>, ParseStop>
         requires { ParsesDeeper self.now.levels_left (F.pre self.now.parse) (F.post self.now.parse) }
         ensures { AnswersEach method_call_view (r.more_method_calls self.now.levels_left
@@ -302,7 +302,7 @@ impl<F: Fn(Global, &mut Tokens<'_>, u32, u8) -> Result<Expr, ParseStop>> Grammar
         Ok(Step { op, operand, line })
     }
 
-    #[tactic(auto, using(crate::proofs::Turns::one_more, crate::proofs::Turns::no_more), unfolding(crate::specs::ParsingExpr::steps))]
+    #[tactic(auto, unfolding(crate::specs::ParsingExpr::steps))]
     fn steps(&self, tokens: &mut Tokens<'_>, precedence: u8) -> Result<Vec<Step>, ParseStop>
         requires lower { ParsesLower self.now.levels_left precedence (F.pre self.now.parse) (F.post self.now.parse) }
         requires some { 0 < precedence }

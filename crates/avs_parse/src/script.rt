@@ -75,7 +75,6 @@ fn parameter(alloc: Global, tokens: &mut Tokens<'_>, must: bool) -> Result<Param
 }
 
 // The parameters after the first ones, of which the last one is optional or not.
-#[tactic(auto, using(crate::proofs::Turns::one_more_param, crate::proofs::Turns::no_more_param))]
 fn more_params(
     alloc: Global,
     tokens: &mut Tokens<'_>,
@@ -163,7 +162,6 @@ impl<F: Fn(Global, &mut Tokens<'_>, u32) -> Result<Vec<Statement>, ParseStop>> O
     }
 
     // All functions and statements up to a brace or the end.
-    #[tactic(auto, using(crate::proofs::Turns::one_more_item, crate::proofs::Turns::no_more_item))]
     fn all_items(&self, tokens: &mut Tokens<'_>) -> Result<Script, ParseStop>
         requires { ParsesInside self.now.blocks.levels_left
             (F.pre self.now.blocks.parse) (F.post self.now.blocks.parse) }

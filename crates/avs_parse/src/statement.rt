@@ -115,7 +115,7 @@ impl<F: Fn(Global, &mut Tokens<'_>, u32) -> Result<Vec<Statement>, ParseStop>> B
         Ok(Arm { condition, body })
     }
 
-    #[tactic(auto, using(crate::proofs::Turns::one_more, crate::proofs::Turns::no_more), unfolding(crate::specs::ParsingScript::more_arms))]
+    #[tactic(auto, unfolding(crate::specs::ParsingScript::more_arms))]
     fn more_arms(&self, tokens: &mut Tokens<'_>, mut arms: Vec<Arm>) -> Result<Vec<Arm>, ParseStop>
         requires { ParsesInside self.now.levels_left (F.pre self.now.parse) (F.post self.now.parse) }
         ensures { AnswersEach arm_view (r.more_arms self.now.levels_left (r.block_below self.now.levels_left)
@@ -315,7 +315,7 @@ impl<F: Fn(Global, &mut Tokens<'_>, u32) -> Result<Vec<Statement>, ParseStop>> B
         Ok(Statement { kind, line })
     }
 
-    #[tactic(auto, using(crate::proofs::Turns::one_more, crate::proofs::Turns::no_more), unfolding(crate::specs::ParsingScript::more_items))]
+    #[tactic(auto, unfolding(crate::specs::ParsingScript::more_items))]
     fn more_items(&self, tokens: &mut Tokens<'_>) -> Result<Vec<Statement>, ParseStop>
         requires { ParsesInside self.now.levels_left (F.pre self.now.parse) (F.post self.now.parse) }
         ensures { AnswersEach statement_view (r.more_items self.now.levels_left
