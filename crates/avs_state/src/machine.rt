@@ -230,8 +230,7 @@ impl Machine {
     /// The info of a clip, by its place.
     #[tactic(auto, unfolding(crate::specs::States::state_of), using(crate::proofs::StateLemmas::lawful_at))]
     pub fn info_of(&self, alloc: Global, i: u32, here: &Text, line: u32) -> Result<Info, Stop>
-        ensures gives { Gives (λ info. info) (f.info_of here.now i line (state_of self.now)) result (state_of self.now)
-            }
+        ensures gives { Gives (λ info. info) (f.info_of here.now i line (state_of self.now)) result (state_of self.now) }
         ensures lawful { IfOk result IsLawful }
         ensures inside { OnOk result (i < length (state_of self.now).plan) }
     {
