@@ -5,7 +5,7 @@ use Rattle.avs_tree.specs.Tree.{Block}
 use Rattle.avs_values.specs.Values.{Text}
 use Rattle.avs_values.specs.declared.value.Value.{Value}
 use Rattle.avs_load.specs.Load.{script_of}
-use Rattle.avs_meaning.specs.Faults.{script, refused, input}
+use Rattle.avs_meaning.specs.Faults.{script, refused}
 use Rattle.avs_meaning.specs.Meaning.{run, call_limit, clip_or_not, to_clip, executed, meaning_by}
 use Rattle.avs_meaning.specs.Outside.{Outside}
 use Rattle.avs_meaning.specs.State.{State, Outcome, Run, and_then}
