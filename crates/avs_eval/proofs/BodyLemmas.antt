@@ -1,5 +1,5 @@
 -- A text that is executed, by its parts.
-use Rattle.std.proofs.Common.{◌≡◌, ◌∙◌, refl, sym, ap, ℕ, ◌<◌, nat_le, nat_eq, Bool, false, List, [], ◌∷◌, length, Result, Ok, Err, IsTrue, ◌≤◌, if◌then◌else◌, true, rules, arith}
+use Rattle.std.proofs.Common.{◌≡◌, ◌∙◌, refl, ap, ℕ, ◌<◌, nat_le, nat_eq, Bool, false, List, [], ◌∷◌, length, Result, Ok, Err, ◌≤◌, true, rules, arith}
 use Rattle.fv_plane.specs.declared.format.Info.{Info}
 use Rattle.avs_tree.specs.Loaded.{Loaded, NoTree}
 use Rattle.avs_tree.specs.Tree.{Block}

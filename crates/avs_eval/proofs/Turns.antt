@@ -1,5 +1,5 @@
 -- Loops, a turn at a time.
-use Rattle.std.proofs.Common.{◌≡◌, ◌∙◌, sym, Ok, Err, ap, ℕ, ℤ, suc, ◌+◌, ◌-◌, ◌<◌, Bool, arith, if◌then◌else◌}
+use Rattle.std.proofs.Common.{◌≡◌, ◌∙◌, sym, Ok, ap, ℕ, ℤ, suc, ◌+◌, ◌-◌, ◌<◌, Bool, arith, if◌then◌else◌}
 use Rattle.avs_tree.specs.Tree.{Block}
 use Rattle.avs_values.specs.Values.{Text}
 use Rattle.avs_meaning.specs.Loops as m

@@ -2,7 +2,6 @@
 use Rattle.std.proofs.Common.{◌≡◌, Err, subst, rules}
 use Rattle.avs_meaning.specs.Meaning.{executed}
 use Rattle.avs_state.specs.Hosts.{Fails}
-use Rattle.avs_state.specs.States.{state_of}
 use Rattle.avs_eval.specs.OutsideBy.{outside_by}
 use Rattle.avs_eval.proofs.RunLemmas.{stop_shows}
 use Rattle.avs_eval.proofs.evaluation.eval.Goals as goal

@@ -1,5 +1,5 @@
 -- ApplyRange, and what it calls.
-use Rattle.std.proofs.Common.{rules, ◌≡◌, ◌+◌, ◌≤◌, length, Some, Ok, arith}
+use Rattle.std.proofs.Common.{rules, ◌≡◌, ◌+◌, ◌≤◌, length, Some, arith}
 use Rattle.avs_values.specs.Views.{bound_view}
 use Rattle.avs_meaning.specs.Calls.{builtin, takes, fit_or_last}
 use Rattle.avs_meaning.specs.declared.builtin.Builtin.TheVariants as b
