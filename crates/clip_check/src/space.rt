@@ -128,7 +128,13 @@ fn borders_fault(
     if bad_borders(left, top, right, bottom, color_yuv) {
         return Some(FilterFault::BadRange);
     }
-    if are_whole(shape, left as u64, top as u64, right as u64, bottom as u64) {
+    if are_whole(
+        shape,
+        left.unsigned_abs() as u64,
+        top.unsigned_abs() as u64,
+        right.unsigned_abs() as u64,
+        bottom.unsigned_abs() as u64,
+    ) {
         None
     } else {
         Some(FilterFault::NotWholeChroma)
@@ -155,10 +161,12 @@ fn letter_box_fault(
     if bad_borders(x1, top, x2, bottom, color_yuv) {
         return Some(FilterFault::BadRange);
     }
-    if cover_more(shape, x1 as u32, top as u32, x2 as u32, bottom as u32) {
+    let (left, right) = (x1.unsigned_abs(), x2.unsigned_abs());
+    let (top, bottom) = (top.unsigned_abs(), bottom.unsigned_abs());
+    if cover_more(shape, left, top, right, bottom) {
         return Some(FilterFault::OutOfPicture);
     }
-    if are_whole(shape, x1 as u64, top as u64, x2 as u64, bottom as u64) {
+    if are_whole(shape, left as u64, top as u64, right as u64, bottom as u64) {
         None
     } else {
         Some(FilterFault::NotWholeChroma)
