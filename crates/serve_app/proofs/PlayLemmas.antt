@@ -31,11 +31,12 @@ use Rattle.serve_core.specs.Sources.{with_told, all_told}
 use Rattle.prefetch.specs.Clips.{clip_at}
 use Rattle.avs_eval.specs.Evaluates.{Evaluates}
 use Rattle.avs_eval.specs.declared.evaluation.Opened.{Opened}
-use Rattle.avs_meaning.specs.Faults.{Fault, script, refused, input}
+use Rattle.avs_meaning.specs.Faults as f
+use Rattle.avs_meaning.specs.Faults.{Fault, input}
 use Rattle.avs_meaning.specs.Meaning as m
 use Rattle.avs_meaning.specs.declared.state.SourceClip.{SourceClip}
 use Rattle.avs_meaning.specs.declared.stop.ScriptStop.{ScriptStop}
-use Rattle.avs_meaning.specs.declared.stop.ScriptStop.TheVariants as of_script
+use Rattle.avs_meaning.specs.declared.stop.ScriptStop.TheVariants as of_text
 use Rattle.avs_state.specs.Sources.{source_of, sources_of}
 use Rattle.avs_files.specs.Opened.{told_of, IsOpened, AreOpened}
 use Rattle.avs_files.proofs.CallerLemmas.{frames_of, has_clip, infos_listed}
@@ -254,12 +255,12 @@ module _ {S : Type 0} (of : of_source.Ghosts S) (told : Bool) (world : World) (s
 
 -- the stop of a script is told as a stop of the render
 pub told_as : (meaning : m.Meaning) (stop : ScriptStop) → Evaluates meaning (Err stop) → Tells meaning (Err (stop_of stop))
-told_as meaning (of_script.Fault kind name line) is = (script kind name line, (inl refl, is))
-told_as meaning (of_script.Refused name true line) is = (refused name, (inr (tt, refl), is))
-told_as meaning (of_script.Refused name false line) is = (refused name, (inr (tt, refl), is))
-told_as meaning (of_script.Input name fault) is = is
-told_as meaning of_script.Read is = tt
-told_as meaning of_script.Memory is = tt
+told_as meaning (of_text.Fault kind name line) is = (f.script kind name line, (inl refl, is))
+told_as meaning (of_text.Refused name true line) is = (f.refused name, (inr (tt, refl), is))
+told_as meaning (of_text.Refused name false line) is = (f.refused name, (inr (tt, refl), is))
+told_as meaning (of_text.Input name fault) is = is
+told_as meaning of_text.Read is = tt
+told_as meaning of_text.Memory is = tt
 
 -- what a stop before anything is put shows
 pub before_stops : {K : Type 0} (told : Bool) (world : World) (script : List ℕ) (sink : Ghosts K) (out : K) (failed : Type 0) (before now : ℕ) (stop : Stop)

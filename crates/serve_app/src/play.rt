@@ -63,10 +63,8 @@ pub(crate) fn evaluate<H: Host>(alloc: Global, host: &mut H, script: &Text) -> R
         Err(HostFault::Read) => return Err(Stop::Read),
         Err(HostFault::Memory) => return Err(Stop::Memory),
     };
-    match eval(alloc, host, script, &text) {
-        Ok(opened) => Ok(opened),
-        Err(stop) => Err(Stop::from(stop)),
-    }
+    let opened = eval(alloc, host, script, &text)?;
+    Ok(opened)
 }
 
 /// A clip whose frames were all put: how many there are, and its graph, which the core shared.
