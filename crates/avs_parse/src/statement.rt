@@ -308,6 +308,7 @@ impl<F: Fn(Global, &mut Tokens<'_>, u32) -> Result<Vec<Statement>, ParseStop>> B
     {
         let line = tokens.line();
         let kind = self.kind(tokens)?;
+        // Dropped by name: where a statement goes out of scope, the check reads the drops of all its parts.
         if let Err(stop) = tokens.separate(ends_with_brace(&kind)) {
             drop(kind);
             return Err(stop);
