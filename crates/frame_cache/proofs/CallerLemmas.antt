@@ -121,11 +121,11 @@ module _ {A : Type 0} where
       (λ (h : same_key k p.0 ≡ false). let is' : suc i ≡ 1 + position_or_len (λ e. same_key k e.0) ps = rw h at is in rw h (ap (λ l. p ∷ l) (remove_is k ps i (omega arith) (omega arith)))) (test (same_key k p.0))
 
   -- distinct keys
-  others : (k : Key) (ps : List (Key × A)) → at_key k ps ≡ None → AllByRecursion (λ j. same_key k j ≡ false) (keys_of ps)
+  pub others : (k : Key) (ps : List (Key × A)) → at_key k ps ≡ None → AllByRecursion (λ j. same_key k j ≡ false) (keys_of ps)
   others k [] h = tt
   others k (p ∷ ps) h = ⊎_elim (λ (e : same_key k p.0 ≡ true). let bad : Some p.1 ≡ None = rw e at h in absurd (cc)) (λ (e : same_key k p.0 ≡ false). (e, others k ps (rw e at h))) (test (same_key k p.0))
 
-  nowhere : (k : Key) (ps : List (Key × A)) → AllByRecursion (λ j. same_key k j ≡ false) (keys_of ps) → at_key k ps ≡ None
+  pub nowhere : (k : Key) (ps : List (Key × A)) → AllByRecursion (λ j. same_key k j ≡ false) (keys_of ps) → at_key k ps ≡ None
   nowhere k [] h = refl
   nowhere k (p ∷ ps) h = rw h.0 (nowhere k ps h.1)
 

@@ -1,5 +1,4 @@
 pub mod Changes
-pub mod Held
 pub mod Lending
 pub mod Lent
 pub mod Places

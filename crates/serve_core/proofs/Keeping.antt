@@ -5,12 +5,15 @@ use Rattle.std.proofs.lemmas.List.{length-set, take_all, length-replicate}
 use Rattle.std.specs.Prelude.{replicate, is_some}
 use Rattle.std.specs.Option.{option_map_or}
 use Rattle.std.specs.List.{IsDistinct}
+use Rattle.std.specs.Map.{keys_of}
+use Rattle.std.proofs.lemmas.Map.{keys-set_value}
 use Rattle.std.proofs.Math.Seq.{take-length}
 use Rattle.fv_plane.specs.declared.format.Info.{Info}
 use Rattle.fv_plane.specs.declared.key.Key.{Key}
 use Rattle.fv_plane.specs.Picture.{Picture}
 use Rattle.clip_graph.specs.Plan.{Application}
-use Rattle.frame_cache.specs.Cached.{same_key, at_key, has_key, without_key, fronted, put_first}
+use Rattle.clip_graph.specs.Unfolding.{input_keys}
+use Rattle.frame_cache.specs.Cached.{same_key, at_key, has_key, without_key, fronted, put_first, dropped_key}
 use Rattle.frame_cache.proofs.CallerLemmas.{test, same_keys, present, at_fronted, at_put_other, none_put, some_without, some_push, length_without, differ_push, differ_without, gone}
 use Rattle.inst_table.specs.declared.place.Place.{Place}
 use Rattle.inst_table.specs.declared.place.Slot.{Slot}
@@ -20,13 +23,18 @@ use Rattle.inst_table.proofs.CallerLemmas.{has_put}
 use Rattle.serve_events.specs.declared.event.Event.{Event}
 use Rattle.serve_events.specs.declared.event.Event.TheVariants.{Hit, Claim, Enter, Leave, Publish, Abandon, Take, Deliver, Fail}
 use Rattle.serve_events.specs.declared.event.WindowStop.{WindowStop}
+use Rattle.serve_events.specs.Keys.{IsKey, frame_key, mode_at}
+use Rattle.serve_events.specs.Own.{has_got, has_got_all, may_fail, names_source}
 use Rattle.serve_events.specs.SerialRun.{eviction}
-use Rattle.serve_core.specs.CoreValue.{CoreValue, Fixed}
-use Rattle.serve_core.specs.Holds.{claims_at}
-use Rattle.serve_core.specs.Sources.{shape_at, opened_at, IsFurnished, HoldTheirs}
-use Rattle.serve_core.specs.Stops.{kept_stop, first_stop}
-use Rattle.serve_core.specs.Kept.{count_of, is_leased, is_open, leases_out, AreOpen, KeysKept, OutputsKept, TableKept, PlanKept, Kept}
+use Rattle.serve_machine.specs.State.{Fixed, is_open}
+use Rattle.serve_core.specs.CoreValue.{CoreValue}
+use Rattle.serve_core.specs.Holds.{claims_at, holds_none}
+use Rattle.serve_core.specs.Sources.{place_of, shape_at, opened_at, IsFurnished, HoldTheirs}
+use Rattle.serve_core.specs.Runs.{IsRun}
+use Rattle.serve_machine.specs.Stops.{kept_stop, first_stop}
+use Rattle.serve_core.specs.Kept.{count_of, is_leased, leases_out, AreOpen, KeysKept, OutputsKept, TableKept, PlanKept, Kept}
 use Rattle.serve_core.proofs.Places.{at_set, not_free, free_same, some_same}
+use Rattle.serve_core.proofs.StepLemmas.{claim_step, hit_step, abandon_step, take_step, enter_step, leave_step, deliver_step, put_step, fail_step, from_opening, goes_on, begun_is_run}
 use Rattle.serve_core.proofs.Counts.{set_closed, take_more, value_more, value_less}
 use Rattle.serve_core.proofs.Stopping.{AreQuiet, first_quiet, first_fail, eviction_quiet}
 
@@ -146,10 +154,10 @@ module _ {I : Type 0} {holds : I → Option Info} {c : CoreValue I} {owed writte
   stays_stopped : (journal : List Event) (es : List Event) → AreQuiet es → journal ≡ c.journal ++ es → c.stop ≡ first_stop journal
   stays_stopped journal es q e = v.stopped ∙ sym (ap first_stop e ∙ first_quiet c.journal es q)
 
-  pub hit_kept : (w : ℕ) (k : Key) (capacity : ℕ) (cache : List (Key × Picture)) (journal : List Event) (after more : ℕ)
-      → 0 < c.fixed.count → cache ≡ fronted k c.cache → journal ≡ c.journal ++ Hit w k ∷ [] → after ≡ written + 1 → written + (owed + 3) ≤ more
+  pub hit_kept : (w : ℕ) (k : Key) (x : Picture) (capacity : ℕ) (cache : List (Key × Picture)) (journal : List Event) (after more : ℕ)
+      → 0 < c.fixed.count → w < c.fixed.workers → (at_key k c.claims ≡ Some w → ⊥) → c.stop ≡ None → at_key k c.cache ≡ Some x → capacity ≡ c.fixed.capacity → cache ≡ fronted k c.cache → journal ≡ c.journal ++ Hit w k ∷ [] → after ≡ written + 1 → written + (owed + 3) ≤ more
       → Kept holds (record c { fixed = record c.fixed { capacity = capacity }; cache = cache; journal = journal }) owed after more
-  hit_kept w k capacity cache journal after more some e f g enough = record {
+  hit_kept w k x capacity cache journal after more some few other running at cap e f g enough = record {
     plan = v.plan;
     keys = subst (λ ps. KeysKept c.fixed.plan ps c.claims) (sym e) (keys_hit v.keys k);
     outputs = v.outputs;
@@ -158,13 +166,16 @@ module _ {I : Type 0} {holds : I → Option Info} {c : CoreValue I} {owed writte
     between = λ none. absurd (omega arith);
     owed_is = v.owed_is;
     room_for = omega arith;
+    run = λ _. let r = v.run some in goes_on r (record c { fixed = record c.fixed { capacity = capacity }; cache = cache; journal = journal }) (λ i. record c.fixed { capacity = cap i }) refl
+        (hit_step (from_opening r) (record c { fixed = record c.fixed { capacity = capacity }; cache = cache; journal = journal }) w k x few other
+        (running, at, λ i. record c { fixed = record c.fixed { capacity = cap i }; cache = e i; journal = f i }));
   }
 
   pub claim_kept : (w : ℕ) (k : Key) (capacity : ℕ) (cache : List (Key × Picture)) (claims : List (Key × ℕ)) (journal : List Event) (after more : ℕ)
-      → 0 < c.fixed.count → at_key k c.cache ≡ None → at_key k c.claims ≡ None → cache ≡ fronted k c.cache → claims ≡ c.claims ++ (k, w) ∷ []
+      → 0 < c.fixed.count → w < c.fixed.workers → IsKey c.fixed.plan k → c.stop ≡ None → at_key k c.cache ≡ None → at_key k c.claims ≡ None → capacity ≡ c.fixed.capacity → cache ≡ fronted k c.cache → claims ≡ c.claims ++ (k, w) ∷ []
       → journal ≡ c.journal ++ Claim w k ∷ [] → after ≡ written + 1 → written + (owed + 3) ≤ more
       → Kept holds (record c { fixed = record c.fixed { capacity = capacity }; cache = cache; claims = claims; journal = journal }) (owed + 2) after more
-  claim_kept w k capacity cache claims journal after more some out unclaimed e d f g enough =
+  claim_kept w k capacity cache claims journal after more some few key running out unclaimed cap e d f g enough =
       let is = v.owed_is in
       let l : length claims ≡ length c.claims + 1 = ap length d ∙ length-append c.claims ((k, w) ∷ []) in
       let front : cache ≡ c.cache = e ∙ ap (λ o. option_map_or (λ x. (k, x) ∷ without_key k c.cache) o c.cache) out in
@@ -177,16 +188,19 @@ module _ {I : Type 0} {holds : I → Option Info} {c : CoreValue I} {owed writte
         between = λ none. absurd (omega arith);
         owed_is = omega (arith, is, l);
         room_for = omega arith;
+        run = λ _. let r = v.run some in goes_on r (record c { fixed = record c.fixed { capacity = capacity }; cache = cache; claims = claims; journal = journal }) (λ i. record c.fixed { capacity = cap i }) refl
+            (claim_step (from_opening r) (record c { fixed = record c.fixed { capacity = capacity }; cache = cache; claims = claims; journal = journal }) w k few key
+            (running, out, unclaimed, λ i. record c { fixed = record c.fixed { capacity = cap i }; cache = front i; claims = d i; journal = f i }));
       }
 
   -- a worker with a claim is in a window
   claimed_within : (w i : ℕ) → claims_at w i c.claims ≡ true → c.fixed.count ≡ 0 → ⊥
   claimed_within w i h none = let bad : false ≡ true = sym (ap (claims_at w i) (v.between none).unclaimed) ∙ h in absurd (cc)
 
-  pub entered_kept : (w i : ℕ) (p : Place) (table : List (Place × Slot I)) (journal : List Event) (after more : ℕ)
-      → claims_at w i c.claims ≡ true → table ≡ with_slot p (Leased w) c.table → journal ≡ c.journal ++ Enter w i p.instance ∷ [] → after ≡ written + 1 → written + (owed + 2) ≤ more
+  pub entered_kept : (w i : ℕ) (p : Place) (x : I) (table : List (Place × Slot I)) (journal : List Event) (after more : ℕ)
+      → claims_at w i c.claims ≡ true → w < c.fixed.workers → (mode_at c.fixed.plan i ≡ 1 → ⊥) → holds_none w c.table ≡ true → c.stop ≡ None → p ≡ place_of c.fixed.plan w i → slot_at p c.table ≡ Some (Free x) → table ≡ with_slot p (Leased w) c.table → journal ≡ c.journal ++ Enter w i p.instance ∷ [] → after ≡ written + 1 → written + (owed + 2) ≤ more
       → Kept holds (record c { table = table; journal = journal }) (owed + 1) after more
-  entered_kept w i p table journal after more claim e f g enough =
+  entered_kept w i p x table journal after more claim few mode empty running meant at e f g enough =
       let is = v.owed_is in
       let l : leases_out table ≤ leases_out c.table + 1 = subst (λ t. leases_out t ≤ leases_out c.table + 1) (sym e) (value_more is_leased (same_place p) c.table (Leased w)) in
       record {
@@ -198,6 +212,13 @@ module _ {I : Type 0} {holds : I → Option Info} {c : CoreValue I} {owed writte
         between = λ none. absurd (claimed_within w i claim none);
         owed_is = omega (arith, is, l);
         room_for = omega arith;
+        run = λ some. let r = v.run some in
+            let places = ap keys_of e ∙ keys-set_value (same_place p) c.table (Leased w) in
+            let to : record c { table = table; journal = journal } ≡ record c { table = with_slot (place_of c.fixed.plan w i) (Leased w) c.table; journal = c.journal ++ Enter w i (place_of c.fixed.plan w i).instance ∷ [] } =
+            (λ j. record c { table = e j; journal = f j }) ∙ ap (λ (q : Place). record c { table = with_slot q (Leased w) c.table; journal = c.journal ++ Enter w i q.instance ∷ [] }) meant in
+            goes_on r (record c { table = table; journal = journal }) refl places
+            (enter_step (from_opening r) (record c { table = table; journal = journal }) w i (record { place = p; value = x }) few mode claim empty
+            (running, meant, subst (λ q. slot_at q c.table ≡ Some (Free x)) meant at, to));
       }
 
   lease_count : (p : Place) (w : ℕ) (x : I) → slot_at p c.table ≡ Some (Leased w) → leases_out (with_slot p (Free x) c.table) + 1 ≡ leases_out c.table
@@ -207,10 +228,10 @@ module _ {I : Type 0} {holds : I → Option Info} {c : CoreValue I} {owed writte
   lease_owed p w x at = let is = v.owed_is in let l = lease_count p w x at in omega (arith, is, l)
 
   pub left_kept : (w : ℕ) (p : Place) (x : I) (table : List (Place × Slot I)) (journal : List Event) (less after more : ℕ)
-      → slot_at p c.table ≡ Some (Leased w) → holds x ≡ opened_at c.fixed.plan p.node
+      → w < c.fixed.workers → slot_at p c.table ≡ Some (Leased w) → holds x ≡ opened_at c.fixed.plan p.node
       → table ≡ with_slot p (Free x) c.table → journal ≡ c.journal ++ Leave w p.node p.instance ∷ [] → after ≡ written + 1 → less + 1 ≡ owed → more ≡ room
       → Kept holds (record c { table = table; journal = journal }) less after more
-  left_kept w p x table journal less after more at source e f g h k =
+  left_kept w p x table journal less after more few at source e f g h k =
       let is = v.owed_is in
       let r = v.room_for in
       let l = lease_count p w x at in
@@ -224,6 +245,9 @@ module _ {I : Type 0} {holds : I → Option Info} {c : CoreValue I} {owed writte
         between = λ none. let out = (v.between none).unlent in absurd (omega (arith, out, l));
         owed_is = omega (arith, is, l', h);
         room_for = omega arith;
+        run = λ some. let run = v.run some in
+            goes_on run (record c { table = table; journal = journal }) refl (ap keys_of e ∙ keys-set_value (same_place p) c.table (Free x))
+            (leave_step (from_opening run) (record c { table = table; journal = journal }) w p x few at (λ i. record c { table = e i; journal = f i }));
       }
 
   claim_count : (k : Key) (w : ℕ) → at_key k c.claims ≡ Some w → length (without_key k c.claims) + 1 ≡ length c.claims
@@ -236,9 +260,9 @@ module _ {I : Type 0} {holds : I → Option Info} {c : CoreValue I} {owed writte
   open_within k w at none = let bad : None ≡ Some w = sym (ap (at_key k) (v.between none).unclaimed) ∙ at in absurd (cc)
 
   pub abandoned_kept : (w : ℕ) (k : Key) (claims : List (Key × ℕ)) (journal : List Event) (less after more : ℕ)
-      → at_key k c.claims ≡ Some w → claims ≡ without_key k c.claims → journal ≡ c.journal ++ Abandon w k ∷ [] → after ≡ written + 1 → less + 2 ≡ owed → more ≡ room
+      → w < c.fixed.workers → at_key k c.claims ≡ Some w → claims ≡ without_key k c.claims → journal ≡ c.journal ++ Abandon w k ∷ [] → after ≡ written + 1 → less + 2 ≡ owed → more ≡ room
       → Kept holds (record c { claims = claims; journal = journal }) less after more
-  abandoned_kept w k claims journal less after more at e f g h m =
+  abandoned_kept w k claims journal less after more few at e f g h m =
       let is = v.owed_is in
       let r = v.room_for in
       let l : length claims + 1 ≡ length c.claims = ap (λ cs. length cs + 1) e ∙ claim_count k w at in
@@ -251,13 +275,17 @@ module _ {I : Type 0} {holds : I → Option Info} {c : CoreValue I} {owed writte
         between = λ none. absurd (open_within k w at none);
         owed_is = omega (arith, is, l, h);
         room_for = omega arith;
+        run = λ some. let run = v.run some in
+            goes_on run (record c { claims = claims; journal = journal }) refl refl
+            (abandon_step (from_opening run) (record c { claims = claims; journal = journal }) w k few at (λ i. record c { claims = e i; journal = f i }));
       }
 
   pub published_kept : (w : ℕ) (k : Key) (x : Picture) (most capacity : ℕ) (gone : Option Key) (cache : List (Key × Picture)) (claims : List (Key × ℕ)) (journal : List Event) (less after more : ℕ)
-      → at_key k c.claims ≡ Some w → x.shape ≡ shape_at c.fixed.plan k.node
+      → w < c.fixed.workers → at_key k c.claims ≡ Some w → holds_none w c.table ≡ true → has_got_all w (input_keys c.fixed.plan k) c.journal ≡ true
+      → length c.cache ≤ c.fixed.capacity → 0 < c.fixed.capacity → capacity ≡ c.fixed.capacity → most ≡ c.fixed.capacity → gone ≡ dropped_key c.fixed.capacity c.cache → x.shape ≡ shape_at c.fixed.plan k.node
       → cache ≡ put_first most k x c.cache → claims ≡ without_key k c.claims → journal ≡ c.journal ++ (eviction w gone ++ Publish w k ∷ []) → after ≤ written + 2 → less + 2 ≡ owed → more ≡ room
       → Kept holds (record c { fixed = record c.fixed { capacity = capacity }; cache = cache; claims = claims; journal = journal }) less after more
-  published_kept w k x most capacity gone cache claims journal less after more at shape d e f g h m =
+  published_kept w k x most capacity gone cache claims journal less after more few at empty got bounded some cap full last shape d e f g h m =
       let is = v.owed_is in
       let r = v.room_for in
       let l : length claims + 1 ≡ length c.claims = ap (λ cs. length cs + 1) e ∙ claim_count k w at in
@@ -270,12 +298,18 @@ module _ {I : Type 0} {holds : I → Option Info} {c : CoreValue I} {owed writte
         between = λ none. absurd (open_within k w at none);
         owed_is = omega (arith, is, l, h);
         room_for = omega arith;
+        run = λ within. let run = v.run within in
+            let put = d ∙ ap (λ n. put_first n k x c.cache) full in
+            let events = f ∙ ap (λ o. c.journal ++ (eviction w o ++ Publish w k ∷ [])) last in
+            goes_on run (record c { fixed = record c.fixed { capacity = capacity }; cache = cache; claims = claims; journal = journal }) (λ i. record c.fixed { capacity = cap i }) refl
+            (put_step (from_opening run) (record c { fixed = record c.fixed { capacity = capacity }; cache = cache; claims = claims; journal = journal }) w k x few at empty got bounded some
+            (λ i. record c { fixed = record c.fixed { capacity = cap i }; cache = put i; claims = e i; journal = events i }));
       }
 
   pub took_kept : (w n : ℕ) (taken : List ℕ) (journal : List Event) (after more : ℕ)
-      → length c.outputs.taken ≢ c.fixed.count → taken ≡ c.outputs.taken ++ w ∷ [] → journal ≡ c.journal ++ Take w n ∷ [] → after ≡ written + 1 → written + (owed + 2) ≤ more
+      → w < c.fixed.workers → c.stop ≡ None → n ≡ c.fixed.first + length c.outputs.taken → length c.outputs.taken ≢ c.fixed.count → taken ≡ c.outputs.taken ++ w ∷ [] → journal ≡ c.journal ++ Take w n ∷ [] → after ≡ written + 1 → written + (owed + 2) ≤ more
       → Kept holds (record c { outputs = record { taken = taken; frames = c.outputs.frames }; journal = journal }) (owed + 1) after more
-  took_kept w n taken journal after more ne e f g enough =
+  took_kept w n taken journal after more less running next ne e f g enough =
       let is = v.owed_is in
       let few = v.outputs.few in
       let t = take_more is_open c.outputs.frames (length c.outputs.taken) in
@@ -291,6 +325,11 @@ module _ {I : Type 0} {holds : I → Option Info} {c : CoreValue I} {owed writte
         between = λ none. absurd (omega (arith, few, ne, none));
         owed_is = omega (arith, is, t');
         room_for = omega arith;
+        run = λ some. let run = v.run some in
+            let left : length c.outputs.taken < c.fixed.count = omega (arith, few, ne) in
+            goes_on run (record c { outputs = record { taken = taken; frames = c.outputs.frames }; journal = journal }) refl refl
+            (take_step (from_opening run) (record c { outputs = record { taken = taken; frames = c.outputs.frames }; journal = journal }) w n less
+            (running, left, next, λ i. record c { outputs = record { taken = e i; frames = c.outputs.frames }; journal = f i }));
       }
 
   pub next_undelivered : (n : ℕ) → length c.outputs.taken < c.fixed.count → n ≡ c.fixed.first + length c.outputs.taken → slice_get c.outputs.frames (n - c.fixed.first) ≡ Some None
@@ -307,10 +346,11 @@ module _ {I : Type 0} {holds : I → Option Info} {c : CoreValue I} {owed writte
   output_owed i w x at none = let is = v.owed_is in let l = output_count i w x at none in omega (arith, is, l)
 
   pub delivered_kept : (w n i : ℕ) (x : Picture) (frames : List (Option Picture)) (journal : List Event) (less after more : ℕ)
+      → w < c.fixed.workers → c.fixed.first ≤ n → i ≡ n - c.fixed.first → has_got w (frame_key c.fixed.root n) c.journal ≡ true
       → slice_get c.outputs.taken i ≡ Some w → slice_get c.outputs.frames i ≡ Some None → x.shape ≡ shape_at c.fixed.plan c.fixed.root
       → frames ≡ set c.outputs.frames i (Some x) → journal ≡ c.journal ++ Deliver w n ∷ [] → after ≡ written + 1 → less + 1 ≡ owed → more ≡ room
       → Kept holds (record c { outputs = record { taken = c.outputs.taken; frames = frames }; journal = journal }) less after more
-  delivered_kept w n i x frames journal less after more at none shape e f g h m =
+  delivered_kept w n i x frames journal less after more lower low place got at none shape e f g h m =
       let is = v.owed_is in
       let r = v.room_for in
       let few = v.outputs.few in
@@ -326,6 +366,12 @@ module _ {I : Type 0} {holds : I → Option Info} {c : CoreValue I} {owed writte
         between = λ empty. absurd (omega (arith, few, within, empty));
         owed_is = omega (arith, is, l, h);
         room_for = omega arith;
+        run = λ some. let run = v.run some in
+            let put = e ∙ ap (λ j. set c.outputs.frames j (Some x)) place in
+            goes_on run (record c { outputs = record { taken = c.outputs.taken; frames = frames }; journal = journal }) refl refl
+            (deliver_step (from_opening run) (record c { outputs = record { taken = c.outputs.taken; frames = frames }; journal = journal }) w n x lower low
+            (subst (λ j. slice_get c.outputs.taken j ≡ Some w) place at) (subst (λ j. slice_get c.outputs.frames j ≡ Some None) place none) got
+            (λ j. record c { outputs = record { taken = c.outputs.taken; frames = put j }; journal = f j }));
       }
 
   fail_count : (w : ℕ) → slice_get c.failed w ≡ Some false → count_of not (set c.failed w true) + 1 ≡ count_of not c.failed
@@ -338,10 +384,10 @@ module _ {I : Type 0} {holds : I → Option Info} {c : CoreValue I} {owed writte
   fail_owed w at = let is = v.owed_is in let l = fail_count w at in omega (arith, is, l)
 
   pub failed_kept : (w : ℕ) (why : WindowStop) (failed : List Bool) (stop : Option WindowStop) (journal : List Event) (less after more : ℕ)
-      → slice_get c.failed w ≡ Some false
+      → w < c.fixed.workers → may_fail w why c.journal ≡ true → names_source c.fixed.plan why ≡ true → slice_get c.failed w ≡ Some false
       → failed ≡ set c.failed w true → stop ≡ Some (kept_stop c.stop why) → journal ≡ c.journal ++ Fail w why ∷ [] → after ≡ written + 1 → less + 1 ≡ owed → more ≡ room
       → Kept holds (record c { failed = failed; stop = stop; journal = journal }) less after more
-  failed_kept w why failed stop journal less after more at d e f g h m =
+  failed_kept w why failed stop journal less after more few cause source at d e f g h m =
       let is = v.owed_is in
       let r = v.room_for in
       let l : count_of not failed + 1 ≡ count_of not c.failed = ap (λ fs. count_of not fs + 1) d ∙ fail_count w at in
@@ -354,6 +400,9 @@ module _ {I : Type 0} {holds : I → Option Info} {c : CoreValue I} {owed writte
         between = λ none. let bad : None ≡ Some false = sym (ap (λ fs. slice_get fs w) (v.between none).unfailed) ∙ at in absurd (cc);
         owed_is = omega (arith, is, l, h);
         room_for = omega arith;
+        run = λ some. let run = v.run some in
+            goes_on run (record c { failed = failed; stop = stop; journal = journal }) refl refl
+            (fail_step (from_opening run) (record c { failed = failed; stop = stop; journal = journal }) w why few at cause source (λ i. record c { failed = d i; stop = e i; journal = f i }));
       }
 
 -- A core that is made, a window that begins, and one that ends.
@@ -382,9 +431,10 @@ outputs_begun plan root first count fits = record {
 
 pub begun_kept : {I : Type 0} {holds : I → Option Info} {c : CoreValue I} {owed written room : ℕ} → Kept holds c owed written room
     → (first count : ℕ) (opening : List Key) (taken : List ℕ) (frames : List (Option Picture)) (failed : List Bool) (journal : List Event) (after more : ℕ)
+    → IsDistinct same_key (keys_of c.cache) → length c.cache ≤ c.fixed.capacity → opening ≡ keys_of c.cache
     → c.fixed.count ≡ 0 → 0 < count → first + count < 2 ^ 32 → taken ≡ [] → frames ≡ replicate count None → failed ≡ replicate c.fixed.workers false → journal ≡ [] → after ≡ 0 → c.fixed.workers ≤ more
     → Kept holds (record c { fixed = record c.fixed { first = first; count = count; opening = opening }; outputs = record { taken = taken; frames = frames }; failed = failed; stop = None; journal = journal }) c.fixed.workers after more
-begun_kept {c = c} v first count opening taken frames failed journal after more between some fits t f e j a enough =
+begun_kept {c = c} v first count opening taken frames failed journal after more differ bounded keys between some fits t f e j a enough =
     let none = (v.between between).unlent in
     let unclaimed = ap length (v.between between).unclaimed in
     let l : count_of not failed ≡ c.fixed.workers = ap (count_of not) e ∙ unfailed_count c.fixed.workers in
@@ -398,6 +448,8 @@ begun_kept {c = c} v first count opening taken frames failed journal after more 
       between = λ empty. absurd (omega arith);
       owed_is = omega (arith, none, unclaimed, l, o);
       room_for = omega arith;
+      run = λ _. subst IsRun (λ i. record c { fixed = record c.fixed { first = first; count = count; opening = sym keys i }; outputs = record { taken = sym t i; frames = sym f i }; failed = sym e i; stop = None; journal = sym j i })
+          (begun_is_run c first count (v.between between).unclaimed none differ bounded);
     }
 
 pub ended_kept : {I : Type 0} {holds : I → Option Info} {c : CoreValue I} {owed written room : ℕ} → Kept holds c owed written room
@@ -417,6 +469,7 @@ ended_kept {c = c} v taken frames failed journal after more unclaimed none t f e
       between = λ empty. record { unclaimed = unclaimed; unlent = none; unfailed = e; running = refl; empty = j };
       owed_is = omega (arith, none, few, l, o);
       room_for = omega arith;
+      run = λ some. absurd (omega arith);
     }
 
 keys_none : (plan : List Application) (cache : List (Key × Picture)) → cache ≡ [] → KeysKept plan cache []
@@ -445,4 +498,5 @@ made_kept holds fixed cache claims table taken frames failed journal written roo
       between = λ empty. record { unclaimed = d; unlent = none; unfailed = e; running = refl; empty = j };
       owed_is = omega (arith, none, few, l, o);
       room_for = omega arith;
+      run = λ some. absurd (omega (arith, b));
     }

@@ -2,5 +2,9 @@ pub mod Places
 pub mod Counts
 pub mod Furnished
 pub mod Stopping
+pub mod StepLemmas
 pub mod Keeping
 pub mod Standing
+pub mod Telling
+pub mod WorkerLemmas
+pub mod WindowLemmas

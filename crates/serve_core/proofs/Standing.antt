@@ -28,7 +28,7 @@ use Rattle.serve_core.specs.declared.answers.Admitted.TheVariants.{Leased, Busy,
 use Rattle.serve_core.specs.CoreValue.{CoreValue}
 use Rattle.serve_core.specs.Calls.{Asked, Admits, left, published, abandoned, TookOutput, delivered, failing, begun, ended, made}
 use Rattle.serve_core.specs.Sources.{place_of, sources_from, source_nodes, with_told, all_told, feed_at, book_of, faults_at, faults_of}
-use Rattle.serve_core.specs.Stops.{first_stop, has_read, has_changed}
+use Rattle.serve_machine.specs.Stops.{first_stop, has_read, has_changed}
 use Rattle.serve_core.specs.Stands.{Book, IsRight, AnswerIsRight, FitsAct, Fits, AnswerFits, HasFailed, StopFits, Stands, CallsStand}
 use Rattle.serve_core.proofs.Places.{at_set, not_free, free_same, some_same}
 use Rattle.serve_core.proofs.Keeping.{set_other, none_given}

@@ -18,7 +18,7 @@ use Rattle.serve_core.specs.declared.answers.Admitted.{Admitted}
 use Rattle.serve_core.specs.declared.answers.Admitted.TheVariants.{Leased, Busy, Stopped as Refused}
 use Rattle.serve_core.specs.CoreValue.{CoreValue}
 use Rattle.serve_core.specs.Sources.{place_of}
-use Rattle.serve_core.specs.Stops.{kept_stop}
+use Rattle.serve_machine.specs.Stops.{kept_stop}
 
 module _ {I : Type 0} where
   -- c is the core before a call, and d the core after it

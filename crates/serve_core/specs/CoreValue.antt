@@ -2,22 +2,11 @@
 use Rattle.std.specs.Prelude.{ℕ, Bool, List, Option}
 use Rattle.fv_plane.specs.Picture.{Picture}
 use Rattle.fv_plane.specs.declared.key.Key.{Key}
-use Rattle.clip_graph.specs.Plan.{Application}
 use Rattle.inst_table.specs.declared.place.Place.{Place}
 use Rattle.inst_table.specs.declared.place.Slot.{Slot}
 use Rattle.serve_events.specs.declared.event.Event.{Event}
 use Rattle.serve_events.specs.declared.event.WindowStop.{WindowStop}
-
--- what a window does not change: the outputs are `count` frames of the root from `first` on, and `opening` are the keys
--- that were cached when the window began; between windows there is no output
-pub record Fixed : Type 0 where
-  pub plan : List Application
-  pub root : ℕ
-  pub workers : ℕ
-  pub capacity : ℕ
-  pub first : ℕ
-  pub count : ℕ
-  pub opening : List Key
+pub use Rattle.serve_machine.specs.State.{Fixed}
 
 -- who took the outputs so far, in their order, and what was delivered at each place of the window
 pub record Outputs : Type 0 where

@@ -1,17 +1,12 @@
 -- What a worker holds.
-use Rattle.std.specs.Prelude.{◌≡◌, ℕ, ◌==◌, Bool, true, false, not, ◌&&◌, ◌||◌, List, [], ◌∷◌, Option, Some, None}
-use Rattle.fv_plane.specs.declared.key.Key.{Key}
+use Rattle.std.specs.Prelude.{◌≡◌, ℕ, ◌==◌, Bool, true, false, not, ◌&&◌, List, [], ◌∷◌, Option, Some, None}
 use Rattle.inst_table.specs.declared.place.Place.{Place}
 use Rattle.inst_table.specs.declared.place.Slot.{Slot}
 use Rattle.inst_table.specs.declared.place.Slot.TheVariants.{Free, Leased}
 use Rattle.inst_table.specs.Places.{slot_at, shared_place}
 use Rattle.serve_events.specs.declared.event.WindowStop.{WindowStop}
 use Rattle.serve_events.specs.declared.event.WindowStop.TheVariants.{Read, Changed, Memory}
-
--- a claim on a frame of the node
-abbrev pub claims_at : ℕ → ℕ → List (Key × ℕ) → Bool
-claims_at w i [] = false
-claims_at w i (c ∷ cs) = (c.1 == w && (c.0).node == i) || claims_at w i cs
+pub use Rattle.serve_machine.specs.State.{claims_at}
 
 -- no lease
 abbrev pub holds_none : {I : Type 0} → ℕ → List (Place × Slot I) → Bool

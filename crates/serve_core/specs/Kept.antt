@@ -10,13 +10,15 @@ use Rattle.inst_table.specs.declared.place.Slot.{Slot}
 use Rattle.inst_table.specs.declared.place.Slot.TheVariants.{Free, Leased}
 use Rattle.serve_events.specs.declared.event.Event.{Event}
 use Rattle.serve_events.specs.declared.event.WindowStop.{WindowStop}
+use Rattle.serve_machine.specs.State.{is_open}
 use Rattle.serve_core.specs.declared.answers.Ask.{Ask}
 use Rattle.serve_core.specs.declared.answers.Ask.TheVariants.{Hit as Found, Claimed, Taken, Stopped}
 use Rattle.serve_core.specs.declared.answers.Admitted.{Admitted}
 use Rattle.serve_core.specs.declared.answers.Admitted.TheVariants.{Leased as Lends, Busy, Stopped as Refused}
 use Rattle.serve_core.specs.CoreValue.{CoreValue}
+use Rattle.serve_core.specs.Runs.{IsRun}
 use Rattle.serve_core.specs.Sources.{shape_at, opened_at, IsFurnished, HoldTheirs}
-use Rattle.serve_core.specs.Stops.{first_stop}
+use Rattle.serve_machine.specs.Stops.{first_stop}
 
 abbrev pub count_of : {A : Type 0} → (A → Bool) → List A → ℕ
 count_of p [] = 0
@@ -25,10 +27,6 @@ count_of p (x ∷ xs) = if p x then count_of p xs + 1 else count_of p xs
 abbrev pub is_leased : {I : Type 0} → Place × Slot I → Bool
 is_leased (p, Free x) = false
 is_leased (p, Leased w) = true
-
-abbrev pub is_open : {A : Type 0} → Option A → Bool
-is_open None = true
-is_open (Some x) = false
 
 -- the leases that are out
 abbrev pub leases_out : {I : Type 0} → List (Place × Slot I) → ℕ
@@ -103,6 +101,7 @@ pub record Kept {I : Type 0} (holds : I → Option Info) (c : CoreValue I) (owed
   pub table : TableKept holds c.fixed.plan c.fixed.workers c.table
   pub stopped : c.stop ≡ first_stop c.journal
   pub between : c.fixed.count ≡ 0 → IsBetween c.claims c.table c.failed c.stop c.journal
+  pub run : 0 < c.fixed.count → IsRun c
   pub owed_is : owed_by c.claims c.table c.outputs.taken c.outputs.frames c.failed ≤ owed
   pub room_for : written + owed ≤ room
 

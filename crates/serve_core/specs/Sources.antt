@@ -10,6 +10,7 @@ use Rattle.inst_table.specs.declared.place.Slot.{Slot}
 use Rattle.inst_table.specs.declared.place.Slot.TheVariants.{Free, Leased}
 use Rattle.inst_table.specs.Places.{slot_at, has_place, shared_place, own_place}
 use Rattle.serve_events.specs.Keys.{mode_at, instance_of}
+pub use Rattle.serve_machine.specs.State.{with_told, all_told}
 
 abbrev pub shape_at : List Application → ℕ → Shape
 shape_at plan i = (application_at plan i).info.shape
@@ -37,16 +38,6 @@ sources_from i (a ∷ later) = if is_source a.act then i ∷ sources_from (i + 1
 
 abbrev pub source_nodes : List Application → List ℕ
 source_nodes plan = sources_from 0 plan
-
-abbrev pub with_told : {A : Type 0} → Option A → Option (List A) → Option (List A)
-with_told None told = None
-with_told (Some x) None = None
-with_told (Some x) (Some xs) = Some (x ∷ xs)
-
--- all values, where there are all
-abbrev pub all_told : {A : Type 0} → List (Option A) → Option (List A)
-all_told [] = Some []
-all_told (x ∷ rest) = with_told x (all_told rest)
 
 module _ {I : Type 0} where
   -- the table has the instances that the modes of the nodes ask for

@@ -1,5 +1,5 @@
 -- What a core stands for: the book of its sources, where it is told, and a count of faults for each source.
-use Rattle.std.specs.Prelude.{◌≡◌, ℕ, ◌+◌, ◌<◌, ◌≤◌, true, List, [], Option, Some, None, slice_get, slice_index_or}
+use Rattle.std.specs.Prelude.{◌≡◌, ℕ, ◌+◌, ◌≤◌, true, List, [], Option, Some, None, slice_get, slice_index_or}
 use Rattle.fv_io.specs.Faults.{HasRisen}
 use Rattle.fv_plane.specs.Picture.{Picture}
 use Rattle.fv_plane.specs.declared.key.Key.{Key}
@@ -21,7 +21,7 @@ use Rattle.serve_core.specs.declared.answers.Admitted.TheVariants.{Leased, Busy,
 use Rattle.serve_core.specs.CoreValue.{CoreValue}
 use Rattle.serve_core.specs.Calls.{Asked, Admits, left, published, abandoned, TookOutput, delivered, failing, begun, ended, made}
 use Rattle.serve_core.specs.Sources.{book_of, faults_of}
-use Rattle.serve_core.specs.Stops.{first_stop, has_read, has_changed}
+use Rattle.serve_machine.specs.Stops.{first_stop, has_read, has_changed}
 
 -- the frames of each source by its number, or none where they are not told
 abbrev pub Book : Type 0

@@ -16,8 +16,9 @@ ghost use Rattle.serve_core.specs.Calls.{Asked, Admits, left, published, abandon
 ghost use Rattle.serve_core.specs.Calls.{TookOutput, delivered, failing, made, begun, ended};
 ghost use Rattle.serve_core.specs.Holds.{claims_at, holds_none, IsThere};
 ghost use Rattle.serve_core.specs.Kept.{leases_out, IsBetween, IsUndelivered, AnswerIsShaped, AnswerHolds};
+ghost use Rattle.serve_core.specs.Runs.{IsRun};
 ghost use Rattle.serve_core.specs.Sources.{shape_at, opened_at, IsFurnished, HoldTheirs};
-ghost use Rattle.serve_core.specs.Stops.{kept_stop, first_stop};
+ghost use Rattle.serve_machine.specs.Stops.{kept_stop, first_stop};
 
 use crate::answers::{Admitted, Ask, Finished};
 use crate::claims::{claimant, close};
@@ -181,6 +182,14 @@ impl<I: Held> Core<I> {
         self.cache.len()
     }
 
+    /// In a window the journal is a run of the machine, over keys alone: it leads from the keys that were cached when
+    /// the window began to what is cached, claimed, lent, taken, delivered and stopped now.
+    pub fn account(&self)
+        ensures { 0 < self.now.fixed.count → IsRun self.now }
+    {
+        let _ = &self.journal;
+    }
+
     /// Begins a window of 1 to 32 outputs from number `first` on, between windows. It empties the journal and reserves
     /// room there for one `Fail` of each worker.
     pub fn begin_window(&mut self, first: u32, count: u32) -> Result<(), AllocError>
@@ -194,6 +203,8 @@ impl<I: Held> Core<I> {
         // What is true of every core between windows.
         ensures between { IsBetween self.old.claims self.old.table self.old.failed self.old.stop self.old.journal }
     {
+        // Keys differ, and are no more than the capacity.
+        self.cache.len();
         let opening = self.cache.keys()?;
         let frames = undelivered(self.alloc, count)?;
         let failed = vec![in self.alloc; false; self.workers as usize]?;
@@ -321,6 +332,8 @@ impl<I: Held> Core<I> {
         ensures ok { OnOk result (self.new ≡ published self.old worker key frame) }
         ensures err { OnErr result (self.new ≡ self.old) }
     {
+        // There are no more frames than the capacity.
+        self.cache.len();
         let dropped = self.cache.put(key, frame)?;
         close(&mut self.claims, key);
         self.owed -= 2;

@@ -12,5 +12,5 @@ invariant_of-self g c =
     let plan = c.self.invariant.plan in
     let most = (lawful_is _ plan.is _ plan.in_plan).most in
     let fits : c.args.first + c.args.count < 2 ^ 32 = omega (arith, numbers, most) in
-    begun_kept c.self.invariant c.args.first c.args.count _ _ _ _ _ _ _ between c.requires.some fits c.new.ensures.items c.in_ok-frames.ensures (search rules) c.in_ok-journal.ensures.items
+    begun_kept c.self.invariant c.args.first c.args.count _ _ _ _ _ _ _ c.len.ensures.differ c.len.ensures.bounded c.in_ok-opening.ensures between c.requires.some fits c.new.ensures.items c.in_ok-frames.ensures (search rules) c.in_ok-journal.ensures.items
     c.in_ok-journal.ensures.len (omega (arith, c.in_ok-journal.ensures.exact))

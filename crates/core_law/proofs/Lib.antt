@@ -1,4 +1,0 @@
-pub mod SeenLemmas
-pub mod GotLemmas
-pub mod StepLemmas
-pub mod CallerLemmas

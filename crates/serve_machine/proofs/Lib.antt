@@ -1,0 +1,11 @@
+pub mod TruthLemmas
+pub mod GotLemmas
+pub mod KeptLemmas
+pub mod HolderLemmas
+pub mod LawLemmas
+pub mod SeenLemmas
+pub mod LiftLemmas
+pub mod WorkerLists
+pub mod HoldingLemmas
+pub mod RenderLemmas
+pub mod ReachLemmas
