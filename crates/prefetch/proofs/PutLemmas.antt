@@ -1,11 +1,10 @@
 -- Pictures, put one after the other.
-use Rattle.std.proofs.Common.{◌≡◌, ◌∙◌, ℕ, zero, suc, ◌+◌, ◌<◌, List, [], ◌∷◌, ◌++◌, length, map, take, drop, slice_get, Option, Some, None, sym, refl, ap, subst, arith}
-use Rattle.std.specs.List.{range_with_len}
+use Rattle.std.proofs.Common.{◌≡◌, ◌∙◌, ℕ, zero, suc, ◌+◌, List, [], ◌∷◌, ◌++◌, map, take, drop, slice_get, Option, Some, None, sym, refl, ap, subst, arith}
 use Rattle.std.proofs.lemmas.List.{append_assoc, append-nil, map-append, take-append-drop}
 use Rattle.std.proofs.lemmas.List.Concat.{flat_map-append}
 use Rattle.std.proofs.lemmas.List.FromFn.{map-range_with_len_more}
 use Rattle.fv_io.specs.declared.sink.Sink.{Ghosts}
-use Rattle.fv_io.specs.Sink.{Puts, PutsPrefix, IsLater}
+use Rattle.fv_io.specs.Sink.{Puts, PutsPrefix}
 use Rattle.fv_io.specs.Told.{with_piece}
 use Rattle.fv_io.proofs.CallerLemmas.{with_piece_twice, gets_more, gets_after}
 use Rattle.fv_plane.specs.Bytes.{bytes_of}

@@ -1,32 +1,30 @@
 -- Windows, one after the other.
-use Rattle.std.proofs.Common.{◌≡◌, ℕ, true, zero, suc, ◌+◌, ◌-◌, ◌<◌, ◌≤◌, min, List, [], ◌∷◌, ◌++◌, length, Option, Some, None, sym, refl, ap, ◌∙◌, subst, inl, inr, arith, eq-eqb, ne_eqb, length-append}
+use Rattle.std.proofs.Common.{◌≡◌, ℕ, true, zero, suc, ◌+◌, ◌-◌, ◌<◌, ◌≤◌, min, List, [], ◌∷◌, ◌++◌, Option, Some, sym, refl, ap, ◌∙◌, subst, arith, eq-eqb, ne_eqb, length-append}
 use Rattle.std.specs.Prelude.{All}
 use Rattle.std.specs.Map.{keys_of}
-use Rattle.std.proofs.lemmas.List.{append-nil}
 use Rattle.std.proofs.lemmas.List.Elements.{All-nil, All-append}
 use Rattle.fv_io.specs.declared.sink.Sink.{Ghosts}
-use Rattle.fv_io.specs.Sink.{Puts, PutsPrefix, IsLater}
+use Rattle.fv_io.specs.Sink.{IsLater}
 use Rattle.fv_io.specs.Told.{with_piece}
 use Rattle.fv_io.proofs.CallerLemmas.{with_piece_twice, with_no_piece, gets_after}
 use Rattle.fv_plane.specs.declared.format.Info.{Info}
 use Rattle.fv_plane.specs.declared.key.Key.{Key}
 use Rattle.fv_plane.specs.Picture.{Picture}
 use Rattle.clip_graph.specs.Plan.{Application}
-use Rattle.serve_events.specs.declared.event.WindowStop.{WindowStop}
 use Rattle.serve_events.specs.Own.{names_source}
 use Rattle.serve_events.specs.SerialRun.{Serial, SerialWindows, serial_window, one_more_window, windows_after, serial_run}
 use Rattle.serve_events.specs.Windows.{WindowEvents}
-use Rattle.serve_events.specs.Work.{CutWork}
+use Rattle.serve_events.specs.Work.{FailedWork}
 use Rattle.serve_core.specs.declared.answers.Finished.{Finished}
 use Rattle.serve_core.specs.CoreValue.{CoreValue}
 use Rattle.serve_core.specs.Sources.{shape_at}
-use Rattle.serve_core.specs.Stands.{Book, Stands, StopFits}
+use Rattle.serve_core.specs.Stands.{Stands, StopFits}
 use Rattle.serve_worker.specs.Alone.{AllFree}
 use Rattle.prefetch.specs.declared.stops.RenderStop.{RenderStop}
 use Rattle.prefetch.specs.declared.stops.RenderStop.TheVariants.{Stopped, Write, Memory}
 use Rattle.prefetch.specs.Clips.{pictures_from}
-use Rattle.prefetch.specs.Journal.{AreFirst, IsCut, IsJournal, IsWholeJournal}
-use Rattle.prefetch.specs.Windows.{given, pictures_text, frames_at, Stays, StandsStill, WindowWhole, Rendered, PutsWindow, CutsWindow, FailsToPut, WindowShows, PutsFirst, RendersAll, StopsAfter, FailsAfter, EndsBetween, RenderStops}
+use Rattle.prefetch.specs.Journal.{AreFirst}
+use Rattle.prefetch.specs.Windows.{given, pictures_text, frames_at, Stays, WindowWhole, Rendered, PutsWindow, FailsToPut, WindowShows, PutsFirst, RendersAll, EndsBetween, RenderStops}
 use Rattle.prefetch.proofs.PutLemmas.{text_twice, pictures_more}
 
 -- windows past the last change nothing
@@ -75,9 +73,6 @@ module _ {I K : Type 0} (holds : I → Option Info) (feed : I → Option (List P
       let run : windows_after r.most c.fixed.plan c.fixed.root c.fixed.capacity size (frames_at c.fixed.plan c.fixed.root) [] ≡ record { windows = windows; keys = keys_of d.cache; next = n }
       = ap (λ ps. windows_after r.most c.fixed.plan c.fixed.root c.fixed.capacity size (frames_at c.fixed.plan c.fixed.root) (keys_of ps)) (sym empty) ∙ r.run in
       record { most = r.most; few = r.few; windows_are = ap (λ (s : SerialWindows). s.windows) run; next_is = ap (λ (s : SerialWindows). s.next) run }
-
-  pub journal_whole : (n : ℕ) (windows : List WindowEvents) (d : CoreValue I) → c.cache ≡ [] → Rendered holds feed faults ends c size n windows d → IsJournal c.fixed.plan c.fixed.root c.fixed.capacity size (frames_at c.fixed.plan c.fixed.root) windows n
-  journal_whole n windows d empty r = record { whole = windows; rest = []; windows_are = sym (append-nil windows); first = first_windows n windows d empty r; last = inl refl }
 
   module _ (here there : K) (d e : CoreValue I) (n count : ℕ) (log longer : List WindowEvents) (some : 0 < size) (less : n < frames_at c.fixed.plan c.fixed.root) (is : count ≡ min size (frames_at c.fixed.plan c.fixed.root - n))
       (r : Rendered holds feed faults ends c size n log d) (p : PutsFirst holds feed faults ends c sink old here n) where
@@ -143,20 +138,17 @@ module _ {I K : Type 0} (holds : I → Option Info) (feed : I → Option (List P
       put = subst (λ z. PutsFirst holds feed faults ends c sink old z n) (sym w.put) p;
       journal = record {
         whole = log;
-        rest = record { first = n; count = count; events = w.finished.events.items } ∷ [];
+        last = record { first = n; count = count; events = w.finished.events.items };
         windows_are = w.log_is;
         first = first_windows n log d empty r;
-        last = inr (
-          record { first = n; count = count; events = w.finished.events.items },
-          refl,
-          record {
-            first = refl;
-            count = is;
-            cut = subst (λ (z : List Application × ℕ). CutWork z.0 z.1 0 w.finished.events.items) (λ i. (r.stays.plan i, r.stays.root i)) w.stopped.cut;
-          },
-        );
+        cut = record {
+          some = less;
+          first = refl;
+          count = is;
+          cut = subst (λ (z : List Application × ℕ). FailedWork z.0 z.1 0 why w.finished.events.items) (λ i. (r.stays.plan i, r.stays.root i)) w.stopped.cut;
+          named = subst (λ pl. names_source pl why ≡ true) r.stays.plan w.stopped.named;
+        };
       };
-      named = subst (λ pl. names_source pl why ≡ true) r.stays.plan w.stopped.named;
       ended = w.stopped.ended;
       stands = λ book numbers s.
           let one = r.stands book numbers s in
@@ -176,20 +168,20 @@ module _ {I K : Type 0} (holds : I → Option Info) (feed : I → Option (List P
               let whole : pictures_text (pictures_from b c.fixed.plan c.fixed.root 0 (n + count)) ≡ pictures_text p.pictures ++ pictures_text (given w.finished.frames.items)
               = ap pictures_text (pictures_more b c.fixed.plan c.fixed.root n count ∙ sym (λ i. p.right b numbers s i ++ these i)) ∙ text_twice p.pictures (given w.finished.frames.items) in
               rw whole (gets_after (sink.bytes old) (sink.bytes here) (sink.bytes there) (pictures_text p.pictures) (pictures_text (given w.finished.frames.items)) p.put w.cut);
-          journal = journal_whole (n + count) longer e empty (rendered_by w);
+          journal = first_windows (n + count) longer e empty (rendered_by w);
         }
       where
         rendered_by : FailsToPut holds feed faults ends d sink n count log here longer there e → Rendered holds feed faults ends c size (n + count) longer e
         rendered_by w = rendered_with here there d e n count log longer some less is r p w.finished w.stays w.whole w.log_is
     window_stops Memory w =
         subst (λ (z : List WindowEvents × K × CoreValue I). EndsBetween holds feed faults ends c sink old z.1 size z.0 z.2) (λ i. (sym w.0 i, sym w.1 i, sym w.2 i))
-        (record { stays = r.stays; count = n; few = omega arith; put = p; journal = journal_whole n log d empty r })
+        (record { stays = r.stays; count = n; few = omega arith; put = p; journal = first_windows n log d empty r })
 
   -- nothing was rendered yet
   pub ends_at_once : c.fixed.count ≡ 0 → c.claims ≡ [] → AllFree c.table → c.cache ≡ [] → (windows : List WindowEvents) → windows ≡ [] → EndsBetween holds feed faults ends c sink old old size windows c
   ends_at_once between unclaimed free empty windows none =
       let stays = stays_at_first holds c between unclaimed free in
-      subst (λ ws. EndsBetween holds feed faults ends c sink old old size ws c) (sym none) (record { stays = stays; count = 0; few = omega arith; put = put_none; journal = journal_whole 0 [] c empty (rendered_none stays) })
+      subst (λ ws. EndsBetween holds feed faults ends c sink old old size ws c) (sym none) (record { stays = stays; count = 0; few = omega arith; put = put_none; journal = first_windows 0 [] c empty (rendered_none stays) })
 
   -- all windows
   pub renders_all : (here : K) (d : CoreValue I) (n : ℕ) (log : List WindowEvents) → c.cache ≡ [] → n ≡ frames_at c.fixed.plan c.fixed.root → Rendered holds feed faults ends c size n log d → PutsFirst holds feed faults ends c sink old here n

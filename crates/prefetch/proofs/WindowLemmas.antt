@@ -1,34 +1,30 @@
 -- A window from its beginning to its end, and windows together.
-use Rattle.std.proofs.Common.{◌≡◌, ℕ, zero, suc, ◌+◌, ◌-◌, ◌<◌, ◌≤◌, min, false, List, [], ◌∷◌, ◌++◌, length, map, slice_get, Option, Some, None, Result, Ok, Err, OnOk, IfErr, sym, refl, ap, ◌∙◌, subst, arith, eq-eqb, ne_eqb}
+use Rattle.std.proofs.Common.{◌≡◌, ℕ, zero, suc, ◌+◌, ◌<◌, ◌≤◌, false, List, [], ◌∷◌, ◌++◌, length, slice_get, Option, Some, None, Result, Ok, Err, OnOk, IfErr, sym, refl, ap, ◌∙◌, subst, arith}
 use Rattle.std.specs.Prelude.{replicate, All}
-use Rattle.std.specs.List.{range_with_len}
 use Rattle.std.specs.Map.{keys_of}
-use Rattle.std.proofs.lemmas.List.{append_assoc, append-nil}
 use Rattle.std.proofs.lemmas.List.Elements.{All-nil, All-cons}
 use Rattle.fv_plane.specs.declared.format.Info.{Info}
 use Rattle.fv_plane.specs.declared.format.Shape.{Shape}
 use Rattle.fv_plane.specs.Picture.{Picture}
-use Rattle.clip_graph.specs.Plan.{Application, application_at, IsPlan}
+use Rattle.clip_graph.specs.Plan.{Application, IsPlan}
 use Rattle.clip_graph.specs.Unfolding.{key_picture}
-use Rattle.serve_events.specs.declared.event.Event.{Event}
 use Rattle.serve_events.specs.declared.event.WindowStop.{WindowStop}
 use Rattle.serve_events.specs.Keys.{frame_key}
-use Rattle.serve_events.specs.SerialRun.{Serial, SerialWindows, serial_window, one_more_window, windows_after, serial_run}
-use Rattle.serve_events.specs.Windows.{WindowEvents}
-use Rattle.serve_events.specs.Work.{CutWork}
+use Rattle.serve_events.specs.SerialRun.{Serial, serial_window}
+use Rattle.serve_events.specs.Work.{FailedWork}
 use Rattle.serve_core.specs.declared.answers.Finished.{Finished}
 use Rattle.serve_core.specs.Calls.{begun, ended}
 use Rattle.serve_core.specs.CoreValue.{CoreValue, Fixed}
 use Rattle.serve_core.specs.Kept.{leases_out}
 use Rattle.serve_core.specs.Sources.{shape_at, faults_of}
-use Rattle.serve_core.specs.Stands.{Book, Stands, StopFits, IsRight, CallsStand}
+use Rattle.serve_core.specs.Stands.{Book, Stands, StopFits, CallsStand}
 use Rattle.serve_core.proofs.Standing.{calls_stand}
 use Rattle.serve_worker.specs.Alone.{AllFree, held_in, Alone}
 use Rattle.serve_worker.specs.Made.{EndShows}
 use Rattle.serve_worker.specs.Windows.{Fresh, Served, WindowCut}
 use Rattle.serve_worker.proofs.Tables.{none_leased, all_free}
 use Rattle.prefetch.specs.Clips.{pictures_from}
-use Rattle.prefetch.specs.Windows.{given, frames_at, Stays, StandsStill, window_of, WindowWhole, WindowStopped, WindowEnds, Rendered}
+use Rattle.prefetch.specs.Windows.{given, frames_at, Stays, window_of, WindowEnds}
 
 none_at : (n j : ℕ) → j < n → slice_get {X = Option Picture} (replicate n None) j ≡ Some None
 none_at zero j less = absurd (omega arith)
@@ -130,7 +126,7 @@ module _ {I : Type 0} (holds : I → Option Info) (feed : I → Option (List Pic
         };
       }
   window_ends c c1 c2 d first count (Err why) finished plan begins ok err is frames events size shapes = record {
-    cut = subst (CutWork c.fixed.plan c.fixed.root 0) (sym (events ∙ (err.journal ∙ ap (λ (z : CoreValue I). z.journal ++ err.events) begins))) (subst (λ (z : CoreValue I). CutWork c.fixed.plan z.fixed.root 0 err.events) begins err.cut);
+    cut = subst (FailedWork c.fixed.plan c.fixed.root 0 why) (sym (events ∙ (err.journal ∙ ap (λ (z : CoreValue I). z.journal ++ err.events) begins))) (subst (λ (z : CoreValue I). FailedWork c.fixed.plan z.fixed.root 0 why err.events) begins err.cut);
     named = err.named;
     ended = subst (λ (z : CoreValue I). EndShows ends z.table why) (sym is) err.ended;
     stands = λ book numbers s.

@@ -1,10 +1,11 @@
 -- The journal of a render by one worker, window by window.
-use Rattle.std.specs.Prelude.{◌≡◌, ◌⊎◌, ℕ, ◌-◌, ◌≤◌, min, List, [], ◌∷◌, ◌++◌}
-use Rattle.fv_plane.specs.declared.key.Key.{Key}
+use Rattle.std.specs.Prelude.{◌≡◌, ℕ, ◌-◌, ◌<◌, ◌≤◌, min, true, List, [], ◌∷◌, ◌++◌, Option, Some, None}
 use Rattle.clip_graph.specs.Plan.{Application}
+use Rattle.serve_events.specs.declared.event.WindowStop.{WindowStop}
+use Rattle.serve_events.specs.Own.{names_source}
 use Rattle.serve_events.specs.SerialRun.{windows_after, serial_run}
 use Rattle.serve_events.specs.Windows.{WindowEvents}
-use Rattle.serve_events.specs.Work.{CutWork}
+use Rattle.serve_events.specs.Work.{FailedWork}
 
 module _ (plan : List Application) (root capacity size total : ℕ) where
   -- the windows are the first of the serial run from an empty cache, and have the first n outputs
@@ -14,19 +15,26 @@ module _ (plan : List Application) (root capacity size total : ℕ) where
     pub windows_are : (windows_after most plan root capacity size total []).windows ≡ windows
     pub next_is : (windows_after most plan root capacity size total []).next ≡ n
 
-  -- the window of the next outputs was cut short by a stop
-  pub record IsCut (n : ℕ) (window : WindowEvents) : Type 0 where
+  -- the window of the next outputs was cut short by this stop
+  pub record IsCut (stop : WindowStop) (n : ℕ) (window : WindowEvents) : Type 0 where
+    pub some : n < total
     pub first : window.first ≡ n
     pub count : window.count ≡ min size (total - n)
-    pub cut : CutWork plan root 0 window.events
+    pub cut : FailedWork plan root 0 stop window.events
+    pub named : names_source plan stop ≡ true
 
-  -- windows that ended without a stop, with n outputs, and perhaps one after them that was cut short
-  pub record IsJournal (windows : List WindowEvents) (n : ℕ) : Type 0 where
+  -- windows that ended without a stop, with n outputs, and after them the one that this stop cut short
+  pub record AreCut (stop : WindowStop) (windows : List WindowEvents) (n : ℕ) : Type 0 where
     pub whole : List WindowEvents
-    pub rest : List WindowEvents
-    pub windows_are : windows ≡ whole ++ rest
+    pub last : WindowEvents
+    pub windows_are : windows ≡ whole ++ last ∷ []
     pub first : AreFirst whole n
-    pub last : (rest ≡ []) ⊎ ((window : WindowEvents) × (rest ≡ window ∷ []) × IsCut n window)
+    pub cut : IsCut stop n last
+
+  -- the journal of whole windows, and where a stop is named of the one after them that it cut short
+  abbrev pub IsJournal : Option WindowStop → List WindowEvents → ℕ → Type 0
+  IsJournal None windows n = AreFirst windows n
+  IsJournal (Some stop) windows n = AreCut stop windows n
 
   -- the whole serial run
   abbrev pub IsWholeJournal : List WindowEvents → Type 0

@@ -1,5 +1,5 @@
 -- What was put of a clip: its text, a prefix of it, or its head and whole frames.
-use Rattle.std.specs.Prelude.{◌≡◌, ℕ, List, length, take}
+use Rattle.std.specs.Prelude.{◌≡◌, length, take}
 use Rattle.fv_io.specs.declared.sink.Sink.{Ghosts}
 use Rattle.fv_plane.specs.Clip.{Clip}
 

@@ -1,5 +1,5 @@
 -- Windows of outputs, one after the other, and the frames that are put of them.
-use Rattle.std.specs.Prelude.{◌≡◌, ℕ, ◌-◌, ◌≤◌, min, true, List, [], ◌∷◌, ◌++◌, length, map, All, Option, Some, None, Result, Ok, Err}
+use Rattle.std.specs.Prelude.{◌≡◌, ℕ, ◌≤◌, true, List, [], ◌∷◌, ◌++◌, length, map, All, Option, Some, None, Result, Ok, Err}
 use Rattle.std.specs.Map.{keys_of}
 use Rattle.fv_io.specs.declared.sink.Sink.{Ghosts}
 use Rattle.fv_io.specs.Sink.{Puts, PutsPrefix, SinkFailed}
@@ -10,9 +10,9 @@ use Rattle.y4m_stream.specs.Stream.{frames_text}
 use Rattle.clip_graph.specs.Plan.{Application, application_at}
 use Rattle.serve_events.specs.declared.event.WindowStop.{WindowStop}
 use Rattle.serve_events.specs.Own.{names_source}
-use Rattle.serve_events.specs.SerialRun.{Serial, SerialWindows, serial_window, windows_after}
+use Rattle.serve_events.specs.SerialRun.{Serial, serial_window, windows_after}
 use Rattle.serve_events.specs.Windows.{WindowEvents}
-use Rattle.serve_events.specs.Work.{CutWork}
+use Rattle.serve_events.specs.Work.{FailedWork}
 use Rattle.serve_core.specs.declared.answers.Finished.{Finished}
 use Rattle.serve_core.specs.CoreValue.{CoreValue}
 use Rattle.serve_core.specs.Sources.{shape_at}
@@ -22,7 +22,7 @@ use Rattle.serve_worker.specs.Made.{EndShows}
 use Rattle.prefetch.specs.declared.stops.RenderStop.{RenderStop}
 use Rattle.prefetch.specs.declared.stops.RenderStop.TheVariants.{Stopped, Write, Memory}
 use Rattle.prefetch.specs.Clips.{pictures_from}
-use Rattle.prefetch.specs.Journal.{IsJournal, IsWholeJournal}
+use Rattle.prefetch.specs.Journal.{AreFirst, AreCut, IsWholeJournal}
 
 -- the frames that are there
 abbrev pub given : {A : Type 0} → List (Option A) → List A
@@ -74,9 +74,9 @@ module _ {I : Type 0} (holds : I → Option Info) (feed : I → Option (List Pic
     pub stands : (book : Book) (numbers : List ℕ) → Stands feed faults book numbers c
         → StandsStill feed faults (λ now. Unit {0}) book d
 
-  -- or it was cut short
+  -- or it was cut short by this stop
   pub record WindowStopped (finished : Finished) (why : WindowStop) (d : CoreValue I) : Type 0 where
-    pub cut : CutWork c.fixed.plan c.fixed.root 0 finished.events.items
+    pub cut : FailedWork c.fixed.plan c.fixed.root 0 why finished.events.items
     pub named : names_source c.fixed.plan why ≡ true
     pub ended : EndShows ends d.table why
     pub stands : (book : Book) (numbers : List ℕ) → Stands feed faults book numbers c
@@ -147,20 +147,19 @@ module _ {I : Type 0} (holds : I → Option Info) (feed : I → Option (List Pic
         pub journal : IsWholeJournal c.fixed.plan c.fixed.root c.fixed.capacity size
             (frames_at c.fixed.plan c.fixed.root) windows
 
-      -- the window of the next outputs was cut short, and its frames were not put
+      -- the window of the next outputs was cut short by this stop, and its frames were not put
       pub record StopsAfter (size : ℕ) (windows : List WindowEvents) (why : WindowStop) (d : CoreValue I) : Type 0 where
         pub stays : Stays holds c d
         pub count : ℕ
         pub few : count ≤ frames_at c.fixed.plan c.fixed.root
         pub put : PutsFirst count
-        pub journal : IsJournal c.fixed.plan c.fixed.root c.fixed.capacity size
-            (frames_at c.fixed.plan c.fixed.root) windows count
-        pub named : names_source c.fixed.plan why ≡ true
+        pub journal : AreCut c.fixed.plan c.fixed.root c.fixed.capacity size
+            (frames_at c.fixed.plan c.fixed.root) why windows count
         pub ended : EndShows ends d.table why
         pub stands : (book : Book) (numbers : List ℕ) → Stands feed faults book numbers c
             → StandsStill feed faults (λ now. StopFits feed faults book now c.fixed.plan d.table why) book d
 
-      -- the sink failed
+      -- the sink failed, and no window was cut short
       pub record FailsAfter (size : ℕ) (windows : List WindowEvents) (d : CoreValue I) : Type 0 where
         pub stays : Stays holds c d
         pub count : ℕ
@@ -169,16 +168,16 @@ module _ {I : Type 0} (holds : I → Option Info) (feed : I → Option (List Pic
         pub begun : (front : List ℕ) × Puts sink old new front
         pub cut : (b : List (List Picture)) (numbers : List ℕ) → Stands feed faults (Some b) numbers c
             → PutsPrefix sink old new (pictures_text (pictures_from b c.fixed.plan c.fixed.root 0 count))
-        pub journal : IsJournal c.fixed.plan c.fixed.root c.fixed.capacity size
+        pub journal : AreFirst c.fixed.plan c.fixed.root c.fixed.capacity size
             (frames_at c.fixed.plan c.fixed.root) windows count
 
-      -- memory ran out between two windows
+      -- memory ran out between two windows, and none was cut short
       pub record EndsBetween (size : ℕ) (windows : List WindowEvents) (d : CoreValue I) : Type 0 where
         pub stays : Stays holds c d
         pub count : ℕ
         pub few : count ≤ frames_at c.fixed.plan c.fixed.root
         pub put : PutsFirst count
-        pub journal : IsJournal c.fixed.plan c.fixed.root c.fixed.capacity size
+        pub journal : AreFirst c.fixed.plan c.fixed.root c.fixed.capacity size
             (frames_at c.fixed.plan c.fixed.root) windows count
 
       -- why not all frames were put

@@ -1,3 +1,4 @@
 pub mod KeyLemmas
 pub mod OwnLemmas
 pub mod SerialLemmas
+pub mod WorkLemmas

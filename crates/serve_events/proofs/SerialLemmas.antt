@@ -11,7 +11,7 @@ use Rattle.serve_events.specs.declared.event.Event.TheVariants.{Take, Fail}
 use Rattle.serve_events.specs.declared.event.WindowStop.{WindowStop}
 use Rattle.serve_events.specs.Keys.{frame_key, has}
 use Rattle.serve_events.specs.SerialRun.{Serial, each_produced, serial_production_within, serial_production, serial_window}
-use Rattle.serve_events.specs.Work.{Production, Productions, hit, made, done, more, Deliveries, none, also, CutShort, untaken, taken, CutWork, failed, SerialIsWhole}
+use Rattle.serve_events.specs.Work.{Production, Productions, hit, made, done, more, Deliveries, none, also, CutShort, untaken, taken, FailedWork, failed, SerialIsWhole}
 use Rattle.serve_events.proofs.KeyLemmas.{test}
 
 -- one more key, produced after the others
@@ -64,11 +64,13 @@ serial_is_whole = record {
 
 -- the two ways in which a failed worker's events end
 pub failed_between : (plan : List Application) (root w : ℕ) (ns : List ℕ) (es : List Event) (why : WindowStop) → Deliveries plan root w ns es
-    → CutWork plan root w (es ++ Fail w why ∷ [])
-failed_between plan root w ns es why whole = failed why (untaken whole)
+    → FailedWork plan root w why (es ++ Fail w why ∷ [])
+failed_between plan root w ns es why whole = failed (untaken whole)
 
-pub failed_within : (plan : List Application) (root w : ℕ) (ns : List ℕ) (n : ℕ) (es fs : List Event) (why : WindowStop)
-    → Deliveries plan root w ns es → CutShort plan w (frame_key root n) fs
-    → CutWork plan root w (es ++ (Take w n ∷ (fs ++ Fail w why ∷ [])))
-failed_within plan root w ns n es fs why whole cut =
-    subst (CutWork plan root w) (append_assoc es (Take w n ∷ fs) (Fail w why ∷ [])) (failed why (taken whole cut))
+pub failed_within : (plan : List Application) (root w : ℕ) (ns : List ℕ) (n : ℕ) (es fs closing : List Event) (why : WindowStop)
+    → Deliveries plan root w ns es → CutShort plan w (frame_key root n) fs closing
+    → FailedWork plan root w why (es ++ (Take w n ∷ ((fs ++ closing) ++ Fail w why ∷ [])))
+failed_within plan root w ns n es fs closing why whole cut =
+    subst (FailedWork plan root w why)
+    (append_assoc es (Take w n ∷ fs) (closing ++ Fail w why ∷ []) ∙ ap (λ l. es ++ Take w n ∷ l) (sym (append_assoc fs closing (Fail w why ∷ []))))
+    (failed (taken whole cut))

@@ -7,7 +7,8 @@ use Rattle.clip_term.specs.ClipTerm.{source, time}
 use Rattle.clip_term.specs.declared.op.TimeOp.TheVariants.{Trim}
 use Rattle.clip_term.specs.declared.op.TrimBound.TheVariants.{Last}
 use Rattle.serve_events.specs.declared.event.Event.{Event}
-use Rattle.serve_events.specs.declared.event.Event.TheVariants.{Claim, Enter, Leave, Evict, Publish, Take, Deliver}
+use Rattle.serve_events.specs.declared.event.Event.TheVariants.{Claim, Enter, Leave, Evict, Publish, Abandon, Take, Deliver, Fail}
+use Rattle.serve_events.specs.declared.event.WindowStop.TheVariants.{Read}
 use Rattle.serve_events.specs.Keys.{frame_key}
 
 abbrev pub three_frames : Info
@@ -32,3 +33,9 @@ abbrev pub in_a_cache_of_one : List Event
 in_a_cache_of_one =
     Take 0 0 ∷ Claim 0 (frame_key 1 0) ∷ Claim 0 (frame_key 0 2) ∷ Enter 0 0 0 ∷ Leave 0 0 0 ∷ Publish 0 (frame_key 0 2)
     ∷ Evict 0 (frame_key 0 2) ∷ Publish 0 (frame_key 1 0) ∷ Deliver 0 0 ∷ []
+
+-- two workers over the source alone: the read of worker 0 fails, while worker 1 waits for the instance
+abbrev pub two_workers : List Event
+two_workers =
+    Take 0 0 ∷ Claim 0 (frame_key 0 0) ∷ Enter 0 0 0 ∷ Take 1 1 ∷ Claim 1 (frame_key 0 1) ∷ Leave 0 0 0
+    ∷ Abandon 0 (frame_key 0 0) ∷ Fail 0 (Read 0) ∷ Abandon 1 (frame_key 0 1) ∷ []

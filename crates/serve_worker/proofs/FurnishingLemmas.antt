@@ -27,7 +27,7 @@ use Rattle.serve_core.proofs.Places.{free_same, some_same}
 use Rattle.serve_worker.specs.declared.instance.Instance.{Instance}
 use Rattle.serve_worker.specs.declared.instance.Instance.TheVariants.{Plain, Scratch, Source}
 use Rattle.serve_worker.specs.Instances.{holds_of}
-use Rattle.serve_worker.specs.Furnishing.{sources_in, filter_instance, own_entries, IsNewNode, EndsIn, IsNext, source_of, node_entries, Moves, Adds}
+use Rattle.serve_worker.specs.Furnishing.{sources_in, IsKindOf, filter_instance, own_entries, IsNewNode, EndsIn, IsNext, source_of, node_entries, Moves, Adds}
 use Rattle.serve_worker.proofs.Making.{source_mode}
 
 -- TABLES
@@ -123,6 +123,15 @@ no_held S (space op) = refl
 no_held S (joined op) = refl
 no_held S (soft op) = refl
 
+-- what a filter keeps
+filter_kind : (S : Type 0) (act : Act) → opened act ≡ None → IsKindOf {S = S} act (filter_instance act)
+filter_kind S (source name number info) none = absurd (cc)
+filter_kind S (plain info colour) none = refl
+filter_kind S (time op) none = refl
+filter_kind S (space op) none = refl
+filter_kind S (joined op) none = refl
+filter_kind S (soft op) none = refl
+
 -- ONE FOR EACH WORKER
 
 apart : (p q : Place) → (p ≡ q → ⊥) → same_place p q ≡ false
@@ -199,9 +208,14 @@ module _ {S E : Type 0} (sources left : List (FrameSource S)) (old new : List (P
   moved_leases (Ok u) m same = (moved sources left old new i m).1
   moved_leases (Err e) m same = ap leases_out same
 
-  pub moved_adds : (r : Result Unit E) (name : List ℕ) (number : ℕ) (info : Info) → EndsIn info sources → OnOk r (Moves sources left old new i) → OnOk r (Adds sources left old new (source name number info) (λ x. (shared_place i, Free x) ∷ []))
-  moved_adds (Ok u) name number info ends m = record { value = Source m.it; holds = ap Some (ends.info_is left m.it m.from); from = m.from; to = m.to }
-  moved_adds (Err e) name number info ends m = tt
+  put_source : (r : Result Unit E) (name : List ℕ) (number : ℕ) (info : Info) → EndsIn info sources → OnOk r (Moves sources left old new i) → OnOk r (Adds sources left old new (source name number info) (λ x. (shared_place i, Free x) ∷ []))
+  put_source (Ok u) name number info ends m = record { value = Source m.it; holds = ap Some (ends.info_is left m.it m.from); kind = (m.it, refl); from = m.from; to = m.to }
+  put_source (Err e) name number info ends m = tt
+
+  pub moved_adds : (r : Result Unit E) (act : Act) (name : List ℕ) (number : ℕ) (info : Info) → act ≡ source name number info → IsNext act sources → OnOk r (Moves sources left old new i) → OnOk r (Adds sources left old new act (λ x. (shared_place i, Free x) ∷ []))
+  moved_adds r act name number info is next m =
+      subst (λ a. OnOk r (Adds sources left old new a (λ x. (shared_place i, Free x) ∷ []))) (sym is)
+      (put_source r name number info (subst (λ a. IsNext a sources) is next) m)
 
 module _ {S E : Type 0} (sources : List (FrameSource S)) (old new : List (Place × Slot (Instance S))) (p : Place) (act : Act) where
   -- a filter's instance, or nothing
@@ -214,9 +228,13 @@ module _ {S E : Type 0} (sources : List (FrameSource S)) (old new : List (Place 
   put_leases (Err e) to same = ap leases_out same
 
 -- filters that were added
+put_filter : {S : Type 0} (sources : List (FrameSource S)) (old new : List (Place × Slot (Instance S))) (act : Act) (entries : Instance S → List (Place × Slot (Instance S)))
+    → opened act ≡ None → new ≡ old ++ entries (filter_instance act) → Adds sources sources old new act entries
+put_filter {S = S} sources old new act entries none to = record { value = filter_instance act; holds = no_held S act ∙ sym none; kind = filter_kind S act none; from = sym (ap (λ l. sources ++ l) (no_source act) ∙ append-nil sources); to = to }
+
 pub filter_adds : {S E : Type 0} (sources : List (FrameSource S)) (old new : List (Place × Slot (Instance S))) (act : Act) (entries : Instance S → List (Place × Slot (Instance S))) (r : Result Unit E)
     → opened act ≡ None → OnOk r (new ≡ old ++ entries (filter_instance act)) → OnOk r (Adds sources sources old new act entries)
-filter_adds {S = S} sources old new act entries (Ok u) none to = record { value = filter_instance act; holds = no_held S act ∙ sym none; from = sym (ap (λ l. sources ++ l) (no_source act) ∙ append-nil sources); to = to }
+filter_adds sources old new act entries (Ok u) none to = put_filter sources old new act entries none to
 filter_adds sources old new act entries (Err e) none to = tt
 
 -- an op that is no source
@@ -236,9 +254,9 @@ opened_default (Space op) none = refl
 opened_default (Join op) none = refl
 opened_default (Soft op) none = refl
 
-pub opened_none : (plan : List Application) (i : ℕ) → IsPlan plan → i < length plan → mode_at plan i ≡ 2 → opened_at plan i ≡ None
-opened_none plan i is less two = ⊎_elim
-    (λ (e : is_source (application_at plan i).act ≡ true). let three = source_mode plan i is less e in absurd (omega arith))
+pub opened_none : (plan : List Application) (i : ℕ) → IsPlan plan → i < length plan → (mode_at plan i ≡ 3 → ⊥) → opened_at plan i ≡ None
+opened_none plan i is less differ = ⊎_elim
+    (λ (e : is_source (application_at plan i).act ≡ true). absurd (differ (source_mode plan i is less e)))
     (λ (e : is_source (application_at plan i).act ≡ false). opened_filter (application_at plan i).act e) (test (is_source (application_at plan i).act))
 
 -- THE INSTANCES OF A NODE
@@ -286,6 +304,12 @@ pub each_adds : {S E : Type 0} (sources : List (FrameSource S)) (old new : List 
 each_adds {S = S} sources old new a i workers r two none to =
     subst (λ m. OnOk r (Adds sources sources old new a.act (node_entries m i workers))) (sym two) (filter_adds sources old new a.act (λ x. own_entries i x workers) r none to)
 
+-- a node that needs no instance
+pub none_adds : {S : Type 0} (sources : List (FrameSource S)) (table : List (Place × Slot (Instance S))) (a : Application) (i workers : ℕ) → (a.mode ≡ 3 → ⊥) → (a.mode ≡ 2 → ⊥) → opened a.act ≡ None
+    → Adds sources sources table table a.act (node_entries a.mode i workers)
+none_adds sources table a i workers three two none = put_filter sources table table a.act (node_entries a.mode i workers) none
+    (by_mode a.mode i workers (filter_instance a.act) (λ es. table ≡ table ++ es) (λ e. absurd (three e)) (λ e. absurd (two e)) (λ e f. sym (append-nil table)))
+
 -- NODE AFTER NODE
 
 -- the nodes from a number on are furnished, and the sources of the earlier ones are left
@@ -297,6 +321,8 @@ pub record FurnishedFrom {S : Type 0} (plan : List Application) (workers : ℕ) 
   pub own : (w j : ℕ) → w < workers → i ≤ j → j < length plan → mode_at plan j ≡ 2
       → has_place (own_place w j) table ≡ true
   pub theirs : HoldTheirs holds_of plan table
+  pub kinds : (p : Place) (x : Instance S) → slot_at p table ≡ Some (Free x)
+      → IsKindOf (application_at plan p.node).act x
   pub at_nodes : (j number : ℕ) (name : List ℕ) (info : Info) (it : FrameSource S) → i ≤ j
       → (application_at plan j).act ≡ source name number info → slice_get sources number ≡ Some it
       → slot_at (shared_place j) table ≡ Some (Free (Source it))
@@ -331,6 +357,7 @@ module _ {S : Type 0} (plan : List Application) (workers : ℕ) (sources : List 
         shared = λ j low high. absurd (omega arith);
         own = λ w j less low high two. absurd (omega arith);
         theirs = λ p x h. let bad : None ≡ Some (Free x) = sym (none p) ∙ h in absurd (cc);
+        kinds = λ p x h. let bad : None ≡ Some (Free x) = sym (none p) ∙ h in absurd (cc);
         at_nodes = λ j number name info it low act found. let high = source_within plan j name number info act in absurd (omega arith);
         count = sym (length-map sources (λ (it : FrameSource S). it.index.info)) ∙ (ap length are ∙ (count_infos plan ∙ ap count_sources (sym (take_all n plan (omega arith)))));
         kept = sym (ap (λ t. sources ++ sources_in t) empty ∙ append-nil sources);
@@ -403,6 +430,16 @@ module _ {S : Type 0} (plan : List Application) (workers : ℕ) (sources : List 
           (λ (e : (p.node == i) ≡ false).
           v.theirs p x (sym (stays p (λ same. let bad : true ≡ false = sym (eq-eqb p.node i same) ∙ e in absurd (cc))) ∙ h)) (test (p.node == i))
 
+      kinds_now : (p : Place) (x : Instance S) → slot_at p after ≡ Some (Free x) → IsKindOf (application_at plan p.node).act x
+      kinds_now p x h = ⊎_elim
+          (λ (e : (p.node == i) ≡ true).
+          let same = eqb-true p.node i e in
+          let only = entries_only mode i workers added.value p (Free x) (sym (here p same) ∙ h) in
+          subst (λ j. IsKindOf (application_at plan j).act x) (sym same)
+          (subst (IsKindOf (application_at plan i).act) (sym (free_same only.1)) added.kind))
+          (λ (e : (p.node == i) ≡ false).
+          v.kinds p x (sym (stays p (λ same. let bad : true ≡ false = sym (eq-eqb p.node i same) ∙ e in absurd (cc))) ∙ h)) (test (p.node == i))
+
       -- the source that stands here
       source_here : (number : ℕ) (name : List ℕ) (info : Info) (it : FrameSource S) → (application_at plan i).act ≡ source name number info → slice_get sources number ≡ Some it → slot_at (shared_place i) after ≡ Some (Free (Source it))
       source_here number name info it act found =
@@ -438,6 +475,7 @@ module _ {S : Type 0} (plan : List Application) (workers : ℕ) (sources : List 
             (λ (e : (i == j) ≡ true). subst (λ k. mode_at plan k ≡ 2 → has_place (own_place w k) after ≡ true) (eqb-true i j e) (λ two'. ap is_some (here (own_place w i) refl) ∙ entries_own mode i workers added.value w few two') two)
             (λ (e : (i == j) ≡ false). let differ = other j e in ap is_some (stays (own_place w j) (λ same. differ (sym same))) ∙ v.own w j few (omega arith) high two) (test (i == j));
         theirs = theirs_now;
+        kinds = kinds_now;
         at_nodes = λ j number name info it low act found. ⊎_elim
             (λ (e : (i == j) ≡ true). subst (λ k. (application_at plan k).act ≡ source name number info → slot_at (shared_place k) after ≡ Some (Free (Source it))) (eqb-true i j e) (λ act'. source_here number name info it act' found) act)
             (λ (e : (i == j) ≡ false). let differ = other j e in stays (shared_place j) (λ same. differ (sym same)) ∙ v.at_nodes j number name info it (omega arith) act found) (test (i == j));

@@ -30,7 +30,7 @@ use Rattle.serve_events.specs.declared.event.WindowStop.TheVariants.{Read, Chang
 use Rattle.serve_events.specs.Keys.{has, mode_at, instance_of}
 use Rattle.serve_events.specs.Own.{has_got, has_got_all, has_entered}
 use Rattle.serve_events.specs.SerialRun.{Serial, serial_production_within, each_produced, made_after, leases, eviction, eviction_from}
-use Rattle.serve_events.specs.Work.{Productions, CutShort, CutInputs, refused, inside, leased, between, within}
+use Rattle.serve_events.specs.Work.{Productions, CutShort, CutInputs, refused, inside, unpublished, between, within}
 use Rattle.serve_events.proofs.OwnLemmas.{now_got, all_got, one_more_got, hit_got, publish_got, still_fails, entered_now}
 use Rattle.serve_events.proofs.SerialLemmas.{produced_more, each_whole, whole_within}
 use Rattle.serve_core.specs.declared.answers.Admitted.TheVariants.{Leased as Lends}
@@ -290,7 +290,7 @@ module _ {I : Type 0} (holds : I → Option Info) (feed : I → Option (List Pic
 
   -- the question was refused
   pub refused_stopped : (c d : CoreValue I) (k : Key) → Alone plan c → d ≡ c → Stopped holds feed faults ends plan c (CutShort plan 0 k) Memory d
-  refused_stopped c d k a e = subst (Stopped holds feed faults ends plan c (CutShort plan 0 k) Memory) (sym e) (record { events = []; cut = refused; went = went_none holds c a.free; stops = memory_stop c c (same_stands c) })
+  refused_stopped c d k a e = subst (Stopped holds feed faults ends plan c (CutShort plan 0 k) Memory) (sym e) (record { done = []; closing = []; cut = refused; went = went_none holds c a.free; stops = memory_stop c c (same_stands c) })
 
   claimed_stands : (c d : CoreValue I) (k : Key) → Asked c 0 k Claimed d → Keeps holds feed faults ends plan c d (λ book numbers. Unit {0})
   claimed_stands c d k asked book numbers s = ((law.ask book numbers c d 0 k Claimed s asked).0, tt)
@@ -346,9 +346,10 @@ module _ {I : Type 0} (holds : I → Option Info) (feed : I → Option (List Pic
   -- a stop inside the inputs
   pub stopped_inside : (c d e f : CoreValue I) (k : Key) (why : WindowStop) → AllFrom (k.node + 1) c.claims → Asked c 0 k Claimed d → Stopped holds feed faults ends plan d (CutInputs plan 0 (input_keys plan k)) why e → f ≡ abandoned e 0 k → Stopped holds feed faults ends plan c (CutShort plan 0 k) why f
   stopped_inside c d e f k why above asked s is = record {
-    events = Claim 0 k ∷ (s.events ++ Abandon 0 k ∷ []);
+    done = Claim 0 k ∷ s.done;
+    closing = s.closing ++ Abandon 0 k ∷ [];
     cut = inside s.cut;
-    went = abandon_went holds c d e f k s.events asked.3 above s.went is;
+    went = subst (λ l. Went holds c f (Claim 0 k ∷ l)) (append_assoc s.done s.closing (Abandon 0 k ∷ [])) (abandon_went holds c d e f k (s.done ++ s.closing) asked.3 above s.went is);
     stops = stop_since c d f why (claimed_stands c d k asked) (stop_abandoned d e f k why s.stops is);
   }
 
@@ -364,14 +365,16 @@ module _ {I : Type 0} (holds : I → Option Info) (feed : I → Option (List Pic
       let stops = stop_since c e f why since (stop_abandoned e u f k why n.stops is) in
       ⊎_elim
       (λ (w : n.events ≡ []). let end : Claim 0 k ∷ ((es ++ n.events) ++ Abandon 0 k ∷ []) ≡ Claim 0 k ∷ (es ++ Abandon 0 k ∷ []) = ap (λ l. Claim 0 k ∷ (l ++ Abandon 0 k ∷ [])) (ap (λ l. es ++ l) w ∙ append-nil es) in record {
-        events = Claim 0 k ∷ (es ++ Abandon 0 k ∷ []);
+        done = Claim 0 k ∷ es;
+        closing = Abandon 0 k ∷ [];
         cut = inside (between [] (sym (append-nil (input_keys plan k))) whole);
         went = subst (Went holds c f) end closed;
         stops = stops;
       })
-      (λ (w : n.events ≡ leases plan 0 k.node). let end : Claim 0 k ∷ ((es ++ n.events) ++ Abandon 0 k ∷ []) ≡ Claim 0 k ∷ (es ++ (leases plan 0 k.node ++ Abandon 0 k ∷ [])) = ap (λ l. Claim 0 k ∷ ((es ++ l) ++ Abandon 0 k ∷ [])) w ∙ ap (λ l. Claim 0 k ∷ l) (append_assoc es (leases plan 0 k.node) (Abandon 0 k ∷ [])) in record {
-        events = Claim 0 k ∷ (es ++ (leases plan 0 k.node ++ Abandon 0 k ∷ []));
-        cut = leased whole;
+      (λ (w : n.events ≡ leases plan 0 k.node). let end : Claim 0 k ∷ ((es ++ n.events) ++ Abandon 0 k ∷ []) ≡ Claim 0 k ∷ ((es ++ leases plan 0 k.node) ++ Abandon 0 k ∷ []) = ap (λ l. Claim 0 k ∷ ((es ++ l) ++ Abandon 0 k ∷ [])) w in record {
+        done = Claim 0 k ∷ (es ++ leases plan 0 k.node);
+        closing = Abandon 0 k ∷ [];
+        cut = unpublished whole;
         went = subst (Went holds c f) end closed;
         stops = stops;
       })
@@ -406,18 +409,21 @@ module _ {I : Type 0} (holds : I → Option Info) (feed : I → Option (List Pic
   stopped_within c d e k j ks js inputs why ok less is g s =
       let lower = all_front plan k.node ks (j ∷ js) (subst (All (IsKeyBelow plan k.node)) is (inputs_are_keys plan k ok less)) in
       let es : List Event = (each_produced (serial_production_within k.node plan c.fixed.capacity) (keys_of c.cache) ks).events in record {
-        events = es ++ s.events;
+        done = es ++ s.done;
+        closing = s.closing;
         cut = within js is (gathered_whole c k.node ks ok less lower) s.cut;
-        went = went_more holds c d e es s.events (gathered_went c d k.node ks inputs g) s.went;
+        went = subst (Went holds c e) (sym (append_assoc es s.done s.closing)) (went_more holds c d e es (s.done ++ s.closing) (gathered_went c d k.node ks inputs g) s.went);
         stops = stop_since c d e why (λ book numbers st. ((g.right book numbers st).0, tt)) s.stops;
       }
 
   pub stopped_between : (c d : CoreValue I) (k : Key) (ks js : List Key) (inputs : List Picture) → IsPlan plan → k.node < length plan → input_keys plan k ≡ ks ++ js → Gathered holds feed faults ends plan c k.node ks inputs d → Stopped holds feed faults ends plan c (CutInputs plan 0 (input_keys plan k)) Memory d
   stopped_between c d k ks js inputs ok less is g =
-      let lower = all_front plan k.node ks js (subst (All (IsKeyBelow plan k.node)) is (inputs_are_keys plan k ok less)) in record {
-        events = (each_produced (serial_production_within k.node plan c.fixed.capacity) (keys_of c.cache) ks).events;
+      let lower = all_front plan k.node ks js (subst (All (IsKeyBelow plan k.node)) is (inputs_are_keys plan k ok less)) in
+      let es : List Event = (each_produced (serial_production_within k.node plan c.fixed.capacity) (keys_of c.cache) ks).events in record {
+        done = es;
+        closing = [];
         cut = between js is (gathered_whole c k.node ks ok less lower);
-        went = gathered_went c d k.node ks inputs g;
+        went = subst (Went holds c d) (sym (append-nil es)) (gathered_went c d k.node ks inputs g);
         stops = memory_stop c d (λ book numbers st. ((g.right book numbers st).0, tt));
       }
 

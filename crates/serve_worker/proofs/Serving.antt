@@ -1,5 +1,5 @@
 -- Outputs one after the other.
-use Rattle.std.proofs.Common.{◌≡◌, ◌≢◌, ℕ, zero, suc, ◌+◌, ◌-◌, ◌<◌, ◌≤◌, ◌==◌, true, false, List, [], ◌∷◌, ◌++◌, length, set, slice_get, Option, Some, None, sym, refl, ap, ◌∙◌, subst, inl, inr, ⊎_elim, arith, append_assoc, append-nil, length-append, eq-eqb}
+use Rattle.std.proofs.Common.{◌≡◌, ◌≢◌, ℕ, zero, suc, ◌+◌, ◌-◌, ◌<◌, ◌≤◌, ◌==◌, true, false, List, [], ◌∷◌, ◌++◌, length, set, slice_get, Option, Some, None, sym, refl, ap, ◌∙◌, subst, ⊎_elim, arith, append_assoc, append-nil, length-append, eq-eqb}
 use Rattle.std.proofs.lemmas.Bool.{eqb-true}
 use Rattle.std.specs.List.{range_with_len}
 use Rattle.std.specs.Map.{keys_of}
@@ -14,7 +14,7 @@ use Rattle.serve_events.specs.declared.event.WindowStop.{WindowStop}
 use Rattle.serve_events.specs.declared.event.WindowStop.TheVariants.{Memory}
 use Rattle.serve_events.specs.Keys.{IsKey, frame_key}
 use Rattle.serve_events.specs.SerialRun.{Serial, serial_production, serial_production_within, serial_delivery, serial_window}
-use Rattle.serve_events.specs.Work.{CutShort, CutWork, Deliveries}
+use Rattle.serve_events.specs.Work.{CutShort, FailedWork, Deliveries}
 use Rattle.serve_events.proofs.SerialLemmas.{serial_is_whole, failed_between, failed_within}
 use Rattle.serve_core.specs.Calls.{TookOutput, next_output, delivered, failing}
 use Rattle.serve_core.specs.CoreValue.{CoreValue, Fixed, Outputs}
@@ -23,7 +23,7 @@ use Rattle.serve_core.specs.Stops.{kept_stop}
 use Rattle.serve_core.proofs.Standing.{calls_stand}
 use Rattle.serve_worker.specs.Alone.{Alone, held_in}
 use Rattle.serve_worker.specs.Made.{Keeps, Produced, Stopped}
-use Rattle.serve_worker.specs.Windows.{Ready, Fresh, delivery, Step, StepCut, served, Served, WindowCut}
+use Rattle.serve_worker.specs.Windows.{Ready, Fresh, delivery, Step, CutOutput, untaken, taken, StepCut, served, Served, WindowCut}
 use Rattle.serve_worker.proofs.Producing.{memory_stop, stop_since}
 
 differ_not : (a b : ℕ) → (a == b) ≡ false → a ≡ b → ⊥
@@ -116,15 +116,16 @@ module _ {I : Type 0} (holds : I → Option Info) (feed : I → Option (List Pic
       })
 
   pub untaken_cut : (c d : CoreValue I) → Alone plan c → d ≡ c → StepCut holds feed faults ends plan c Memory d
-  untaken_cut c d a is = subst (StepCut holds feed faults ends plan c Memory) (sym is) (record { events = []; cut = inl refl; journal = sym (append-nil c.journal); claims = refl; fixed = refl; failed = refl; stop = refl; free = a.free; held = refl; stops = memory_stop holds feed faults ends plan c c (λ book numbers s. (s, tt)) })
+  untaken_cut c d a is = subst (StepCut holds feed faults ends plan c Memory) (sym is) (record { done = []; closing = []; cut = untaken; journal = sym (append-nil c.journal); claims = refl; fixed = refl; failed = refl; stop = refl; free = a.free; held = refl; stops = memory_stop holds feed faults ends plan c c (λ book numbers s. (s, tt)) })
 
   pub taken_cut : (c d e : CoreValue I) (r n : ℕ) (why : WindowStop) → TookOutput c 0 (Some n) d → r ≡ d.fixed.root → Stopped holds feed faults ends plan d (CutShort plan 0 (record { node = r; n = n })) why e → StepCut holds feed faults ends plan c why e
   taken_cut c d e r n why took root s =
       let root' : r ≡ c.fixed.root = root ∙ ap (λ (z : CoreValue I). z.fixed.root) took.3 in
       record {
-        events = Take 0 n ∷ s.events;
-        cut = inr (s.events, ap (λ m. Take 0 m ∷ s.events) took.2, subst (λ (z : ℕ × ℕ). CutShort plan 0 (frame_key z.0 z.1) s.events) (λ i. (root' i, took.2 i)) s.cut);
-        journal = s.went.journal ∙ (ap (λ (z : CoreValue I). z.journal ++ s.events) took.3 ∙ append_assoc c.journal (Take 0 n ∷ []) s.events);
+        done = Take 0 n ∷ s.done;
+        closing = s.closing;
+        cut = subst (λ m. CutOutput holds feed faults ends plan c (Take 0 m ∷ s.done) s.closing) (sym took.2) (taken (subst (λ (z : ℕ × ℕ). CutShort plan 0 (frame_key z.0 z.1) s.done s.closing) (λ i. (root' i, took.2 i)) s.cut));
+        journal = s.went.journal ∙ (ap (λ (z : CoreValue I). z.journal ++ (s.done ++ s.closing)) took.3 ∙ append_assoc c.journal (Take 0 n ∷ []) (s.done ++ s.closing));
         claims = s.went.claims ∙ ap (λ (z : CoreValue I). z.claims) took.3;
         fixed = s.went.fixed ∙ ap (λ (z : CoreValue I). z.fixed) took.3;
         failed = s.went.failed ∙ ap (λ (z : CoreValue I). z.failed) took.3;
@@ -225,12 +226,7 @@ module _ {I : Type 0} (holds : I → Option Info) (feed : I → Option (List Pic
       whole = window_more plan c.fixed.root c.fixed.capacity (keys_of c.cache) c.fixed.first i (c.fixed.first + i) refl
 
   pub cut_window : (c d e f : CoreValue I) (i : ℕ) (why : WindowStop) → Alone plan c → c.fixed.root < length plan → Served holds feed faults ends plan c i d → StepCut holds feed faults ends plan d why e → f ≡ failing e 0 why → WindowCut holds feed faults ends plan c why f
-  cut_window c d e f i why a root v s is = ⊎_elim
-      (λ (h : s.events ≡ []). done (es ++ Fail 0 why ∷ []) (failed_between plan c.fixed.root 0 ns es why all) (ap (λ l. l ++ Fail 0 why ∷ []) (before ∙ (ap (λ l. (c.journal ++ es) ++ l) h ∙ append-nil (c.journal ++ es))) ∙ append_assoc c.journal es (Fail 0 why ∷ [])))
-      (λ (h : (fs : List Event) × (s.events ≡ Take 0 (next_output d) ∷ fs) × CutShort plan 0 (frame_key d.fixed.root (next_output d)) fs). done (es ++ (Take 0 (next_output d) ∷ (h.0 ++ Fail 0 why ∷ [])))
-      (failed_within plan c.fixed.root 0 ns (next_output d) es h.0 why all (subst (λ z. CutShort plan 0 (frame_key z.root (next_output d)) h.0) v.fixed h.2))
-      (ap (λ l. l ++ Fail 0 why ∷ []) (before ∙ ap (λ l. (c.journal ++ es) ++ l) h.1) ∙ (ap (λ l. l ++ Fail 0 why ∷ []) (append_assoc c.journal es (Take 0 (next_output d) ∷ h.0)) ∙ (append_assoc c.journal (es ++ Take 0 (next_output d) ∷ h.0) (Fail 0 why ∷ []) ∙ ap (λ l. c.journal ++ l) (append_assoc es (Take 0 (next_output d) ∷ h.0) (Fail 0 why ∷ []))))))
-      s.cut
+  cut_window c d e f i why a root v s is = by_output s.done s.closing s.cut before
     where
       es : List Event
       es = (served holds feed faults ends plan c i).events
@@ -241,14 +237,14 @@ module _ {I : Type 0} (holds : I → Option Info) (feed : I → Option (List Pic
       all : Deliveries plan c.fixed.root 0 ns es
       all = serial_is_whole.window plan c.fixed.root c.fixed.capacity (keys_of c.cache) c.fixed.first i a.is_plan root
 
-      before : e.journal ≡ (c.journal ++ es) ++ s.events
-      before = s.journal ∙ ap (λ l. l ++ s.events) v.journal
+      before : e.journal ≡ c.journal ++ (es ++ (s.done ++ s.closing))
+      before = s.journal ∙ (ap (λ l. l ++ (s.done ++ s.closing)) v.journal ∙ append_assoc c.journal es (s.done ++ s.closing))
 
       plan_is : e.fixed.plan ≡ plan
       plan_is = ap (λ z. z.plan) (s.fixed ∙ v.fixed) ∙ a.plan_is
 
-      done : (events : List Event) → CutWork plan c.fixed.root 0 events → e.journal ++ Fail 0 why ∷ [] ≡ c.journal ++ events → WindowCut holds feed faults ends plan c why f
-      done events cut j = subst (WindowCut holds feed faults ends plan c why) (sym is) (record {
+      ended : (events : List Event) → FailedWork plan c.fixed.root 0 why events → e.journal ++ Fail 0 why ∷ [] ≡ c.journal ++ events → WindowCut holds feed faults ends plan c why f
+      ended events cut j = subst (WindowCut holds feed faults ends plan c why) (sym is) (record {
         events = events;
         cut = cut;
         journal = j;
@@ -263,6 +259,16 @@ module _ {I : Type 0} (holds : I → Option Info) (feed : I → Option (List Pic
             let last = s.stops.right book numbers (v.right book numbers st).0 in
             ((calls_stand feed faults).fail book numbers e 0 why last.0 (subst (λ pl. StopFits feed faults book numbers pl e.table why) (sym plan_is) last.1), last.1);
       })
+
+      failing_after : (fs : List Event) → e.journal ≡ c.journal ++ (es ++ fs) → e.journal ++ Fail 0 why ∷ [] ≡ c.journal ++ (es ++ (fs ++ Fail 0 why ∷ []))
+      failing_after fs j = ap (λ l. l ++ Fail 0 why ∷ []) j ∙ (append_assoc c.journal (es ++ fs) (Fail 0 why ∷ []) ∙ ap (λ l. c.journal ++ l) (append_assoc es fs (Fail 0 why ∷ [])))
+
+      by_output : (done closing : List Event) → CutOutput holds feed faults ends plan d done closing → e.journal ≡ c.journal ++ (es ++ (done ++ closing)) → WindowCut holds feed faults ends plan c why f
+      by_output [] [] untaken j = ended (es ++ Fail 0 why ∷ []) (failed_between plan c.fixed.root 0 ns es why all) (failing_after [] j)
+      by_output _ closing (taken {es = fs} cut) j =
+          ended (es ++ (Take 0 (next_output d) ∷ ((fs ++ closing) ++ Fail 0 why ∷ [])))
+          (failed_within plan c.fixed.root 0 ns (next_output d) es fs closing why all (subst (λ z. CutShort plan 0 (frame_key z.root (next_output d)) fs closing) v.fixed cut))
+          (failing_after (Take 0 (next_output d) ∷ (fs ++ closing)) j)
 
   pub one_more : (d e : CoreValue I) (x : Picture) → Step holds feed faults ends plan d x e → length e.outputs.taken ≡ length d.outputs.taken + 1
   one_more d e x s = ap length s.taken ∙ length-append d.outputs.taken (0 ∷ [])

@@ -27,11 +27,22 @@ some_in [] = 0
 some_in (None ∷ infos) = some_in infos
 some_in (Some info ∷ infos) = some_in infos + 1
 
--- the table has what the modes of the nodes ask for, and each source of the plan stands at its node
+-- what a node of this op keeps: a source its frames, a filter of the group Soft a scratch with no row, others nothing
+abbrev pub IsKindOf : {S : Type 0} → Act → Instance S → Type 0
+IsKindOf {S = S} (source name number info) x = (it : FrameSource S) × (x ≡ Source it)
+IsKindOf (plain info colour) x = x ≡ Plain
+IsKindOf (time op) x = x ≡ Plain
+IsKindOf (space op) x = x ≡ Plain
+IsKindOf (joined op) x = x ≡ Plain
+IsKindOf (soft op) x = x ≡ Scratch 0
+
+-- the table has what the modes ask for, each instance is what its node keeps, and each source stands at its node
 pub record Furnishes {S : Type 0} (plan : List Application) (workers : ℕ) (sources : List (FrameSource S))
     (table : List (Place × Slot (Instance S))) : Type 0 where
   pub furnished : IsFurnished plan workers table
   pub theirs : HoldTheirs holds_of plan table
+  pub kinds : (p : Place) (x : Instance S) → slot_at p table ≡ Some (Free x)
+      → IsKindOf (application_at plan p.node).act x
   pub at_nodes : (i number : ℕ) (name : List ℕ) (info : Info) (it : FrameSource S)
       → (application_at plan i).act ≡ source name number info → slice_get sources number ≡ Some it
       → slot_at (shared_place i) table ≡ Some (Free (Source it))
@@ -90,5 +101,6 @@ module _ {S : Type 0} (sources left : List (FrameSource S)) (old new : List (Pla
   pub record Adds (act : Act) (entries : Instance S → List (Place × Slot (Instance S))) : Type 0 where
     pub value : Instance S
     pub holds : holds_of value ≡ opened act
+    pub kind : IsKindOf act value
     pub from : sources ≡ left ++ source_of value
     pub to : new ≡ old ++ entries value

@@ -120,9 +120,10 @@ module _ {I : Type 0} (holds : I → Option Info) (feed : I → Option (List Pic
       pub shapes : AreOfKeys plan ks frames
       pub right : Keeps d (λ book numbers. AreRight ks frames book)
 
-    -- the work was cut short, with events of this kind
-    pub record Stopped (IsCut : List Event → Type 0) (why : WindowStop) (d : CoreValue I) : Type 0 where
-      pub events : List Event
-      pub cut : IsCut events
-      pub went : Went holds c d events
+    -- the work was cut short: what was done, and what closes it, are of this kind
+    pub record Stopped (IsCut : List Event → List Event → Type 0) (why : WindowStop) (d : CoreValue I) : Type 0 where
+      pub done : List Event
+      pub closing : List Event
+      pub cut : IsCut done closing
+      pub went : Went holds c d (done ++ closing)
       pub stops : StopIs why d

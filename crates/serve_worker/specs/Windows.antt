@@ -1,5 +1,5 @@
 -- One worker over the outputs of a window.
-use Rattle.std.specs.Prelude.{◌≡◌, ◌⊎◌, ℕ, ◌+◌, ◌<◌, ◌≤◌, Bool, true, false, List, [], ◌∷◌, ◌++◌, length, slice_get, slice_set, Option, Some, None}
+use Rattle.std.specs.Prelude.{◌≡◌, ℕ, ◌+◌, ◌<◌, ◌≤◌, Bool, true, false, List, [], ◌∷◌, ◌++◌, length, slice_get, slice_set, Option, Some, None}
 use Rattle.std.specs.Map.{keys_of}
 use Rattle.fv_plane.specs.declared.format.Info.{Info}
 use Rattle.fv_plane.specs.Picture.{Picture}
@@ -10,7 +10,7 @@ use Rattle.serve_events.specs.declared.event.WindowStop.{WindowStop}
 use Rattle.serve_events.specs.Keys.{frame_key}
 use Rattle.serve_events.specs.Own.{names_source}
 use Rattle.serve_events.specs.SerialRun.{Serial, serial_production, serial_delivery, serial_window}
-use Rattle.serve_events.specs.Work.{CutShort, CutWork}
+use Rattle.serve_events.specs.Work.{CutShort, FailedWork}
 use Rattle.serve_core.specs.Calls.{next_output}
 use Rattle.serve_core.specs.CoreValue.{CoreValue}
 use Rattle.serve_core.specs.Stands.{StopFits}
@@ -57,15 +57,17 @@ module _ {I : Type 0} (holds : I → Option Info) (feed : I → Option (List Pic
   Stepped true d = (x : Picture) × Step x d
   Stepped false d = (length c.outputs.taken ≡ c.fixed.count) × (d ≡ c)
 
-  -- the next output was not taken, or it was taken and cut short
-  abbrev pub CutOutput : List Event → Type 0
-  CutOutput es = (es ≡ []) ⊎ ((fs : List Event) × (es ≡ Take 0 (next_output c) ∷ fs)
-      × CutShort plan 0 (frame_key c.fixed.root (next_output c)) fs)
+  -- the next output was not taken, or it was taken and cut short: what was done, and what closes it
+  pub data CutOutput : List Event → List Event → Type 0 where
+    untaken : CutOutput [] []
+    taken : {es closing : List Event} → CutShort plan 0 (frame_key c.fixed.root (next_output c)) es closing
+        → CutOutput (Take 0 (next_output c) ∷ es) closing
 
   pub record StepCut (why : WindowStop) (d : CoreValue I) : Type 0 where
-    pub events : List Event
-    pub cut : CutOutput events
-    pub journal : d.journal ≡ c.journal ++ events
+    pub done : List Event
+    pub closing : List Event
+    pub cut : CutOutput done closing
+    pub journal : d.journal ≡ c.journal ++ (done ++ closing)
     pub claims : d.claims ≡ c.claims
     pub fixed : d.fixed ≡ c.fixed
     pub failed : d.failed ≡ c.failed
@@ -93,10 +95,10 @@ module _ {I : Type 0} (holds : I → Option Info) (feed : I → Option (List Pic
     pub undelivered : (j : ℕ) → count ≤ j → j < c.fixed.count → slice_get d.outputs.frames j ≡ Some None
     pub right : Keeps holds feed faults ends plan c d (λ book numbers. Unit {0})
 
-  -- the window was cut short by a stop
+  -- the window was cut short by this stop, with which the worker failed
   pub record WindowCut (why : WindowStop) (d : CoreValue I) : Type 0 where
     pub events : List Event
-    pub cut : CutWork plan c.fixed.root 0 events
+    pub cut : FailedWork plan c.fixed.root 0 why events
     pub journal : d.journal ≡ c.journal ++ events
     pub claims : d.claims ≡ []
     pub fixed : d.fixed ≡ c.fixed

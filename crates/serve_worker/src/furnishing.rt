@@ -158,8 +158,9 @@ fn furnish_node<S: Source>(
 }
 
 /// Makes the instances that the nodes of a graph need: one that all workers share at a node of mode 3, one for each
-/// worker at a node of mode 2, none at one of mode 1. A source stands at its node. `sources` are those of the graph, in
-/// the order of their numbers.
+/// worker at a node of mode 2, none at one of mode 1. A source stands at its node. An instance of a filter of the group
+/// Soft is a scratch with no row, and one of any other filter keeps nothing. `sources` are those of the graph, in the
+/// order of their numbers.
 ///
 /// Each source is afterwards in the table or still in the list. An `Err` is out of memory.
 pub fn furnish<S: Source>(

@@ -1,5 +1,5 @@
 -- Window after window.
-use Rattle.std.proofs.Common.{◌≡◌, ◌∙◌, ◌<◌, ◌-◌, min, [], refl, sym, ap, subst, arith}
+use Rattle.std.proofs.Common.{◌≡◌, ◌∙◌, ◌<◌, ◌-◌, min, sym, ap, subst, arith}
 use Rattle.serve_events.specs.Windows.{windows_of}
 use Rattle.serve_worker.proofs.Tables.{all_free}
 use Rattle.prefetch.specs.Windows.{frames_at, Rendered}

@@ -1,8 +1,8 @@
 -- The window's events are in the journal, whatever came of it.
-use Rattle.std.proofs.Common.{◌≡◌, ◌∙◌, ℕ, ◌∷◌, ◌++◌, [], refl, sym, ap, subst, map}
+use Rattle.std.proofs.Common.{◌∙◌, ℕ, ◌∷◌, ◌++◌, [], refl, ap, subst, map}
 use Rattle.std.proofs.lemmas.List.{map-append}
 use Rattle.serve_events.specs.declared.windows.Windowed.{Windowed}
-use Rattle.serve_events.specs.Windows.{windows_of, window_of}
+use Rattle.serve_events.specs.Windows.{window_of}
 use Rattle.serve_core.specs.declared.answers.Finished.{Finished}
 use Rattle.prefetch.specs.Windows.{WindowEnds}
 use Rattle.prefetch.proofs.windows.render_window.Goals as goal

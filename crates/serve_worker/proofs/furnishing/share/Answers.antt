@@ -1,10 +1,13 @@
 -- A source, or a filter.
-use Rattle.std.proofs.Common.{◌∷◌, []}
+use Rattle.std.proofs.Common.{◌∷◌, [], ap}
 use Rattle.inst_table.specs.declared.place.Slot.TheVariants.{Free}
 use Rattle.inst_table.specs.Places.{shared_place}
 use Rattle.clip_term.specs.ClipTerm.{act_of}
-use Rattle.serve_worker.proofs.FurnishingLemmas.{moved_kept, moved_leases, put_kept, put_leases, filter_adds, opened_default}
+use Rattle.serve_worker.proofs.FurnishingLemmas.{moved_kept, moved_leases, moved_adds, put_kept, put_leases, filter_adds, opened_default}
 use Rattle.serve_worker.proofs.furnishing.share.Goals as goal
+
+pub returns-in-Source-clause-ok : goal.returns-in-Source-clause-ok
+returns-in-Source-clause-ok g c = moved_adds c.args.sources.now.items c.move_last.new.sources.items c.args.table.now c.move_last.new.table c.args.node c.move_last.result (act_of c.args.op.now) c.in-Source.name c.in-Source.number c.in-Source.info (ap act_of c.in-Source.is) c.requires.next c.move_last.ensures.ok
 
 pub returns-in-Source-clause-kept : goal.returns-in-Source-clause-kept
 returns-in-Source-clause-kept g c = moved_kept c.args.sources.now.items c.move_last.new.sources.items c.args.table.now c.move_last.new.table c.args.node c.move_last.result c.move_last.ensures.ok c.move_last.ensures.err c.move_last.ensures.table
