@@ -8,7 +8,6 @@ use Rattle.fv_plane.specs.Clip.{Clip}
 use Rattle.y4m_stream.specs.Stream.{Stream}
 use Rattle.y4m_stream.proofs.ReadingLemmas.{reads_one_way}
 use Rattle.seq_source.specs.FrameSource.{FrameSource, HasFrames}
-use Rattle.avs_values.specs.Values.{Text}
 use Rattle.avs_meaning.specs.Outside.{clip_in}
 use Rattle.avs_meaning.specs.declared.state.SourceClip.{SourceClip}
 use Rattle.avs_meaning.proofs.StreamLemmas.{clips_are_streams}

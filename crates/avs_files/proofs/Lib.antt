@@ -1,4 +1,5 @@
 pub mod CallerLemmas
 mod FileLemmas
 mod OpenedLemmas
+pub mod SourceFiles
 mod WorldLemmas

@@ -1,5 +1,5 @@
 -- Clips that are opened, one after the other.
-use Rattle.std.proofs.Common.{◌≡◌, ◌∙◌, ℕ, zero, suc, arith, Bool, true, false, IsTrue, List, [], ◌∷◌, ◌++◌, length, slice_get, Option, Some, None, Ok, refl, rules}
+use Rattle.std.proofs.Common.{◌≡◌, ◌∙◌, ℕ, zero, suc, arith, Bool, true, false, IsTrue, List, [], ◌∷◌, ◌++◌, length, slice_get, Option, Some, Ok, refl, rules}
 use Rattle.std.specs.FinMap.{get}
 use Rattle.fv_io.specs.World.{World}
 use Rattle.fv_io.specs.declared.source.Source.{Ghosts}

@@ -1,5 +1,5 @@
 -- What is answered of a file, by its bytes.
-use Rattle.std.proofs.Common.{◌≡◌, ◌∙◌, sym, ap, List, ℕ, Option, Some, None, Result}
+use Rattle.std.proofs.Common.{◌≡◌, List, ℕ, Option, Some, Result}
 use Rattle.avs_values.specs.Values.{Text}
 use Rattle.avs_meaning.specs.Outside.{script_in}
 use Rattle.avs_state.specs.Hosts.{TellsScript}

@@ -1,16 +1,13 @@
 -- What is answered of a file.
-use Rattle.std.specs.Prelude.{◌≡◌, ℕ, List, Option, Some, Result, Ok, Err}
+use Rattle.std.specs.Prelude.{Option, Result, Ok, Err}
 use Rattle.std.specs.FinMap.{get}
 use Rattle.fv_io.specs.World.{World, InWorld}
-use Rattle.fv_plane.specs.Clip.{Clip}
 use Rattle.fv_plane.specs.declared.format.Info.{Info}
 use Rattle.y4m_stream.specs.Index.{Indexed}
-use Rattle.y4m_stream.specs.Stream.{Stream}
 use Rattle.avs_values.specs.Values.{Text}
 use Rattle.avs_meaning.specs.Outside.{clip_in, script_in}
 use Rattle.avs_state.specs.Hosts.{TellsClip, TellsScript}
 use Rattle.avs_state.specs.declared.host.HostFault.{HostFault}
-use Rattle.avs_files.specs.Opened.{IsIndexOf}
 
 -- the info of what was opened
 abbrev pub info_in : {S : Type 0} → Result (S × Indexed) HostFault → Result Info HostFault

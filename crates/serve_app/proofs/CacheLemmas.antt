@@ -1,10 +1,10 @@
 -- A cache that the words ask for holds a frame.
-use Rattle.std.proofs.Common.{◌≡◌, ℕ, zero, suc, ◌<◌, Bool, true, false, if◌then◌else◌, ◌&&◌, List, [], ◌∷◌, Option, Some, None, sym, refl, subst, arith, codes}
-use Rattle.std.specs.Prelude.{option_map, option_and_then, nat_le}
+use Rattle.std.proofs.Common.{◌≡◌, ℕ, zero, suc, ◌<◌, Bool, true, false, if◌then◌else◌, List, [], ◌∷◌, Option, Some, None, refl, subst, arith, codes}
+use Rattle.std.specs.Prelude.{option_map, option_and_then}
 use Rattle.std.specs.Str.Parse.{digits_value}
 use Rattle.std.specs.Str.{bytes_eq}
 use Rattle.command_line.specs.Words.{Text, values_of, given_by}
-use Rattle.command_line.specs.Command.{is_number, in_range, number_in, only, number_among, flag_among, options_with, render_with, info_with, self_test_with, render_options, named, command_by, command_in}
+use Rattle.command_line.specs.Command.{is_number, in_range, number_in, only, number_among, flag_among, options_with, render_with, info_with, self_test_with, render_options, command_by, command_in}
 use Rattle.command_line.specs.declared.command.Command.{Command}
 use Rattle.command_line.specs.declared.command.Command.TheVariants as c
 use Rattle.command_line.specs.declared.command.RenderOptions.{RenderOptions}

@@ -1,3 +1,4 @@
+mod BookLemmas
 mod CacheLemmas
 mod ClosingLemmas
 mod MeaningLemmas

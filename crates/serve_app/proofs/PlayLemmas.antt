@@ -1,5 +1,5 @@
 -- A clip that was put, and what a script means.
-use Rattle.std.proofs.Common.{◌≡◌, ◌∙◌, ◌≤◌, ℕ, zero, suc, arith, Bool, true, false, IsTrue, List, [], ◌∷◌, ◌++◌, length, map, get_or, slice_get, Option, Some, None, Result, Ok, Err, IfOk, IfErr, OnOk, refl, inl, inr, sym, ap, ap₂, subst}
+use Rattle.std.proofs.Common.{◌≡◌, ◌∙◌, ◌⊎◌, ◌≤◌, ℕ, zero, suc, arith, Bool, true, false, IsTrue, List, [], ◌∷◌, ◌++◌, length, map, get_or, slice_get, Option, Some, None, Result, Ok, Err, IfOk, IfErr, OnOk, refl, inl, inr, sym, ap, ap₂, subst}
 use Rattle.std.proofs.lemmas.List.{take_all, length-map}
 use Rattle.std.proofs.lemmas.List.FromFn.{length-range_with_len}
 use Rattle.std.specs.List.{range_with_len}
@@ -27,7 +27,7 @@ use Rattle.serve_text.specs.InfoText.{info_text}
 use Rattle.avs_meaning.specs.Crews.{Numbers, workers, window}
 use Rattle.serve_events.specs.declared.windows.Record.{Record}
 use Rattle.serve_events.specs.Keys.{frame_key}
-use Rattle.serve_core.specs.Sources.{with_told, all_told}
+use Rattle.serve_core.specs.Sources.{with_told}
 use Rattle.prefetch.specs.Clips.{clip_at}
 use Rattle.avs_eval.specs.Evaluates.{Evaluates}
 use Rattle.avs_eval.specs.declared.evaluation.Opened.{Opened}
@@ -47,10 +47,11 @@ use Rattle.serve_app.specs.Meaning.{meaning_in, HasPictures, IsBookOf, MeansClip
 use Rattle.serve_app.specs.Info.{IsInfoOf, IsToldInfo, InfoShows}
 use Rattle.serve_app.specs.Clips.{book_told, IsClipOf, SomeFailed, PutsFrames, PutsSome, StreamShows}
 use Rattle.serve_app.specs.Closing.{CountsTable}
-use Rattle.serve_app.specs.Journals.{IsSerial, IsCutShort, CutsShort, IsPlanOf, IsScriptSerial, IsRunOf, ScriptCuts}
+use Rattle.serve_app.specs.Journals.{IsSerial, PutsCount, FailsWithin, CutsShort, IsPlanOf, IsScriptSerial, IsRunOf, ScriptCuts}
 use Rattle.serve_app.specs.Playing.{Tells, EndsBefore, PutsClip, PutsInfo, with_graph}
 use Rattle.serve_app.specs.Rendered.{PutsWholeFrames}
-use Rattle.serve_app.specs.Stop.{IsOfScript, ScriptHasClip, RenderShows}
+use Rattle.serve_app.specs.Stop.{IsOfScript, ScriptHasClip, HasInfo, RenderShows}
+use Rattle.serve_app.specs.Streams.{stop_in, TellsStop, HeadShows}
 use Rattle.serve_app.proofs.MeaningLemmas.{same_plan, same_root, same_crew}
 
 -- ---- worlds that are told
@@ -247,9 +248,31 @@ module _ {S : Type 0} (of : of_source.Ghosts S) (told : Bool) (world : World) (s
     unfolding script_serial
     script_run capacity journal is serial kept is_kept = record { run = script_serial capacity journal is serial; plan_is = sym is_kept }
 
-    pub script_cuts : (capacity : ℕ) (journal : Option Record) → IsPlan plan → CutsShort plan root capacity sink out put journal → ScriptCuts (told_of told world) script capacity sink out put journal
-    script_cuts capacity None is cut = tt
-    script_cuts capacity (Some log) is cut = record { plan = plan; root = root; is_plan = plan_of is; cut = cut }
+    count_of : (capacity n : ℕ)
+        → PutsCount plan root capacity sink out put (IsClipOf plan root (book_told of sources)) n ⊎ FailsWithin plan root capacity sink out put (IsClipOf plan root (book_told of sources)) n
+        → PutsCount plan root capacity sink out put (IsOfScript (told_of told world) script) n ⊎ FailsWithin plan root capacity sink out put (IsOfScript (told_of told world) script) n
+    count_of capacity n (inl some) = inl (record { part = some.part; info_is = some.info_is; count = some.count; begins = λ clip is. some.begins clip (of_script clip is); put = some.put })
+    count_of capacity n (inr cut) = inr (record { failed = cut.failed; cut = λ clip is. cut.cut clip (of_script clip is) })
+
+    pub script_cuts : (capacity : ℕ) (answer : Option Stop) (journal : Option Record) → IsPlan plan → CutsShort plan root capacity sink out put (IsClipOf plan root (book_told of sources)) (TellsStop answer plan) journal
+        → ScriptCuts (told_of told world) script capacity sink out put (TellsStop answer) journal
+    script_cuts capacity answer None is cut = tt
+    script_cuts capacity answer (Some log) is cut =
+        let short = cut.2 in
+        record { plan = plan; root = root; is_plan = plan_of is; stop = cut.0; ends = cut.1; cut = record { n = short.n; few = short.few; windows = short.windows; put = count_of capacity short.n short.put } }
+
+    -- the info of the plan is that of the clip
+    info_of_clip : (info : Info) → info ≡ (application_at plan root).info → HasInfo (told_of told world) script info
+    unfolding a_clip_at
+    info_of_clip info is = in_told told world (λ w. (clip : Clip) × MeansClip w script clip × (info ≡ clip.info)) (λ tells.
+        (let one = a_clip_at tells in (one.0, one.1, is ∙ ap (λ (c : Clip). c.info) (sym (let means = one.1 in means.clip_is)))))
+
+    -- and of the head
+    pub script_head : (answer : Option Stop) (journal : Option Record) → HeadShows sink out put (λ info. info ≡ (application_at plan root).info) answer journal
+        → HeadShows sink out put (HasInfo (told_of told world) script) answer journal
+    script_head answer None (inl none) = inl none
+    script_head answer None (inr (failed, cut)) = inr (failed, record { info = cut.info; is = info_of_clip cut.info cut.is; failed = cut.failed; cut = cut.cut })
+    script_head answer (Some log) headed = record { info = headed.info; is = info_of_clip headed.info headed.is; rest = headed.rest; put = headed.put }
 
 -- ---- a script without a clip
 
@@ -317,6 +340,10 @@ err_with P (Err stop) plan p = p
 pub graph_with : (put : Result ℕ Stop) (plan kept : List Application) → plan ≡ kept → IfOk (with_graph put plan) (λ all. all.graph ≡ kept)
 graph_with (Ok frames) plan kept is = is
 graph_with (Err stop) plan kept is = tt
+
+pub stop_with : (P : Option Stop → Type 0) (put : Result ℕ Stop) (plan : List Application) → P (stop_in put) → P (stop_in (with_graph put plan))
+stop_with P (Ok frames) plan p = p
+stop_with P (Err stop) plan p = p
 
 -- the same, where one of them is the same for each value
 pub with_ok : {T E P : Type 0} (Q R : T → Type 0) (result : Result T E) → OnOk result P → IfOk result Q → ((x : T) → P → Q x → R x) → IfOk result R

@@ -8,6 +8,7 @@ use Rattle.fv_io.specs.World.{World, InWorld}
 use Rattle.fv_io.specs.Told.{with_piece}
 use Rattle.fv_io.proofs.CallerLemmas.{gets_all, gets_none}
 use Rattle.fv_plane.specs.Clip.{Clip}
+use Rattle.fv_plane.specs.declared.format.Info.{Info}
 use Rattle.y4m_stream.specs.Stream.{stream}
 use Rattle.avs_meaning.specs.Faults.{Fault, input}
 use Rattle.avs_meaning.specs.declared.fault.ScriptKind.{ScriptKind}
@@ -18,16 +19,19 @@ use Rattle.serve_app.specs.Info.{IsInfoOf, IsToldInfo, InfoShows}
 use Rattle.serve_app.specs.Playing.{PutsClip, PutsInfo}
 use Rattle.serve_app.specs.Meaning.{Meaning, a_clip, a_fault, MeansClip, Means, status_of, status_of_fault}
 use Rattle.prefetch.specs.Rendered.{PutsNothing}
-use Rattle.serve_app.specs.Rendered.{PutsWholeFrames, EndsInFrame}
-use Rattle.serve_app.specs.Stop.{IsOfScript, ScriptHasClip, HasFault, HasChanged, IsScriptFault, RenderShows}
-use Rattle.serve_text.specs.Lines.{Says, stop_line, usage_line, read_line, write_line, memory_line}
-use Rattle.serve_app.specs.Headline.{EndsByScript, EndsByInput, EndsByChange, WriteFails, Causes, PutsWhole, Quiet, Unwritten, Headline, JournalEnds, InfoEnds, Ends}
+use Rattle.serve_app.specs.Rendered.{PutsWholeFrames, EndsInFrame, PutsHead, PutsNoHead}
+use Rattle.serve_app.specs.Stop.{IsOfScript, ScriptHasClip, HasInfo, HasFault, HasChanged, IsScriptFault, RenderShows}
+use Rattle.serve_app.specs.Streams.{file_at, stop_in, TellsStop, HeadShows}
+use Rattle.serve_text.specs.Lines.{Says, stop_line, usage_line, read_line, memory_line}
+use Rattle.serve_app.specs.Headline.{EndsByScript, EndsByInput, EndsByChange, EndsBy, WriteFails, Causes, PutsWhole, Quiet, Unwritten, Headline, JournalEnds, InfoEnds, Ends}
 use Rattle.serve_app.specs.Journals.{cache_of, IsScriptSerial, IsRunOf, IsReport, ScriptCuts}
 use Rattle.serve_text.specs.Reports.{CutsReport, Reports}
 use Rattle.serve_app.specs.SelfTest.{IsLineOf, IsSelfLine, PutsSelfLine, SelfTestShows, SelfTestEnds}
-use Rattle.serve_app.specs.Run.{HasCache, HasLog, RenderDoes, Does, Finishes}
+use Rattle.serve_app.specs.Run.{HasLog, RenderDoes, Does, LeavesNone, Finishes}
 use Rattle.clip_graph.specs.Plan.{Application}
 use Rattle.serve_text.specs.Report.{report}
+use Rattle.serve_events.specs.declared.event.WindowStop.{WindowStop}
+use Rattle.serve_events.specs.declared.event.WindowStop.TheVariants as worker
 use Rattle.serve_events.specs.declared.windows.Record.{Record}
 use Rattle.serve_events.specs.Windows.{windows_of}
 use Rattle.command_line.specs.Command.{command_in}
@@ -299,6 +303,7 @@ module _ {F S K E : Type 0} (files : of_files.Ghosts F S) (sink : Ghosts K) (lin
         gets_all (sink.bytes out) (sink.bytes new) text (rw (one_info is.world one.text text one.info is.info) at one.put));
     nothing = λ world is none. (let one = has world is in absurd (none one.0 one.1));
     unwritten = λ which. absurd (omega (arith, which));
+    by_input = λ is. absurd (omega (arith, is));
     causes = causes_of_whole (said ≡ err) Fails quiet has;
   }
 
@@ -341,12 +346,21 @@ module _ {F S K E : Type 0} (files : of_files.Ghosts F S) (sink : Ghosts K) (lin
   info_unwritten Write shown which = absurd (omega (arith, which))
   info_unwritten Memory shown which = shown
 
+  info_input : (stop : Stop) → Told stop → Says lines err said (stop_line stop) → status_of_stop stop ≡ 3 → EndsByInput files sink lines f g out new err said script
+  info_input (Script kind name line) shown says is = absurd (omega (arith, is))
+  info_input (Input name fault) shown says is = record { name = name; fault = fault; is = shown.0; line = says; put = shown.1 }
+  info_input (Changed name frame want got) shown says is = absurd shown
+  info_input Read shown says is = absurd (omega (arith, is))
+  info_input Write shown says is = absurd (omega (arith, is))
+  info_input Memory shown says is = absurd (omega (arith, is))
+
   pub info_of_stop : (stop : Stop) → Told stop → Says lines err said (stop_line stop) → InfoEnds files sink lines f g out new err said script (status_of_stop stop)
   info_of_stop stop shown says = record {
     whole = λ zero. absurd (never_zero stop zero);
     prefix = info_prefix stop shown;
     nothing = info_nothing stop shown;
     unwritten = info_unwritten stop shown;
+    by_input = info_input stop shown says;
     causes = causes_of (said ≡ err) Fails (λ failed. failed) stop (info_cause stop shown) says;
   }
 
@@ -423,12 +437,63 @@ module _ {F S K E : Type 0} (files : of_files.Ghosts F S) (sink : Ghosts K) (lin
   abbrev Left : ℕ → Type 0
   Left status = JournalEnds files sink lines f g out new err said script capacity journal status
 
-  -- the journal of a whole render, and of one that stopped
-  journal_of_whole : (status : ℕ) → IsScriptSerial (files.world f) script capacity journal → ScriptCuts (files.world f) script capacity sink out new journal → Left status
-  journal_of_whole status serial cut = record { serial = λ is. serial; cut = λ more. cut }
+  abbrev Ending : ℕ → List Application → Option WindowStop → Type 0
+  Ending status = EndsBy files sink lines f g out new err said script status
 
-  journal_of_stop : (stop : Stop) (status : ℕ) → status ≡ status_of_stop stop → ScriptCuts (files.world f) script capacity sink out new journal → Left status
-  journal_of_stop stop status is cut = record { serial = λ zero. absurd (never_zero stop (sym is ∙ zero)); cut = λ more. cut }
+  -- the status and the line are of the stop that was told
+  ends_by : (told : Stop) (plan : List Application) (stop : Option WindowStop) → Says lines err said (stop_line told) → TellsStop (Some told) plan stop → Ending (status_of_stop told) plan stop
+  ends_by told plan None says (inl is) = absurd (cc)
+  ends_by told plan None says (inr (inl is)) = let same : told ≡ Write = cc in inl (ap status_of_stop same)
+  ends_by told plan None says (inr (inr is)) = let same : told ≡ Memory = cc in inr (ap status_of_stop same)
+  ends_by told plan (Some (worker.Read node)) says is = let same : told ≡ Read = cc in ap status_of_stop same
+  ends_by told plan (Some (worker.Changed node frame want got)) says (inl is) =
+      let same : told ≡ Changed (file_at plan node) frame want got = cc in
+      inl (ap status_of_stop same, subst (λ stop. Says lines err said (stop_line stop)) same says)
+  ends_by told plan (Some (worker.Changed node frame want got)) says (inr is) = let same : told ≡ Memory = cc in inr (ap status_of_stop same)
+  ends_by told plan (Some worker.Memory) says is = let same : told ≡ Memory = cc in ap status_of_stop same
+
+  -- no window was cut short where all was put
+  ends_whole : (plan : List Application) (stop : Option WindowStop) (status : ℕ) → status ≡ 5 → TellsStop None plan stop → Ending status plan stop
+  ends_whole plan None status five is = inl five
+  ends_whole plan (Some (worker.Read node)) status five is = absurd (cc)
+  ends_whole plan (Some (worker.Changed node frame want got)) status five (inl is) = absurd (cc)
+  ends_whole plan (Some (worker.Changed node frame want got)) status five (inr is) = absurd (cc)
+  ends_whole plan (Some worker.Memory) status five is = absurd (cc)
+
+  cuts_by : (One Other : List Application → Option WindowStop → Type 0) → ((plan : List Application) (stop : Option WindowStop) → One plan stop → Other plan stop) → (log : Option Record)
+      → ScriptCuts (files.world f) script capacity sink out new One log → ScriptCuts (files.world f) script capacity sink out new Other log
+  cuts_by One Other so None cut = tt
+  cuts_by One Other so (Some log) cut = record { plan = cut.plan; root = cut.root; is_plan = cut.is_plan; stop = cut.stop; ends = so cut.plan cut.stop cut.ends; cut = cut.cut }
+
+  -- the journal of a whole render, and of one that stopped
+  journal_of_whole : (status : ℕ) → (status ≡ 0) ⊎ (status ≡ 5) → IsScriptSerial (files.world f) script capacity journal → ScriptCuts (files.world f) script capacity sink out new (TellsStop None) journal → Left status
+  journal_of_whole status (inl zero) serial cut = record { serial = λ is. serial; cut = λ more. absurd (more zero) }
+  journal_of_whole status (inr five) serial cut = record { serial = λ is. serial; cut = λ more. cuts_by (TellsStop None) (Ending status) (λ plan stop. ends_whole plan stop status five) journal cut }
+
+  journal_of_stop : (stop : Stop) (status : ℕ) → status ≡ status_of_stop stop → Says lines err said (stop_line stop) → ScriptCuts (files.world f) script capacity sink out new (TellsStop (Some stop)) journal → Left status
+  journal_of_stop stop status is says cut = record {
+    serial = λ zero. absurd (never_zero stop (sym is ∙ zero));
+    cut = λ more. subst (λ s. ScriptCuts (files.world f) script capacity sink out new (Ending s) journal) (sym is) (cuts_by (TellsStop (Some stop)) (Ending (status_of_stop stop)) (λ plan cut_by. ends_by stop plan cut_by says) journal cut);
+  }
+
+-- a head that was not put whole, and one that was
+module _ {K : Type 0} (sink : Ghosts K) (out new : K) (IsIts : Info → Type 0) where
+  unheaded : (told : Option Stop) (journal : Option Record) (status : ℕ) → HeadShows sink out new IsIts told journal → (told ≡ Some Write → status ≡ 5) → journal ≡ None → PutsNoHead sink out new IsIts (status ≡ 5)
+  unheaded told None status (inl nothing) wrote none = inl nothing
+  unheaded told None status (inr (failed, cut)) wrote none = inr (wrote failed, cut)
+  unheaded told (Some log) status headed wrote none = absurd (cc)
+
+  headed_of : (told : Option Stop) (journal : Option Record) → HeadShows sink out new IsIts told journal → (log : Record) → journal ≡ Some log → PutsHead sink out new IsIts
+  headed_of told None shown log there = absurd (cc)
+  headed_of told (Some other) shown log there = shown
+
+zero_or_five : (status : ℕ) (P Q : Type 0) → ((status ≡ 0) × P) ⊎ ((status ≡ 5) × Q) → (status ≡ 0) ⊎ (status ≡ 5)
+zero_or_five status P Q (inl put) = inl put.0
+zero_or_five status P Q (inr cut) = inr cut.0
+
+-- a failed write has its status
+wrote_of : (stop : Stop) (status : ℕ) → status ≡ status_of_stop stop → Some stop ≡ Some Write → status ≡ 5
+wrote_of stop status is told = let same : stop ≡ Write = cc in is ∙ ap status_of_stop same
 
 -- ---- all commands
 
@@ -443,9 +508,10 @@ module _ {F S K E : Type 0} (files : of_files.Ghosts F S) (sink : Ghosts K) (lin
 
   ends_of_render : (script : List ℕ) (options : RenderOptions) (status : ℕ) → command_in words ≡ Some (c.Render script options)
       → Headline files sink lines f g out new err said script (cache_of options.cache) journal options.report status
-      → JournalEnds files sink lines f g out new err said script (cache_of options.cache) journal status → Leaves
+      → JournalEnds files sink lines f g out new err said script (cache_of options.cache) journal status
+      → (journal ≡ None → PutsNoHead sink out new (HasInfo (files.world f) script) (status ≡ 5)) → ((log : Record) → journal ≡ Some log → PutsHead sink out new (HasInfo (files.world f) script)) → Leaves
       → Ends files sink lines f g out new err said words status journal
-  ends_of_render script options status asked ends ended leaves = record {
+  ends_of_render script options status asked ends ended no_head headed leaves = record {
     render = λ other others is.
         (let both : Some (c.Render script options) ≡ Some (c.Render other others) = sym asked ∙ is in
         let same : script ≡ other = cc in
@@ -462,14 +528,19 @@ module _ {F S K E : Type 0} (files : of_files.Ghosts F S) (sink : Ghosts K) (lin
     self_test = λ number is. (let both : Some (c.Render script options) ≡ Some (c.SelfTest number) = sym asked ∙ is in absurd (cc));
     refused = λ none. (let both : Some (c.Render script options) ≡ None = sym asked ∙ none in absurd (cc));
     usage = λ one. absurd (not_one status (let causes = ends.causes in causes.known) one);
+    no_journal = λ none other others is.
+        (let both : Some (c.Render script options) ≡ Some (c.Render other others) = sym asked ∙ is in
+        let same : script ≡ other = cc in
+        subst (λ s. PutsNoHead sink out new (HasInfo (files.world f) s) (status ≡ 5)) same (no_head none));
+    some_journal = λ log there. (script, options, asked, headed log there);
     keeps = leaves.0;
     later = leaves.1;
     later_lines = leaves.2;
   }
 
-  ends_of_info : (script : List ℕ) (status : ℕ) → command_in words ≡ Some (c.Info script) → InfoEnds files sink lines f g out new err said script status → Leaves
+  ends_of_info : (script : List ℕ) (status : ℕ) → command_in words ≡ Some (c.Info script) → InfoEnds files sink lines f g out new err said script status → journal ≡ None → Leaves
       → Ends files sink lines f g out new err said words status journal
-  ends_of_info script status asked ends leaves = record {
+  ends_of_info script status asked ends empty leaves = record {
     render = λ other others is. (let both : Some (c.Info script) ≡ Some (c.Render other others) = sym asked ∙ is in absurd (cc));
     journal_of = λ other others is. (let both : Some (c.Info script) ≡ Some (c.Render other others) = sym asked ∙ is in absurd (cc));
     info = λ other is. (let same : script ≡ other = (let both : Some (c.Info script) ≡ Some (c.Info other) = sym asked ∙ is in cc) in
@@ -477,6 +548,8 @@ module _ {F S K E : Type 0} (files : of_files.Ghosts F S) (sink : Ghosts K) (lin
     self_test = λ number is. (let both : Some (c.Info script) ≡ Some (c.SelfTest number) = sym asked ∙ is in absurd (cc));
     refused = λ none. (let both : Some (c.Info script) ≡ None = sym asked ∙ none in absurd (cc));
     usage = λ one. absurd (not_one status (let causes = ends.causes in causes.known) one);
+    no_journal = λ none other others is. (let both : Some (c.Info script) ≡ Some (c.Render other others) = sym asked ∙ is in absurd (cc));
+    some_journal = λ log there. (let both : None ≡ Some log = sym empty ∙ there in absurd (cc));
     keeps = leaves.0;
     later = leaves.1;
     later_lines = leaves.2;
@@ -487,9 +560,9 @@ module _ {F S K E : Type 0} (files : of_files.Ghosts F S) (sink : Ghosts K) (lin
   self_not_one status (inr (inl five)) one = omega (arith, five, one)
   self_not_one status (inr (inr six)) one = omega (arith, six, one)
 
-  ends_of_self_test : (number status : ℕ) → command_in words ≡ Some (c.SelfTest number) → SelfTestEnds sink lines out new err said number status → g ≡ f → Leaves
+  ends_of_self_test : (number status : ℕ) → command_in words ≡ Some (c.SelfTest number) → SelfTestEnds sink lines out new err said number status → g ≡ f → journal ≡ None → Leaves
       → Ends files sink lines f g out new err said words status journal
-  ends_of_self_test number status asked ends stay leaves = record {
+  ends_of_self_test number status asked ends stay empty leaves = record {
     render = λ other others is. (let both : Some (c.SelfTest number) ≡ Some (c.Render other others) = sym asked ∙ is in absurd (cc));
     journal_of = λ other others is. (let both : Some (c.SelfTest number) ≡ Some (c.Render other others) = sym asked ∙ is in absurd (cc));
     info = λ other is. (let both : Some (c.SelfTest number) ≡ Some (c.Info other) = sym asked ∙ is in absurd (cc));
@@ -497,6 +570,8 @@ module _ {F S K E : Type 0} (files : of_files.Ghosts F S) (sink : Ghosts K) (lin
         (subst (λ n. SelfTestEnds sink lines out new err said n status) same ends, stay));
     refused = λ none. (let both : Some (c.SelfTest number) ≡ None = sym asked ∙ none in absurd (cc));
     usage = λ one. absurd (self_not_one status ends.known one);
+    no_journal = λ none other others is. (let both : Some (c.SelfTest number) ≡ Some (c.Render other others) = sym asked ∙ is in absurd (cc));
+    some_journal = λ log there. (let both : None ≡ Some log = sym empty ∙ there in absurd (cc));
     keeps = leaves.0;
     later = leaves.1;
     later_lines = leaves.2;
@@ -532,37 +607,41 @@ module _ {F S K E : Type 0} (files : of_files.Ghosts F S) (sink : Ghosts K) (lin
         record { run = run; text_is = ap₂ (λ (p : List Application) (l : Record). report p (windows_of l)) (sym is.plan_is) same }
 
   ends_of_done : (script : List ℕ) (options : RenderOptions) (done : Result (Option (List Application)) Stop) (log : Option Record) (status : ℕ) → journal ≡ log → command_in words ≡ Some (c.Render script options)
-      → RenderDoes files sink f g out new journal script options done → ScriptCuts (files.world f) script (cache_of options.cache) sink out new journal
+      → RenderDoes files sink f g out new journal script options done → ScriptCuts (files.world f) script (cache_of options.cache) sink out new (TellsStop (stop_in done)) journal
+      → HeadShows sink out new (HasInfo (files.world f) script) (stop_in done) journal
       → Finishes lines err said done log status → Leaves → Ends files sink lines f g out new err said words status journal
-  ends_of_done script options (Ok None) log status there asked (unasked, whole, serial) cut (none, quiet) leaves =
+  ends_of_done script options (Ok None) log status there asked (unasked, whole, serial) cut head (none, quiet) leaves =
       ends_of_render script options status asked (quietly script options whole.0 status whole.1 unasked none quiet)
-      (journal_of_whole files sink lines f g out new err said script (cache_of options.cache) journal status serial cut) leaves
-  ends_of_done script options (Ok (Some plan)) None status there asked done cut said_so leaves = absurd said_so
-  ends_of_done script options (Ok (Some plan)) (Some log) status there asked (with_report, whole, is) cut said_so leaves =
+      (journal_of_whole files sink lines f g out new err said script (cache_of options.cache) journal status (inl none) serial cut)
+      (unheaded sink out new _ None journal status head (λ bad. absurd (cc))) (headed_of sink out new _ None journal head) leaves
+  ends_of_done script options (Ok (Some plan)) None status there asked done cut head said_so leaves = absurd said_so
+  ends_of_done script options (Ok (Some plan)) (Some log) status there asked (with_report, whole, is) cut head said_so leaves =
       ends_of_render script options status asked (reported script options whole.0 status (report plan (windows_of log)) whole.1 with_report (report_is script options log plan there is) said_so.ends)
-      (journal_of_whole files sink lines f g out new err said script (cache_of options.cache) journal status is.run cut) leaves
-  ends_of_done script options (Err stop) log status there asked shown cut (is, says) leaves =
+      (journal_of_whole files sink lines f g out new err said script (cache_of options.cache) journal status (zero_or_five status _ _ said_so.ends) is.run cut)
+      (unheaded sink out new _ None journal status head (λ bad. absurd (cc))) (headed_of sink out new _ None journal head) leaves
+  ends_of_done script options (Err stop) log status there asked shown cut head (is, says) leaves =
       ends_of_render script options status asked (subst (Rendered script options) (sym is) (headline_of_stop files sink lines f g out new err said script (cache_of options.cache) journal options.report stop shown says))
-      (journal_of_stop files sink lines f g out new err said script (cache_of options.cache) journal stop status is cut) leaves
+      (journal_of_stop files sink lines f g out new err said script (cache_of options.cache) journal stop status is says cut)
+      (unheaded sink out new _ (Some stop) journal status head (wrote_of stop status is)) (headed_of sink out new _ (Some stop) journal head) leaves
 
   -- by what was done and what was said of it
-  pub ends_of : (command : Command) (done : Result (Option (List Application)) Stop) (status : ℕ) → command_in words ≡ Some command → Does files sink f g out new journal command done
+  pub ends_of : (command : Command) (done : Result (Option (List Application)) Stop) (status : ℕ) → command_in words ≡ Some command → Does files sink f g out new journal command done → LeavesNone command journal
       → Finishes lines err said done journal status → Leaves → Ends files sink lines f g out new err said words status journal
-  ends_of (c.Render script options) done status asked (does, cut) said_so leaves = ends_of_done script options done journal status refl asked does cut said_so leaves
-  ends_of (c.Info script) (Ok None) status asked done said_so leaves =
+  ends_of (c.Render script options) done status asked (does, cut, head) empty said_so leaves = ends_of_done script options done journal status refl asked does cut head said_so leaves
+  ends_of (c.Info script) (Ok None) status asked done empty said_so leaves =
       ends_of_info script status asked (subst (λ n. InfoEnds files sink lines f g out new err said script n) (sym said_so.0)
-      (info_of_whole files sink lines f g out new err said script done.0 done.1 said_so.1)) leaves
-  ends_of (c.Info script) (Ok (Some plan)) status asked done said_so leaves = absurd done
-  ends_of (c.Info script) (Err stop) status asked done said_so leaves =
+      (info_of_whole files sink lines f g out new err said script done.0 done.1 said_so.1)) empty leaves
+  ends_of (c.Info script) (Ok (Some plan)) status asked done empty said_so leaves = absurd done
+  ends_of (c.Info script) (Err stop) status asked done empty said_so leaves =
       ends_of_info script status asked (subst (λ n. InfoEnds files sink lines f g out new err said script n) (sym said_so.0)
-      (info_of_stop files sink lines f g out new err said script stop done said_so.1)) leaves
-  ends_of (c.SelfTest number) (Ok None) status asked done said_so leaves =
+      (info_of_stop files sink lines f g out new err said script stop done said_so.1)) empty leaves
+  ends_of (c.SelfTest number) (Ok None) status asked done empty said_so leaves =
       ends_of_self_test number status asked (subst (λ n. SelfTestEnds sink lines out new err said number n) (sym said_so.0)
-      (self_test_of_whole sink lines out new err said number done.0 said_so.1)) done.1 leaves
-  ends_of (c.SelfTest number) (Ok (Some plan)) status asked done said_so leaves = absurd done
-  ends_of (c.SelfTest number) (Err stop) status asked done said_so leaves =
+      (self_test_of_whole sink lines out new err said number done.0 said_so.1)) done.1 empty leaves
+  ends_of (c.SelfTest number) (Ok (Some plan)) status asked done empty said_so leaves = absurd done
+  ends_of (c.SelfTest number) (Err stop) status asked done empty said_so leaves =
       ends_of_self_test number status asked (subst (λ n. SelfTestEnds sink lines out new err said number n) (sym said_so.0)
-      (self_test_of_stop sink lines out new err said number stop done.0 said_so.1)) done.1 leaves
+      (self_test_of_stop sink lines out new err said number stop done.0 said_so.1)) done.1 empty leaves
 
 -- a report is asked for only of a journal that is there
 module _ {F S K : Type 0} (files : of_files.Ghosts F S) (sink : Ghosts K) (f g : F) (out new : K) (journal : Option Record) where
@@ -580,9 +659,14 @@ module _ {F S K E : Type 0} (files : of_files.Ghosts F S) (sink : Ghosts K) (lin
 
   -- memory ran out before anything was done
   memory_done : (command : Command) → Does files sink f f out out None command (Err Memory)
-  memory_done (c.Render script options) = (inl refl, tt)
+  memory_done (c.Render script options) = (inl refl, tt, inl refl)
   memory_done (c.Info script) = refl
   memory_done (c.SelfTest number) = (refl, refl)
+
+  none_left : (command : Command) → LeavesNone command None
+  none_left (c.Render script options) = tt
+  none_left (c.Info script) = refl
+  none_left (c.SelfTest number) = refl
 
   pub ends_of_memory : (command : Option Command) → command_in words ≡ command → (status : ℕ) → Finishes lines err said (Err Memory) None status
       → Ends files sink lines f f out out err said words status None
@@ -593,12 +677,14 @@ module _ {F S K E : Type 0} (files : of_files.Ghosts F S) (sink : Ghosts K) (lin
     self_test = λ number is. (let both : None ≡ Some (c.SelfTest number) = sym none ∙ is in absurd (cc));
     refused = λ is. record { line = inr said_so; files_stay = refl; out_stays = refl };
     usage = λ one. none;
+    no_journal = λ empty other others is. (let both : None ≡ Some (c.Render other others) = sym none ∙ is in absurd (cc));
+    some_journal = λ log there. absurd (cc);
     keeps = untouched;
     later = omega arith;
     later_lines = (let says = said_so.1 in says.later);
   }
   ends_of_memory (Some command) asked status said_so =
-      ends_of files sink lines f f out out err said words None command (Err Memory) status asked (memory_done command) said_so
+      ends_of files sink lines f f out out err said words None command (Err Memory) status asked (memory_done command) (none_left command) said_so
       (untouched, omega arith, (let says = said_so.1 in says.later))
 
   pub ends_of_usage : command_in words ≡ None → Says lines err said usage_line → Ends files sink lines f f out out err said words 1 None
@@ -609,6 +695,8 @@ module _ {F S K E : Type 0} (files : of_files.Ghosts F S) (sink : Ghosts K) (lin
     self_test = λ number is. (let both : None ≡ Some (c.SelfTest number) = sym none ∙ is in absurd (cc));
     refused = λ is. record { line = inl (refl, says); files_stay = refl; out_stays = refl };
     usage = λ one. none;
+    no_journal = λ empty other others is. (let both : None ≡ Some (c.Render other others) = sym none ∙ is in absurd (cc));
+    some_journal = λ log there. absurd (cc);
     keeps = untouched;
     later = omega arith;
     later_lines = says.later;

@@ -1,9 +1,7 @@
 -- What was put of a clip, from what a render of its core leaves.
-use Rattle.std.proofs.Common.{◌≡◌, ◌∙◌, ◌⊎◌, ℕ, zero, suc, ◌≤◌, ◌==◌, min, Bool, true, false, List, [], ◌++◌, take, map, Option, Some, refl, inl, inr, sym, ap, subst, arith}
+use Rattle.std.proofs.Common.{◌≡◌, ◌∙◌, ℕ, zero, suc, ◌≤◌, ◌==◌, min, Bool, true, false, List, [], ◌++◌, take, map, Option, Some, None, refl, inl, inr, sym, ap, subst, arith}
 use Rattle.std.proofs.lemmas.List.FromFn.{length-map-range_with_len, take-map-range_with_len}
 use Rattle.std.proofs.lemmas.Bool.{eqb-true, eqb-false}
-use Rattle.std.proofs.lemmas.List.{append-nil}
-use Rattle.fv_io.specs.Faults.{HasRisen}
 use Rattle.fv_io.specs.declared.source.Source as of_source
 use Rattle.fv_io.specs.declared.sink.Sink.{Ghosts}
 use Rattle.fv_io.specs.Sink.{Puts, PutsPrefix, SinkFailed, IsLater}
@@ -21,6 +19,7 @@ use Rattle.clip_graph.specs.Unfolding.{key_picture}
 use Rattle.inst_table.specs.declared.place.Place.{Place}
 use Rattle.inst_table.specs.declared.place.Slot.{Slot}
 use Rattle.inst_table.specs.Places.{shared_place}
+use Rattle.serve_events.specs.declared.event.WindowStop.{WindowStop}
 use Rattle.serve_events.specs.declared.event.WindowStop.TheVariants as worker
 use Rattle.serve_events.specs.declared.windows.Record.{Record}
 use Rattle.serve_events.specs.Keys.{frame_key}
@@ -32,20 +31,19 @@ use Rattle.serve_core.specs.Stands.{Book, Stands, ExceedsAct}
 use Rattle.serve_worker.specs.declared.instance.Instance.{Instance}
 use Rattle.serve_worker.specs.declared.instance.Instance.TheVariants as of_instance
 use Rattle.serve_worker.specs.Instances.{Ends, feed_of, faults_of, holds_of}
-use Rattle.serve_worker.specs.Made.{EndsThere}
 use Rattle.prefetch.specs.declared.stops.RenderStop.{RenderStop}
 use Rattle.prefetch.specs.declared.stops.RenderStop.TheVariants.{Stopped, Write, Memory}
 use Rattle.prefetch.specs.Clips.{pictures_from, clip_at}
-use Rattle.prefetch.specs.Journal.{IsJournal, IsWholeJournal}
+use Rattle.prefetch.specs.Journal.{AreFirst, IsWholeJournal}
 use Rattle.prefetch.specs.Rendered.{Begins}
 use Rattle.prefetch.specs.Windows.{frames_at, pictures_text, PutsFirst, RendersAll, RenderStops}
 use Rattle.prefetch.proofs.TextLemmas.{text_of_part}
 use Rattle.serve_text.specs.declared.stop.Stop.{Stop}
 use Rattle.serve_text.specs.declared.stop.Stop.TheVariants as of_stop
 use Rattle.serve_app.specs.Clips.{IsClipOf, SomeFailed, PutsFrames, PutsSome, StreamShows}
-use Rattle.serve_app.specs.Journals.{PutsCount, IsCutShort}
-use Rattle.serve_app.specs.Rendered.{EndsInFrame}
-use Rattle.serve_app.specs.Streams.{HeadStops, ToldAs}
+use Rattle.serve_app.specs.Journals.{PutsCount, FailsWithin, CutsShort}
+use Rattle.serve_app.specs.Rendered.{EndsInFrame, PutsHead}
+use Rattle.serve_app.specs.Streams.{HeadStops, ToldAs, TellsStop, HeadShows}
 
 begins_first : (book : List (List Picture)) (plan : List Application) (root n : ℕ) → n ≤ frames_at plan root
     → Begins (record { info = (application_at plan root).info; pictures = pictures_from book plan root 0 n }) (clip_at book plan root)
@@ -68,19 +66,20 @@ next_after plan root capacity total zero = omega arith
 next_after plan root capacity total (suc k) = next_of plan root capacity total (windows_after k plan root capacity 1 total []) k (next_after plan root capacity total k)
 
 -- the whole serial run is a beginning of it
-begins_itself : (plan : List Application) (root capacity total : ℕ) (windows : List WindowEvents) → IsWholeJournal plan root capacity 1 total windows → IsJournal plan root capacity 1 total windows total
+begins_itself : (plan : List Application) (root capacity total : ℕ) (windows : List WindowEvents) → IsWholeJournal plan root capacity 1 total windows → AreFirst plan root capacity 1 total windows total
 begins_itself plan root capacity total windows whole = record {
-  whole = windows;
-  rest = [];
-  windows_are = sym (append-nil windows);
-  first = record {
-    most = total;
-    few = omega arith;
-    windows_are = sym whole;
-    next_is = let next = next_after plan root capacity total total in omega (arith, next);
-  };
-  last = inl refl;
+  most = total;
+  few = omega arith;
+  windows_are = sym whole;
+  next_is = let next = next_after plan root capacity total total in omega (arith, next);
 }
+
+-- the stop of a worker is told as it is
+tells_stop : (plan : List Application) (why : WindowStop) (told : Stop) → ToldAs plan (Stopped why) told → TellsStop (Some told) plan (Some why)
+tells_stop plan (worker.Read node) told is = ap Some is
+tells_stop plan (worker.Changed node frame want got) told (inl is) = inl (ap Some is)
+tells_stop plan (worker.Changed node frame want got) told (inr is) = inr (ap Some is)
+tells_stop plan worker.Memory told is = ap Some is
 
 -- a source that exceeds its number has failed
 one_failed : {I : Type 0} (feed : I → Option (List Picture)) (faults : I → ℕ) (book : Book) (numbers : List ℕ) (act : Act) (x : I) → is_source act ≡ true → ExceedsAct feed faults book numbers act x → 1 ≤ faults x
@@ -123,10 +122,10 @@ module _ {S K : Type 0} (of : of_source.Ghosts S) (sink : Ghosts K) (c : CoreVal
       inr (record { part = frames.part; put = frames.put; begins = frames.begins; has_one = tt })
 
   count_put : (n : ℕ) → n ≤ frames_at c.fixed.plan c.fixed.root → PutsFirst holds_of (feed_of of) (faults_of of) Ends c sink mid new n
-      → PutsCount c.fixed.plan c.fixed.root c.fixed.capacity sink old new n
+      → PutsCount c.fixed.plan c.fixed.root c.fixed.capacity sink old new (IsClipOf c.fixed.plan c.fixed.root (book_of (feed_of of) c.fixed.plan c.table)) n
   count_put n few first =
       let frames = frames_put n few first in
-      record { part = frames.part; count = frames.count; put = frames.put }
+      record { part = frames.part; info_is = frames.info_is; count = frames.count; begins = frames.begins; put = frames.put }
 
   ends_by : (x : Instance S) (frame want got n : ℕ) → n ≤ frames_at c.fixed.plan c.fixed.root → PutsFirst holds_of (feed_of of) (faults_of of) Ends c sink mid new n
       → Ends x frame want got → EndsInFrame sink old new frame want got
@@ -159,16 +158,38 @@ module _ {S K : Type 0} (of : of_source.Ghosts S) (sink : Ghosts K) (c : CoreVal
       let whole = gets_more (sink.bytes old) (sink.bytes new) (start ++ text) rest.0 after in
       subst (λ other. PutsPrefix sink old new (stream other)) (sym is.clip_is) (subst (λ t. PutsPrefix sink old new t) (sym rest.1) whole)
 
+  -- of its first frames
+  within_first : (n : ℕ) → n ≤ frames_at c.fixed.plan c.fixed.root → SinkFailed sink old new
+      → ((b : List (List Picture)) (numbers : List ℕ) → Stands (feed_of of) (faults_of of) (Some b) numbers c
+      → PutsPrefix sink mid new (pictures_text (pictures_from b c.fixed.plan c.fixed.root 0 n)))
+      → FailsWithin c.fixed.plan c.fixed.root c.fixed.capacity sink old new (IsClipOf c.fixed.plan c.fixed.root (book_of (feed_of of) c.fixed.plan c.table)) n
+  within_first n few failed cut = record {
+    failed = failed;
+    cut = λ clip is.
+        (let told = subst (λ book. Stands (feed_of of) (faults_of of) book (faults_in (faults_of of) c.fixed.plan c.table) c) is.told stands in
+        let text = pictures_text (pictures_from is.pictures c.fixed.plan c.fixed.root 0 n) in
+        let start = head (application_at c.fixed.plan c.fixed.root).info in
+        let after = gets_after (sink.bytes old) (sink.bytes mid) (sink.bytes new) start text headed (cut is.pictures _ told) in
+        subst (λ (whole : Clip). PutsPrefix sink old new (stream (record whole { pictures = take n whole.pictures }))) (sym is.clip_is)
+        (subst (λ (l : List Picture). PutsPrefix sink old new (stream (record { info = (application_at c.fixed.plan c.fixed.root).info; pictures = l })))
+        (sym (take-map-range_with_len (λ i. key_picture is.pictures c.fixed.plan (frame_key c.fixed.root i)) 0 (frames_at c.fixed.plan c.fixed.root) n few)) after));
+  }
+
   module _ (windows : List WindowEvents) (d : CoreValue (Instance S)) where
+    pub plan_stays : (stop : RenderStop) → RenderStops holds_of (feed_of of) (faults_of of) Ends c sink mid new 1 windows d stop → d.fixed.plan ≡ c.fixed.plan
+    plan_stays (Stopped why) shown = let stays = shown.stays in stays.plan
+    plan_stays Write shown = let stays = shown.stays in stays.plan
+    plan_stays Memory shown = let stays = shown.stays in stays.plan
+
     -- what a stop shows
-    pub stream_stops : (stop : RenderStop) (told : Stop) → IsLater sink old mid → RenderStops holds_of (feed_of of) (faults_of of) Ends c sink mid new 1 windows d stop → ToldAs stop told
+    pub stream_stops : (stop : RenderStop) (told : Stop) → IsLater sink old mid → RenderStops holds_of (feed_of of) (faults_of of) Ends c sink mid new 1 windows d stop → ToldAs c.fixed.plan stop told
         → StreamShows sink c.fixed.plan c.fixed.root (book_of (feed_of of) c.fixed.plan c.table) old new (faults_of of) d.table told
     stream_stops (Stopped (worker.Read i)) told later shown is =
         let still = shown.stands _ _ stands in
         let failed = still.with_it in
-        let failure : SomeFailed (faults_of of) d.table = record { place = shared_place i; instance = failed.instance; there = failed.there; failed = one_failed (feed_of of) (faults_of of) (book_of (feed_of of) c.fixed.plan c.table) still.numbers _ failed.instance shown.named failed.more } in
+        let failure : SomeFailed (faults_of of) d.table = record { place = shared_place i; instance = failed.instance; there = failed.there; failed = one_failed (feed_of of) (faults_of of) (book_of (feed_of of) c.fixed.plan c.table) still.numbers _ failed.instance shown.journal.cut.named failed.more } in
         subst (StreamShows sink c.fixed.plan c.fixed.root (book_of (feed_of of) c.fixed.plan c.table) old new (faults_of of) d.table) (sym is) (failure, some_put shown.count shown.few shown.put)
-    stream_stops (Stopped (worker.Changed i frame want got)) told later shown (inl (name, is)) =
+    stream_stops (Stopped (worker.Changed i frame want got)) told later shown (inl is) =
         let still = shown.stands _ _ stands in
         let ended = shown.ended in
         subst (StreamShows sink c.fixed.plan c.fixed.root (book_of (feed_of of) c.fixed.plan c.table) old new (faults_of of) d.table) (sym is)
@@ -184,21 +205,44 @@ module _ {S K : Type 0} (of : of_source.Ghosts S) (sink : Ghosts K) (c : CoreVal
         subst (StreamShows sink c.fixed.plan c.fixed.root (book_of (feed_of of) c.fixed.plan c.table) old new (faults_of of) d.table) (sym is) (some_put shown.count shown.few shown.put)
 
   -- and of the journal
-  pub cut_short : (log : Record) (d : CoreValue (Instance S)) (stop : RenderStop) → IsLater sink old mid → RenderStops holds_of (feed_of of) (faults_of of) Ends c sink mid new 1 (windows_of log) d stop
-      → IsCutShort c.fixed.plan c.fixed.root c.fixed.capacity sink old new log
-  cut_short log d (Stopped why) later shown = record { n = shown.count; few = shown.few; windows = shown.journal; put = inl (count_put shown.count shown.few shown.put) }
-  cut_short log d Write later shown = record { n = shown.count; few = shown.few; windows = shown.journal; put = inr (omega (arith, later, shown.failed)) }
-  cut_short log d Memory later shown = record { n = shown.count; few = shown.few; windows = shown.journal; put = inl (count_put shown.count shown.few shown.put) }
+  pub cut_short : (log : Record) (d : CoreValue (Instance S)) (stop : RenderStop) (told : Stop) → IsLater sink old mid → RenderStops holds_of (feed_of of) (faults_of of) Ends c sink mid new 1 (windows_of log) d stop → ToldAs c.fixed.plan stop told
+      → CutsShort c.fixed.plan c.fixed.root c.fixed.capacity sink old new (IsClipOf c.fixed.plan c.fixed.root (book_of (feed_of of) c.fixed.plan c.table)) (TellsStop (Some told) c.fixed.plan) (Some log)
+  cut_short log d (Stopped why) told later shown is = (Some why, tells_stop c.fixed.plan why told is, record { n = shown.count; few = shown.few; windows = shown.journal; put = inl (count_put shown.count shown.few shown.put) })
+  cut_short log d Write told later shown is = (None, inr (inl (ap Some is)), record { n = shown.count; few = shown.few; windows = shown.journal; put = inr (within_first shown.count shown.few (omega (arith, later, shown.failed)) shown.cut) })
+  cut_short log d Memory told later shown is = (None, inr (inr (ap Some is)), record { n = shown.count; few = shown.few; windows = shown.journal; put = inl (count_put shown.count shown.few shown.put) })
 
   -- the whole serial run begins the serial run
   pub whole_short : (log : Record) (d : CoreValue (Instance S)) → RendersAll holds_of (feed_of of) (faults_of of) Ends c sink mid new 1 (windows_of log) d
-      → IsCutShort c.fixed.plan c.fixed.root c.fixed.capacity sink old new log
-  whole_short log d all = record {
-    n = frames_at c.fixed.plan c.fixed.root;
-    few = omega arith;
-    windows = begins_itself c.fixed.plan c.fixed.root c.fixed.capacity (frames_at c.fixed.plan c.fixed.root) (windows_of log) all.journal;
-    put = inl (count_put (frames_at c.fixed.plan c.fixed.root) (omega arith) all.put);
+      → CutsShort c.fixed.plan c.fixed.root c.fixed.capacity sink old new (IsClipOf c.fixed.plan c.fixed.root (book_of (feed_of of) c.fixed.plan c.table)) (TellsStop None c.fixed.plan) (Some log)
+  whole_short log d all = (
+    None,
+    inl refl,
+    record {
+      n = frames_at c.fixed.plan c.fixed.root;
+      few = omega arith;
+      windows = begins_itself c.fixed.plan c.fixed.root c.fixed.capacity (frames_at c.fixed.plan c.fixed.root) (windows_of log) all.journal;
+      put = inl (count_put (frames_at c.fixed.plan c.fixed.root) (omega arith) all.put);
+    },
+  )
+
+  -- the head was put, and what a render puts after it
+  head_then : (rest : List ℕ) → Puts sink mid new rest → PutsHead sink old new (λ info. info ≡ (application_at c.fixed.plan c.fixed.root).info)
+  head_then rest put = record {
+    info = (application_at c.fixed.plan c.fixed.root).info;
+    is = refl;
+    rest = rest;
+    put = put ∙ ap (λ told. with_piece told rest) headed ∙ with_piece_twice (sink.bytes old) (head (application_at c.fixed.plan c.fixed.root).info) rest;
   }
+
+  pub head_of_all : (log : Record) (d : CoreValue (Instance S)) (told : Option Stop) → RendersAll holds_of (feed_of of) (faults_of of) Ends c sink mid new 1 (windows_of log) d
+      → HeadShows sink old new (λ info. info ≡ (application_at c.fixed.plan c.fixed.root).info) told (Some log)
+  head_of_all log d told all = let first = all.put in head_then (pictures_text first.pictures) first.put
+
+  pub head_of_stop : (log : Record) (d : CoreValue (Instance S)) (told : Option Stop) (stop : RenderStop) → RenderStops holds_of (feed_of of) (faults_of of) Ends c sink mid new 1 (windows_of log) d stop
+      → HeadShows sink old new (λ info. info ≡ (application_at c.fixed.plan c.fixed.root).info) told (Some log)
+  head_of_stop log d told (Stopped why) shown = let first = shown.put in head_then (pictures_text first.pictures) first.put
+  head_of_stop log d told Write shown = let begun = shown.begun in head_then begun.0 begun.1
+  head_of_stop log d told Memory shown = let first = shown.put in head_then (pictures_text first.pictures) first.put
 
 -- a render, whatever it ended by, leaves a core between windows
 module _ {K : Type 0} (sink : Ghosts K) (old new : K) where
@@ -216,3 +260,12 @@ module _ {K : Type 0} (sink : Ghosts K) (old new : K) where
         subst (λ whole. PutsPrefix sink old new (stream whole)) (sym is.clip_is) (gets_more (sink.bytes old) (sink.bytes new) (head (application_at plan root).info) text shown.1)),
   )
   head_stops of plan root table of_stop.Memory shown = inl (ap sink.bytes shown)
+
+  -- and there is no journal then
+  pub head_unput : (info : Info) (stop : Stop) → HeadStops sink old new (head info) stop → HeadShows sink old new (λ i. i ≡ info) (Some stop) None
+  head_unput info (of_stop.Script kind name line) shown = absurd shown
+  head_unput info (of_stop.Input name fault) shown = absurd shown
+  head_unput info (of_stop.Changed name frame want got) shown = absurd shown
+  head_unput info of_stop.Read shown = absurd shown
+  head_unput info of_stop.Write shown = inr (refl, record { info = info; is = refl; failed = shown.0; cut = shown.1 })
+  head_unput info of_stop.Memory shown = inl (ap sink.bytes shown)

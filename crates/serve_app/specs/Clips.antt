@@ -1,5 +1,5 @@
 -- The clip of a plan over the frames that its sources tell, and what was put of it.
-use Rattle.std.specs.Prelude.{◌≡◌, ◌⊎◌, ℕ, ◌≤◌, List, length, map, All, Some}
+use Rattle.std.specs.Prelude.{◌≡◌, ℕ, ◌≤◌, List, length, map, All, Some}
 use Rattle.fv_io.specs.declared.source.Source as of_source
 use Rattle.fv_io.specs.declared.sink.Sink.{Ghosts}
 use Rattle.fv_io.specs.Sink.{Puts, PutsPrefix, SinkFailed}
@@ -15,7 +15,7 @@ use Rattle.inst_table.specs.Places.{slot_at}
 use Rattle.serve_core.specs.Sources.{all_told}
 use Rattle.serve_core.specs.Stands.{Book}
 use Rattle.prefetch.specs.Clips.{clip_at}
-use Rattle.prefetch.specs.Rendered.{Begins, PutsNothing}
+use Rattle.prefetch.specs.Rendered.{Begins}
 use Rattle.serve_text.specs.declared.stop.Stop.{Stop}
 use Rattle.serve_text.specs.declared.stop.Stop.TheVariants as of_stop
 use Rattle.serve_app.specs.Rendered.{PutsWholeFrames, EndsInFrame}

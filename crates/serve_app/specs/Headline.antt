@@ -14,6 +14,9 @@ use Rattle.avs_meaning.specs.declared.fault.InputFault.{InputFault}
 use Rattle.avs_meaning.specs.declared.fault.ScriptKind.{ScriptKind}
 use Rattle.command_line.specs.Command.{command_in}
 use Rattle.command_line.specs.declared.command.RenderOptions.{RenderOptions}
+use Rattle.clip_graph.specs.Plan.{Application}
+use Rattle.serve_events.specs.declared.event.WindowStop.{WindowStop}
+use Rattle.serve_events.specs.declared.event.WindowStop.TheVariants.{Read, Changed, Memory}
 use Rattle.serve_events.specs.declared.windows.Record.{Record}
 use Rattle.serve_app.specs.Words.{IsRender, IsInfo, IsSelfTest}
 use Rattle.serve_app.specs.Meaning.{Meaning, MeansClip, Means, status_of}
@@ -22,8 +25,9 @@ use Rattle.serve_app.specs.Journals.{cache_of, IsScriptSerial, IsReport, ScriptC
 use Rattle.serve_text.specs.Reports.{CutsReport}
 use Rattle.serve_app.specs.SelfTest.{SelfTestEnds}
 use Rattle.prefetch.specs.Rendered.{PutsNothing}
-use Rattle.serve_app.specs.Rendered.{PutsWholeFrames, EndsInFrame}
-use Rattle.serve_app.specs.Stop.{IsOfScript, ScriptHasClip, HasFault, HasChanged, IsScriptFault}
+use Rattle.serve_app.specs.Rendered.{PutsWholeFrames, EndsInFrame, PutsHead, PutsNoHead}
+use Rattle.serve_app.specs.Stop.{IsOfScript, ScriptHasClip, HasInfo, HasFault, HasChanged, IsScriptFault}
+use Rattle.serve_app.specs.Streams.{file_at}
 use Rattle.serve_text.specs.Lines.{Says, usage_line, read_line, write_line, memory_line, script_line, input_line, file_line, changed_kind}
 
 module _ {F S K E : Type 0} (files : of_files.Ghosts F S) (sink : Ghosts K) (lines : Ghosts E)
@@ -55,6 +59,16 @@ module _ {F S K E : Type 0} (files : of_files.Ghosts F S) (sink : Ghosts K) (lin
       pub is : HasChanged (files.world f)
       pub line : Says lines err said (file_line name (changed_kind frame want got))
       pub put : EndsInFrame sink out new frame want got
+
+    -- how a render ends that leaves a journal, by the stop that cut its last window short. Where none did, a write
+    -- failed or memory ran out. Where an input changed, the line has its name, the frame and both places, or there is no
+    -- memory for the name
+    abbrev pub EndsBy : ℕ → List Application → Option WindowStop → Type 0
+    EndsBy status plan None = (status ≡ 5) ⊎ (status ≡ 6)
+    EndsBy status plan (Some (Read node)) = status ≡ 4
+    EndsBy status plan (Some (Changed node frame want got)) =
+        (status ≡ 3) × Says lines err said (file_line (file_at plan node) (changed_kind frame want got)) ⊎ (status ≡ 6)
+    EndsBy status plan (Some Memory) = status ≡ 6
 
     -- a write to the output failed
     abbrev pub WriteFails : Type 0
@@ -114,10 +128,10 @@ module _ {F S K E : Type 0} (files : of_files.Ghosts F S) (sink : Ghosts K) (lin
             → PutsWholeFrames sink out new (IsOfScript (files.world f) script) (ScriptHasClip (files.world f) script)
         pub causes : Causes (Quiet report) (Unwritten report) status
 
-      -- the journal: the serial run, or the beginning of it
+      -- the journal: the serial run, or the beginning of it up to a stop, which the status and the line tell
       pub record JournalEnds (status : ℕ) : Type 0 where
         pub serial : status ≡ 0 → IsScriptSerial (files.world f) script capacity journal
-        pub cut : (status ≡ 0 → ⊥) → ScriptCuts (files.world f) script capacity sink out new journal
+        pub cut : (status ≡ 0 → ⊥) → ScriptCuts (files.world f) script capacity sink out new (EndsBy status) journal
 
     -- what is known of the script's clip
     pub record InfoEnds (status : ℕ) : Type 0 where
@@ -128,6 +142,8 @@ module _ {F S K E : Type 0} (files : of_files.Ghosts F S) (sink : Ghosts K) (lin
       pub nothing : InWorld (files.world f) (λ world.
           ((clip : Clip) → MeansClip world script clip → ⊥) → PutsNothing sink out new)
       pub unwritten : (status ≡ 4) ⊎ (status ≡ 6) → PutsNothing sink out new
+      -- no input changes
+      pub by_input : status ≡ 3 → EndsByInput
       pub causes : Causes (said ≡ err) WriteFails status
 
   -- the words break the rules: nothing is touched but for the line
@@ -146,6 +162,12 @@ module _ {F S K E : Type 0} (files : of_files.Ghosts F S) (sink : Ghosts K) (lin
     pub self_test : (number : ℕ) → IsSelfTest words number → SelfTestEnds sink lines out new err said number status × (g ≡ f)
     pub refused : command_in words ≡ None → IsRefused status
     pub usage : status ≡ 1 → command_in words ≡ None
+    -- there is no journal only where no whole head was put, or the words ask for no render
+    pub no_journal : journal ≡ None → (script : List ℕ) (options : RenderOptions) → IsRender words script options
+        → PutsNoHead sink out new (HasInfo (files.world f) script) (status ≡ 5)
+    -- and a journal only where the words ask for a render, and its head was put whole
+    pub some_journal : (log : Record) → journal ≡ Some log → (script : List ℕ) × (options : RenderOptions)
+        × IsRender words script options × PutsHead sink out new (HasInfo (files.world f) script)
     -- each file that was fetched is closed, and no count of faults falls
     pub keeps : KeepsFiles files f g
     pub later : IsLater sink out new

@@ -52,6 +52,15 @@ abbrev pub MeansOneThing : Type 0
 MeansOneThing = (world : World) (name : List ℕ) (one other : Meaning)
     → Means world name one → Means world name other → one ≡ other
 
+-- the script means something
+pub record HasMeaning (world : World) (name : List ℕ) : Type 0 where
+  pub meaning : Meaning
+  pub means : Means world name meaning
+
+-- each script means something, in each world
+abbrev pub MeansSomething : Type 0
+MeansSomething = (world : World) (name : List ℕ) → HasMeaning world name
+
 abbrev pub status_of_fault : Fault → ℕ
 status_of_fault (script kind name line) = 2
 status_of_fault (refused name) = 2

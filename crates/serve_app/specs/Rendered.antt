@@ -1,14 +1,34 @@
 -- What a render puts of a clip: its text, a prefix of it, or its head and whole frames.
-use Rattle.std.specs.Prelude.{◌≡◌, ◌⊎◌, ℕ, ◌<◌, All}
+use Rattle.std.specs.Prelude.{◌≡◌, ◌⊎◌, ℕ, ◌<◌, List, ◌++◌, All}
 use Rattle.fv_io.specs.declared.sink.Sink.{Ghosts}
-use Rattle.fv_io.specs.Sink.{Puts, PutsPrefix}
+use Rattle.fv_io.specs.Sink.{Puts, PutsPrefix, SinkFailed}
 use Rattle.fv_plane.specs.Clip.{Clip}
+use Rattle.fv_plane.specs.declared.format.Info.{Info}
+use Rattle.y4m_stream.specs.Head.{head}
 use Rattle.seq_source.specs.FrameSource.{end_of}
 use Rattle.y4m_stream.specs.Index.{Indexed, IsIndex}
 use Rattle.y4m_stream.specs.Stream.{stream}
 use Rattle.prefetch.specs.Rendered.{Begins, PutsNothing}
 
 module _ {K : Type 0} (sink : Ghosts K) (old new : K) where
+  -- a head of this kind was put whole, and perhaps more after it
+  pub record PutsHead (IsIts : Info → Type 0) : Type 0 where
+    pub info : Info
+    pub is : IsIts info
+    pub rest : List ℕ
+    pub put : Puts sink old new (head info ++ rest)
+
+  -- the sink failed in a head of this kind
+  pub record FailsInHead (IsIts : Info → Type 0) : Type 0 where
+    pub info : Info
+    pub is : IsIts info
+    pub failed : SinkFailed sink old new
+    pub cut : PutsPrefix sink old new (head info)
+
+  -- no whole head was put: nothing was, or a write failed in the head
+  abbrev pub PutsNoHead : (Info → Type 0) → Type 0 → Type 0
+  PutsNoHead IsIts WriteFailed = PutsNothing sink old new ⊎ (WriteFailed × FailsInHead IsIts)
+
   -- the head and whole frames were put. Each clip of the kind begins with them, and there is such a clip where the
   -- bytes are told
   pub record PutsPart (IsIts : Clip → Type 0) (HasOne : Type 0) : Type 0 where

@@ -19,7 +19,8 @@ use Rattle.serve_text.specs.Lines.{Says, stop_line}
 use Rattle.serve_app.specs.Playing.{PutsClip, PutsInfo}
 use Rattle.serve_text.specs.Reports.{Reports}
 use Rattle.serve_app.specs.SelfTest.{PutsSelfLine, SelfTestShows}
-use Rattle.serve_app.specs.Stop.{RenderShows, ScriptHasClip}
+use Rattle.serve_app.specs.Stop.{RenderShows, ScriptHasClip, HasInfo}
+use Rattle.serve_app.specs.Streams.{stop_in, TellsStop, HeadShows}
 
 -- the cache of a render, where its size was given, holds a frame
 abbrev pub HasCache : Command → Type 0
@@ -42,7 +43,8 @@ module _ {F S K : Type 0} (files : of_files.Ghosts F S) (sink : Ghosts K) (f g :
 
   abbrev pub Does : Command → Result (Option (List Application)) Stop → Type 0
   Does (Render script options) done = RenderDoes script options done
-      × ScriptCuts (files.world f) script (cache_of options.cache) sink out new journal
+      × ScriptCuts (files.world f) script (cache_of options.cache) sink out new (TellsStop (stop_in done)) journal
+      × HeadShows sink out new (HasInfo (files.world f) script) (stop_in done) journal
   Does (Info script) (Ok None) =
       InWorld (files.world f) (λ world. PutsInfo sink world script out new) × ScriptHasClip (files.world f) script
   Does (Info script) (Ok (Some plan)) = ⊥
@@ -50,6 +52,12 @@ module _ {F S K : Type 0} (files : of_files.Ghosts F S) (sink : Ghosts K) (f g :
   Does (SelfTest number) (Ok None) = PutsSelfLine sink out new number × (g ≡ f)
   Does (SelfTest number) (Ok (Some plan)) = ⊥
   Does (SelfTest number) (Err stop) = SelfTestShows sink out new number stop × (g ≡ f)
+
+-- a journal is left only by a render
+abbrev pub LeavesNone : Command → Option Record → Type 0
+LeavesNone (Render script options) journal = Unit {0}
+LeavesNone (Info script) journal = journal ≡ None
+LeavesNone (SelfTest number) journal = journal ≡ None
 
 -- a report is asked for only of a journal that is there
 abbrev pub HasLog : Result (Option (List Application)) Stop → Option Record → Type 0

@@ -4,6 +4,7 @@ use Rattle.fv_io.specs.declared.sink.Sink.{Ghosts}
 use Rattle.fv_io.specs.Sink.{SinkFailed}
 use Rattle.fv_io.specs.World.{World, InWorld}
 use Rattle.fv_plane.specs.Clip.{Clip}
+use Rattle.fv_plane.specs.declared.format.Info.{Info}
 use Rattle.prefetch.specs.Rendered.{PutsNothing}
 use Rattle.avs_meaning.specs.Faults.{Fault, input}
 use Rattle.avs_meaning.specs.declared.fault.ScriptKind.{ScriptKind}
@@ -21,6 +22,10 @@ pub record IsOfScript (told : Option World) (script : List ℕ) (clip : Clip) : 
 
 abbrev pub ScriptHasClip : Option World → List ℕ → Type 0
 ScriptHasClip told script = InWorld told (λ world. (clip : Clip) × MeansClip world script clip)
+
+-- where a world is told, this is the info of the script's clip
+abbrev pub HasInfo : Option World → List ℕ → Info → Type 0
+HasInfo told script info = InWorld told (λ world. (clip : Clip) × MeansClip world script clip × (info ≡ clip.info))
 
 -- where a world is told, this is the first fault of the script
 abbrev pub HasFault : Option World → List ℕ → Fault → Type 0

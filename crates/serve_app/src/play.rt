@@ -4,6 +4,7 @@ ghost use Rattle.fv_io.specs.Sink.{IsLater};
 ghost use Rattle.fv_io.specs.Faults.{HasRisen};
 ghost use Rattle.fv_io.specs.World.{InWorld};
 ghost use Rattle.clip_frames.specs.Sources.{AreSources};
+ghost use Rattle.clip_graph.specs.Plan.{application_at};
 ghost use Rattle.serve_worker.specs.Alone.{AllFree};
 ghost use Rattle.serve_worker.specs.Furnishing.{sources_in};
 ghost use Rattle.serve_worker.specs.Instances.{faults_of};
@@ -14,11 +15,12 @@ ghost use Rattle.serve_text.specs.InfoText as t;
 ghost use Rattle.avs_eval.specs.OutsideBy.{outside_by};
 ghost use Rattle.avs_eval.specs.Evaluates.{Opens};
 ghost use Rattle.avs_files.specs.Opened.{told_of};
-ghost use Rattle.serve_app.specs.Clips.{book_told, PutsFrames, StreamShows};
+ghost use Rattle.serve_app.specs.Clips.{book_told, IsClipOf, PutsFrames, StreamShows};
 ghost use Rattle.serve_app.specs.Info.{InfoShows};
 ghost use Rattle.serve_app.specs.Journals.{IsSerial, CutsShort};
 ghost use Rattle.serve_app.specs.Playing.{Tells, EndsBefore, PutsInfo, with_graph};
 ghost use Rattle.serve_app.specs.Stop.{ScriptHasClip};
+ghost use Rattle.serve_app.specs.Streams.{stop_in, TellsStop, HeadShows};
 
 use crate::shared::Shared;
 use crate::stream::put_clip;
@@ -105,7 +107,11 @@ pub(crate) fn put_opened<S: Source, K: Sink>(
     ensures stop { IfErr result.1 (StreamShows K.Sink opened.graph opened.root (book_told S.Source sources.old.items)
         out.old out.new (faults_of S.Source) result.0) }
     ensures serial { OnOk result.1 (IsSerial opened.graph opened.root cache journal.new) }
-    ensures cut { CutsShort opened.graph opened.root cache K.Sink out.old out.new journal.new }
+    ensures cut { CutsShort opened.graph opened.root cache K.Sink out.old out.new
+        (IsClipOf opened.graph opened.root (book_told S.Source sources.old.items))
+        (TellsStop (stop_in result.1) opened.graph) journal.new }
+    ensures head { HeadShows K.Sink out.old out.new (λ info. info ≡ (application_at opened.graph opened.root).info)
+        (stop_in result.1) journal.new }
     ensures free { AllFree result.0 }
     ensures all { length sources.old.items ≡ length sources.new.items + length (sources_in result.0) }
     ensures later { IsLater K.Sink out.old out.new }

@@ -7,7 +7,8 @@ ghost use Rattle.fv_io.specs.World.{InWorld};
 ghost use Rattle.avs_files.specs.Opened.{told_of};
 ghost use Rattle.serve_app.specs.Journals.{IsRunOf, ScriptCuts};
 ghost use Rattle.serve_app.specs.Playing.{PutsClip};
-ghost use Rattle.serve_app.specs.Stop.{RenderShows};
+ghost use Rattle.serve_app.specs.Stop.{RenderShows, HasInfo};
+ghost use Rattle.serve_app.specs.Streams.{stop_in, TellsStop, HeadShows};
 
 use crate::closing::{close_host, close_table};
 use crate::play::{Whole, evaluate, put_opened};
@@ -39,7 +40,10 @@ fn render_in<H: HeldFiles, W: Known, K: Sink>(
     ensures stop { IfErr answer.new (RenderShows (HasRisen (H.faults files) (H.faults result)) K.Sink
         (told_of W.told W.world) script.now out.old out.new) }
     ensures serial { IfOk answer.new (λ all. IsRunOf (told_of W.told W.world) script.now cache journal.new all.graph) }
-    ensures cut { ScriptCuts (told_of W.told W.world) script.now cache K.Sink out.old out.new journal.new }
+    ensures cut { ScriptCuts (told_of W.told W.world) script.now cache K.Sink out.old out.new
+        (TellsStop (stop_in answer.new)) journal.new }
+    ensures head { HeadShows K.Sink out.old out.new (HasInfo (told_of W.told W.world) script.now)
+        (stop_in answer.new) journal.new }
     ensures world { H.world result ≡ told_of W.told W.world }
     ensures borrow { H.borrow result ≡ W.borrow }
     ensures given { H.given result ≡ W.given }
@@ -86,7 +90,10 @@ fn render_held<H: HeldFiles, K: Sink>(
     ensures stop { IfErr answer.new (RenderShows (HasRisen (H.faults files) (H.faults result)) K.Sink
         (H.world files) script.now out.old out.new) }
     ensures serial { IfOk answer.new (λ all. IsRunOf (H.world files) script.now cache journal.new all.graph) }
-    ensures cut { ScriptCuts (H.world files) script.now cache K.Sink out.old out.new journal.new }
+    ensures cut { ScriptCuts (H.world files) script.now cache K.Sink out.old out.new
+        (TellsStop (stop_in answer.new)) journal.new }
+    ensures head { HeadShows K.Sink out.old out.new (HasInfo (H.world files) script.now)
+        (stop_in answer.new) journal.new }
     ensures world { H.world result ≡ H.world files }
     ensures borrow { H.borrow result ≡ H.borrow files }
     ensures given { H.given result ≡ H.given files }
@@ -122,7 +129,10 @@ pub(crate) fn render<F: Files, K: Sink>(
     ensures stop { IfErr result (RenderShows (FilesFailed F.Files files.old files.new) K.Sink (F.world files.old)
         script.now out.old out.new) }
     ensures serial { IfOk result (λ all. IsRunOf (F.world files.old) script.now cache journal.new all.graph) }
-    ensures cut { ScriptCuts (F.world files.old) script.now cache K.Sink out.old out.new journal.new }
+    ensures cut { ScriptCuts (F.world files.old) script.now cache K.Sink out.old out.new
+        (TellsStop (stop_in result)) journal.new }
+    ensures head { HeadShows K.Sink out.old out.new (HasInfo (F.world files.old) script.now)
+        (stop_in result) journal.new }
     ensures keeps { KeepsFiles F.Files files.old files.new }
     ensures later { IsLater K.Sink out.old out.new }
 {

@@ -3,7 +3,7 @@ ghost use Rattle.std.specs.Prelude.{◌≡◌, ◌<◌, None};
 ghost use Rattle.fv_io.specs.Files.{KeepsFiles};
 ghost use Rattle.fv_io.specs.Sink.{IsLater};
 ghost use Rattle.serve_app.specs.Headline.{Ends};
-ghost use Rattle.serve_app.specs.Run.{HasCache, HasLog, Does, Finishes};
+ghost use Rattle.serve_app.specs.Run.{HasCache, HasLog, Does, LeavesNone, Finishes};
 
 use crate::info::put_info;
 use crate::play::Whole;
@@ -24,8 +24,8 @@ const CACHE: u32 = 64;
 pub struct Ending {
     /// The program's exit status, 0 to 6.
     pub status: u8,
-    /// The events of a render, window by window. There is none where its head was not put, and where the words ask for
-    /// something else.
+    /// The events of a render, window by window. There is none where its head was not put whole, and where the words
+    /// ask for something else.
     pub journal: Option<Record>,
 }
 
@@ -40,6 +40,7 @@ fn run_command<F: Files, K: Sink>(
     requires cache { HasCache command }
     requires none { journal.old ≡ None }
     ensures does { Does F.Files K.Sink files.old files.new out.old out.new journal.new command result }
+    ensures leaves { LeavesNone command journal.new }
     ensures keeps { KeepsFiles F.Files files.old files.new }
     ensures later { IsLater K.Sink out.old out.new }
 {

@@ -9,9 +9,9 @@ ghost use Rattle.serve_core.specs.Stands.{Stands};
 ghost use Rattle.serve_worker.specs.Alone.{AllFree, held_in};
 ghost use Rattle.serve_worker.specs.Instances.{feed_of, faults_of, holds_of};
 ghost use Rattle.prefetch.specs.Windows.{frames_at};
-ghost use Rattle.serve_app.specs.Clips.{PutsFrames, StreamShows};
+ghost use Rattle.serve_app.specs.Clips.{IsClipOf, PutsFrames, StreamShows};
 ghost use Rattle.serve_app.specs.Journals.{IsSerial, CutsShort};
-ghost use Rattle.serve_app.specs.Streams.{HeadStops, NamesSource, ToldAs};
+ghost use Rattle.serve_app.specs.Streams.{HeadStops, NamesSource, file_at, ToldAs, stop_in, TellsStop, HeadShows};
 
 use clip_graph::Graph;
 use clip_term::Op;
@@ -44,6 +44,7 @@ fn put_head<K: Sink>(alloc: Global, out: &mut K, info: &Info) -> Result<(), Stop
 fn name_of(alloc: Global, graph: &Graph, node: u32) -> Result<Text, AllocError>
     requires inside { node < length graph.now }
     requires source { is_source (application_at graph.now node).act ≡ true }
+    ensures { IfOk result (λ name. name ≡ file_at graph.now node) }
 {
     let Op::Source {
         name,
@@ -59,7 +60,7 @@ fn name_of(alloc: Global, graph: &Graph, node: u32) -> Result<Text, AllocError>
 // The stop, told with the name of the file.
 fn told_stop<S: Source>(alloc: Global, core: &Core<Instance<S>>, stop: RenderStop) -> Stop
     requires named { NamesSource core.now.fixed.plan stop }
-    ensures { ToldAs stop result }
+    ensures { ToldAs core.now.fixed.plan stop result }
 {
     match stop {
         RenderStop::Stopped(WindowStop::Read { node: _ }) => Stop::Read,
@@ -109,8 +110,12 @@ pub(crate) fn put_clip<S: Source, K: Sink>(
     ensures stop { IfErr result (StreamShows K.Sink core.old.fixed.plan core.old.fixed.root
         (book_of (feed_of S.Source) core.old.fixed.plan core.old.table) out.old out.new (faults_of S.Source) core.new.table) }
     ensures serial { OnOk result (IsSerial core.old.fixed.plan core.old.fixed.root core.old.fixed.capacity journal.new) }
-    ensures cut { CutsShort core.old.fixed.plan core.old.fixed.root core.old.fixed.capacity K.Sink
-        out.old out.new journal.new }
+    ensures cut { CutsShort core.old.fixed.plan core.old.fixed.root core.old.fixed.capacity K.Sink out.old out.new
+        (IsClipOf core.old.fixed.plan core.old.fixed.root
+        (book_of (feed_of S.Source) core.old.fixed.plan core.old.table))
+        (TellsStop (stop_in result) core.old.fixed.plan) journal.new }
+    ensures head { HeadShows K.Sink out.old out.new
+        (λ info. info ≡ (application_at core.old.fixed.plan core.old.fixed.root).info) (stop_in result) journal.new }
     ensures free { AllFree core.new.table }
     ensures held { held_in holds_of core.new.table ≡ held_in holds_of core.old.table }
     ensures unclaimed { core.new.claims ≡ [] }

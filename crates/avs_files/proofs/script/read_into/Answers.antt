@@ -1,5 +1,5 @@
 -- What is read is the whole script, or is longer than a script may be.
-use Rattle.std.proofs.Common.{◌≡◌, ◌∙◌, take, ◌+◌, ◌^◌, ℕ, List, Ok, sym, ap, length, rules}
+use Rattle.std.proofs.Common.{◌≡◌, ◌∙◌, take, ◌+◌, ◌^◌, Ok, sym, ap, length, rules}
 use Rattle.avs_files.proofs.FileLemmas.{read_whole, longer, short_enough, too_long, a_script, no_text}
 use Rattle.avs_files.proofs.script.read_into.Goals as goal
 

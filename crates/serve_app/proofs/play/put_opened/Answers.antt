@@ -1,7 +1,8 @@
 -- The core stands for what its sources tell.
-use Rattle.std.proofs.Common.{◌≡◌, ◌∙◌, ◌+◌, ◌++◌, length, OnOk, sym, ap, subst, rules}
+use Rattle.std.proofs.Common.{◌≡◌, ◌∙◌, ◌+◌, length, OnOk, sym, ap, subst, rules}
 use Rattle.std.specs.Arc.{arc_value}
 use Rattle.std.proofs.lemmas.List.{length-append}
+use Rattle.clip_graph.specs.Plan.{application_at}
 use Rattle.serve_core.specs.Sources.{book_of, faults_of as faults_in}
 use Rattle.serve_core.specs.Stands.{Stands}
 use Rattle.serve_core.proofs.Standing.{calls_stand}
@@ -10,9 +11,10 @@ use Rattle.serve_worker.specs.Furnishing.{sources_in, some_in}
 use Rattle.serve_worker.specs.Instances.{feed_of, faults_of}
 use Rattle.serve_worker.proofs.CallerLemmas.{told_book, count_held}
 use Rattle.serve_worker.proofs.Tables.{all_free, none_leased}
-use Rattle.serve_app.specs.Clips.{book_told}
-use Rattle.serve_app.specs.Journals.{IsSerial}
-use Rattle.serve_app.proofs.PlayLemmas.{ok_with, each_with, err_with, graph_with}
+use Rattle.serve_app.specs.Clips.{book_told, IsClipOf}
+use Rattle.serve_app.specs.Journals.{IsSerial, CutsShort}
+use Rattle.serve_app.specs.Streams.{TellsStop, HeadShows}
+use Rattle.serve_app.proofs.PlayLemmas.{ok_with, each_with, err_with, graph_with, stop_with}
 use Rattle.serve_app.proofs.play.put_opened.Goals as goal
 use Rattle.serve_app.proofs.play.put_opened.Given.{Over}
 use Rattle.serve_app.proofs.play.put_opened.Goals.{After-into_table}
@@ -82,3 +84,16 @@ returns-clause-all g c =
     ∙ sym (count_held c.new-core.result.table (rw table free)) ∙ ap (λ t. length (sources_in t)) table in
     ap length c.in-Ok.ensures.kept ∙ length-append c.furnish.new.sources.items (sources_in c.furnish.new.table)
     ∙ ap (λ n. length c.furnish.new.sources.items + n) (sym same ∙ ap (λ t. length (sources_in t)) (sym c.into_table.ensures))
+
+pub returns-clause-cut : goal.returns-clause-cut
+returns-clause-cut g c =
+    let capacity : c.new-core.result.fixed.capacity ≡ c.args.cache = search rules in
+    let cut = rw capacity at (rw (root_is g c) at (rw (plan_is g c) at (rw (book_is g c) at c.put_clip-put.ensures.cut))) in
+    rw c.with_graph-whole.ensures
+    (stop_with (λ told. CutsShort c.args.opened.graph c.args.opened.root c.args.cache g.K.Sink c.args.out.now c.put_clip-put.new.out (IsClipOf c.args.opened.graph c.args.opened.root (book_told g.S.Source c.args.sources.now.items)) (TellsStop told c.args.opened.graph) c.put_clip-put.new.journal) c.put_clip-put.result _ cut)
+
+pub returns-clause-head : goal.returns-clause-head
+returns-clause-head g c =
+    let head = rw (root_is g c) at (rw (plan_is g c) at c.put_clip-put.ensures.head) in
+    rw c.with_graph-whole.ensures
+    (stop_with (λ told. HeadShows g.K.Sink c.args.out.now c.put_clip-put.new.out (λ info. info ≡ (application_at c.args.opened.graph c.args.opened.root).info) told c.put_clip-put.new.journal) c.put_clip-put.result _ head)

@@ -1,7 +1,7 @@
 -- What is put is the clip that the script means.
 use Rattle.std.proofs.lemmas.Result.{IfErr-weaker}
 use Rattle.serve_worker.specs.Instances.{faults_of}
-use Rattle.serve_app.proofs.PlayLemmas.{fit, all_frames, both_of, with_ok, stream_shown, script_run, script_cuts, count_rose}
+use Rattle.serve_app.proofs.PlayLemmas.{fit, all_frames, both_of, with_ok, stream_shown, script_run, script_cuts, script_head, count_rose}
 use Rattle.serve_app.proofs.render.render_in.Goals as goal
 
 pub put_opened-table-requires-clause-sources : goal.put_opened-table-requires-clause-sources
@@ -38,5 +38,11 @@ pub returns-clause-cut : goal.returns-clause-cut
 returns-clause-cut g c =
     let was = c.evaluate.new.host in
     script_cuts g.H.Src.Source g.W.Known.told g.W.Known.world c.args.script.now c.in-Ok.opened.graph c.in-Ok.opened.root c.in-Ok.opened.prefetch was.listed.items was.sources.items
-    c.in-Ok.ensures.opened.sources was.opened c.in-Ok.ensures.told g.K.Sink c.args.out.now c.put_opened-table.new.out c.args.cache c.put_opened-table.new.journal
+    c.in-Ok.ensures.opened.sources was.opened c.in-Ok.ensures.told g.K.Sink c.args.out.now c.put_opened-table.new.out c.args.cache _ c.put_opened-table.new.journal
     c.in-Ok.ensures.opened.plan c.put_opened-table.ensures.cut
+
+pub returns-clause-head : goal.returns-clause-head
+returns-clause-head g c =
+    let was = c.evaluate.new.host in
+    script_head g.H.Src.Source g.W.Known.told g.W.Known.world c.args.script.now c.in-Ok.opened.graph c.in-Ok.opened.root c.in-Ok.opened.prefetch was.listed.items was.sources.items
+    c.in-Ok.ensures.opened.sources was.opened c.in-Ok.ensures.told g.K.Sink c.args.out.now c.put_opened-table.new.out _ c.put_opened-table.new.journal c.put_opened-table.ensures.head

@@ -15,7 +15,7 @@ finish-status-requires g c =
 pub returns-in-Ok-Some : goal.returns-in-Ok-Some
 returns-in-Ok-Some g c =
     ends_of g.F.Files g.K.Sink g.E.Sink c.args.files.now c.run_command-done.new.files c.args.out.now c.run_command-done.new.out c.args.err.now c.finish-status.new.err c.args.words.now
-    c.run_command-done.new.journal c.in-Ok-Some.command c.run_command-done.result c.finish-status.result (sym c.in-Ok-Some.ensures ∙ c.in-Ok-Some.field-0-is) c.run_command-done.ensures.does c.finish-status.ensures
+    c.run_command-done.new.journal c.in-Ok-Some.command c.run_command-done.result c.finish-status.result (sym c.in-Ok-Some.ensures ∙ c.in-Ok-Some.field-0-is) c.run_command-done.ensures.does c.run_command-done.ensures.leaves c.finish-status.ensures
     (c.run_command-done.ensures.keeps, c.run_command-done.ensures.later, said_later g.E.Sink c.args.err.now c.finish-status.new.err c.run_command-done.result c.run_command-done.new.journal c.finish-status.result c.finish-status.ensures)
 
 pub returns-in-Err : goal.returns-in-Err

@@ -1,5 +1,5 @@
 -- The clip that was opened is listed with its source.
-use Rattle.std.proofs.Common.{◌≡◌, ◌∙◌, ◌+◌, ◌++◌, ◌∷◌, [], length, Ok, ap, sym, arith, rules}
+use Rattle.std.proofs.Common.{◌≡◌, ◌∙◌, ◌+◌, length, Ok, ap, sym, arith, rules}
 use Rattle.std.specs.FinMap.{get}
 use Rattle.avs_meaning.specs.Outside.{clip_in}
 use Rattle.avs_files.proofs.OpenedLemmas.{opened_one, opened_more, length_more}
