@@ -4,7 +4,8 @@ use Rattle.avs_meaning.specs.State.{State, Outcome, Run, and_then}
 use Rattle.avs_meaning.specs.declared.stop.ScriptStop.{ScriptStop}
 use Rattle.avs_meaning.specs.declared.stop.ScriptStop.TheVariants as e
 use Rattle.avs_state.specs.Answers as a
-use Rattle.avs_state.specs.Hosts.{Fails, Gives, Read}
+use Rattle.avs_state.specs.Hosts.{Fails, Gives}
+use Rattle.avs_eval.specs.Walks.{Read, stop_in}
 
 pub then_fails : {X Y : Type 0} (one : Outcome X) (f : X → Run Y) (stop : ScriptStop) → Fails one stop → Fails (and_then one f) stop
 then_fails one f (e.Fault kind name line) h = ap (λ o. and_then o f) h
@@ -37,7 +38,7 @@ given view o (Err stop) new h = also_fails o stop h
 
 -- and reads nothing
 pub unread : {X Y : Type 0} (view : X → Y) (o : Outcome Y) (result : Result X ScriptStop) (new : State) (n : ℕ)
-    → a.Gives view o result new → Read result n n
+    → a.Gives view o result new → Read (stop_in result) n n
 unread view o (Ok x) new n h = tt
 unread view o (Err (e.Fault kind name line)) new n h = tt
 unread view o (Err (e.Refused name nests line)) new n h = tt

@@ -1,8 +1,9 @@
 -- What the parts of a walk ensure, over any host.
-use Rattle.std.specs.Prelude.{◌≡◌, ℕ, ◌-◌, ◌<◌, ◌≤◌, List, Result, OnOk}
+use Rattle.std.specs.Prelude.{◌≡◌, ℕ, ◌-◌, ◌<◌, ◌≤◌, List, Option, Some, None, IfNone, Result, Ok, Err}
 use Rattle.std.specs.Borrow.{Bor, MutBor}
 use Rattle.std.specs.Fn.{Shared}
 use Rattle.std.specs.declared.alloc.Global.{Global}
+use Rattle.fv_io.specs.Faults.{HasRisen}
 use Rattle.avs_tree.specs.View.{block_view}
 use Rattle.avs_tree.specs.declared.tree.Statement.{Statement}
 use Rattle.avs_values.specs.Values.{Text}
@@ -10,21 +11,33 @@ use Rattle.avs_values.specs.declared.value.Value.{Value}
 use Rattle.avs_meaning.specs.Meaning.{below}
 use Rattle.avs_meaning.specs.declared.builtin.Builtin.{Builtin}
 use Rattle.avs_meaning.specs.declared.stop.ScriptStop.{ScriptStop}
-use Rattle.avs_state.specs.Hosts.{Told, Read}
+use Rattle.avs_meaning.specs.declared.stop.ScriptStop.TheVariants as e
+use Rattle.avs_state.specs.Hosts.{Told}
 use Rattle.avs_eval.specs.OutsideBy.{outside_by}
-use Rattle.avs_state.specs.Sources.{Lists}
+use Rattle.avs_state.specs.Sources.{sources_of}
 use Rattle.avs_state.specs.States.{state_of}
 use Rattle.avs_state.specs.declared.host.Host as host
 use Rattle.avs_state.specs.declared.machine.Machine.{Machine}
 
--- The clips that were opened stay those that the host gave, and those of the plan's sources. The host's count of faults
--- never falls.
-pub record Keeps {H X : Type 0} (h : host.Ghosts H) (old : Machine) (before : H) (result : Result X ScriptStop) (new : Machine)
+-- why a part of a run ended early, where it did
+abbrev pub stop_in : {X : Type 0} → Result X ScriptStop → Option ScriptStop
+stop_in (Ok x) = None
+stop_in (Err stop) = Some stop
+
+-- a failed read is answered only where the count of faults rose
+abbrev pub Read : Option ScriptStop → ℕ → ℕ → Type 0
+Read (Some e.Read) before now = HasRisen before now
+Read _ before now = Unit {0}
+
+-- Unless a part of a run ends early, the clips that were opened stay those that the host gave, and those of the plan's
+-- sources. The host's count of faults never falls.
+pub record Keeps {H : Type 0} (h : host.Ghosts H) (old : Machine) (before : H) (ended : Option ScriptStop) (new : Machine)
     (now : H) : Type 0 where
-  pub given : (state_of old).opened ≡ h.opened before → OnOk result ((state_of new).opened ≡ h.opened now)
-  pub listed : Lists old result new
+  pub given : (state_of old).opened ≡ h.opened before → IfNone ended ((state_of new).opened ≡ h.opened now)
+  pub listed : sources_of (state_of old).plan ≡ (state_of old).opened
+      → IfNone ended (sources_of (state_of new).plan ≡ (state_of new).opened)
   pub later : h.faults before ≤ h.faults now
-  pub read : Read result (h.faults before) (h.faults now)
+  pub read : Read ended (h.faults before) (h.faults now)
 
 -- a call that executes the statements of a text one call deeper
 abbrev pub Asked : Type 0 → Type 0
@@ -47,4 +60,4 @@ pub record Deeper {H F : Type 0} (h : host.Ghosts H) (depth : ℕ) (g : Shared F
   pub keeps : 0 < depth → (alloc : Global) (t : Bor (List Builtin)) (s s' : MutBor Machine) (x x' : MutBor H)
       (here : Bor Text) (body : Bor (List Statement)) (result : Result Value ScriptStop)
       → g.post f (alloc, (t, (s, (x, (depth - 1, (here, (body, tt))))))) (result, (s', (x', tt)))
-      → Keeps h s.now x.now result s'.now x'.now
+      → Keeps h s.now x.now (stop_in result) s'.now x'.now

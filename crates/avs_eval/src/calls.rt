@@ -11,7 +11,7 @@ ghost use Rattle.avs_eval.specs.OutsideBy.{outside_by};
 ghost use Rattle.avs_state.specs.States.{state_of, defined_view};
 ghost use Rattle.avs_calls.specs.Views.{callee_view};
 ghost use Rattle.avs_eval.specs.At as r;
-ghost use Rattle.avs_eval.specs.Walks.{Deeper, Keeps};
+ghost use Rattle.avs_eval.specs.Walks.{Deeper, Keeps, stop_in};
 
 use crate::ranges::{range_in, unnamed_of};
 use crate::walker::Walker;
@@ -49,7 +49,7 @@ impl<
     ) -> Result<Value, ScriptStop>
         ensures told { Told H.told (λ v. v) (f.open_by self.now.here.now (H.clips name.now) name.now line)
             machine.old result machine.new }
-        ensures kept { Keeps H.Host machine.old host.old result machine.new host.new }
+        ensures kept { Keeps H.Host machine.old host.old (stop_in result) machine.new host.new }
     {
         match host.clip(name) {
             Ok(info) => machine.add_source(self.alloc, name, info, self.here, line),
@@ -74,7 +74,7 @@ impl<
         ensures told { Told H.told (λ v. v)
             (f.open_source self.now.here.now (outside_by H.clips H.scripts) values.now line)
             machine.old result machine.new }
-        ensures kept { Keeps H.Host machine.old host.old result machine.new host.new }
+        ensures kept { Keeps H.Host machine.old host.old (stop_in result) machine.new host.new }
     {
         match values {
             [Value::Text(name)] => self.open(machine, host, name, line),
@@ -94,7 +94,7 @@ impl<
         requires room { 0 < self.now.depth }
         ensures told { Told H.told (λ v. v) (r.inside H.clips H.scripts self.now.depth (defined_view definition.now)
             env) machine.old result machine.new }
-        ensures kept { Keeps H.Host machine.old host.old result machine.new host.new }
+        ensures kept { Keeps H.Host machine.old host.old (stop_in result) machine.new host.new }
     {
         let before = machine.enter(env);
         let value = self.deeper(machine, host, &definition.text, &definition.function.body)?;
@@ -114,7 +114,7 @@ impl<
     ) -> Result<Value, ScriptStop>
         ensures told { Told H.told (λ v. v) (f.filtered self.now.here.now (outside_by H.clips H.scripts) applied
             signature (bound_view given.now) line) machine.old result machine.new }
-        ensures kept { Keeps H.Host machine.old host.old result machine.new host.new }
+        ensures kept { Keeps H.Host machine.old host.old (stop_in result) machine.new host.new }
     {
         match applied {
             Filter::Y4MSource => self.open_source(machine, host, &given.values, line),
@@ -138,7 +138,7 @@ impl<
         requires other { builtin ≡ Builtin.ApplyRange → ⊥ }
         ensures told { Told H.told (λ v. v) (r.applied H.clips H.scripts self.now.depth (c.builtin builtin) signature
             (bound_view given.now) self.now.here.now line) machine.old result machine.new }
-        ensures kept { Keeps H.Host machine.old host.old result machine.new host.new }
+        ensures kept { Keeps H.Host machine.old host.old (stop_in result) machine.new host.new }
     {
         match builtin {
             Builtin::Eval => self.eval(machine, host, &given.values, line),
@@ -179,7 +179,7 @@ impl<
         requires other { callee_view callee.now ≡ c.builtin Builtin.ApplyRange → ⊥ }
         ensures told { Told H.told (λ v. v) (r.applied H.clips H.scripts self.now.depth (callee_view callee.now)
             signature (bound_view given.now) self.now.here.now line) machine.old result machine.new }
-        ensures kept { Keeps H.Host machine.old host.old result machine.new host.new }
+        ensures kept { Keeps H.Host machine.old host.old (stop_in result) machine.new host.new }
     {
         match callee {
             Callee::User(definition) => {
@@ -224,7 +224,7 @@ impl<
         requires deeper { Deeper H.Host self.now.depth F.Fn self.now.run }
         ensures told { Told H.told (λ v. v) (r.ranged_by H.clips H.scripts self.now.depth given.now.values.items
             given.now.rest.items self.now.here.now line) machine.old result machine.new }
-        ensures kept { Keeps H.Host machine.old host.old result machine.new host.new }
+        ensures kept { Keeps H.Host machine.old host.old (stop_in result) machine.new host.new }
     {
         let Some(range) = range_in(&given.values) else {
             return Err(self.fault(ScriptKind::NoMatch, line));
@@ -261,7 +261,7 @@ impl<
         requires deeper { Deeper H.Host self.now.depth F.Fn self.now.run }
         ensures told { Told H.told (λ v. v) (r.apply H.clips H.scripts self.now.depth (callee_view callee.now)
             args.items last self.now.here.now line) machine.old result machine.new }
-        ensures kept { Keeps H.Host machine.old host.old result machine.new host.new }
+        ensures kept { Keeps H.Host machine.old host.old (stop_in result) machine.new host.new }
     {
         let Some((signature, given)) = fit_callee(self.alloc, callee, args, last)? else {
             return Err(self.fault(ScriptKind::NoMatch, line));
@@ -286,7 +286,7 @@ impl<
         requires deeper { Deeper H.Host self.now.depth F.Fn self.now.run }
         ensures told { Told H.told (λ v. v) (r.apply_last H.clips H.scripts self.now.depth self.now.here.now
             (callee_view callee.now) args.items line) machine.old result machine.new }
-        ensures kept { Keeps H.Host machine.old host.old result machine.new host.new }
+        ensures kept { Keeps H.Host machine.old host.old (stop_in result) machine.new host.new }
     {
         let name = Text::from_str(self.alloc, "last")?;
         let last = machine.local(self.alloc, &name)?;
@@ -305,7 +305,7 @@ impl<
         ensures told { Told H.told (λ v. v)
             (r.value_of H.clips H.scripts self.now.depth self.now.here.now (t.name name.now line))
             machine.old result machine.new }
-        ensures kept { Keeps H.Host machine.old host.old result machine.new host.new }
+        ensures kept { Keeps H.Host machine.old host.old (stop_in result) machine.new host.new }
     {
         if let Some(value) = machine.variable(self.alloc, name)? {
             return Ok(value);

@@ -3,7 +3,7 @@ ghost use Rattle.avs_tree.specs.View.{block_view};
 ghost use Rattle.avs_meaning.specs.Meaning as m;
 ghost use Rattle.avs_state.specs.Hosts.{Told};
 ghost use Rattle.avs_eval.specs.OutsideBy.{outside_by};
-ghost use Rattle.avs_eval.specs.Walks.{Keeps};
+ghost use Rattle.avs_eval.specs.Walks.{Keeps, stop_in};
 
 use crate::walker::Walker;
 use avs_meaning::{ScriptStop, Table};
@@ -26,7 +26,7 @@ pub(crate) fn run<H: Host>(
 ) -> Result<Value, ScriptStop>
     ensures told { Told H.told (λ x. x) (m.run (outside_by H.clips H.scripts) depth here.now (block_view body.now))
         machine.old result machine.new }
-    ensures kept { Keeps H.Host machine.old host.old result machine.new host.new }
+    ensures kept { Keeps H.Host machine.old host.old (stop_in result) machine.new host.new }
 {
     let walker = Walker {
         alloc,

@@ -8,7 +8,7 @@ ghost use Rattle.avs_state.specs.Hosts.{Told};
 ghost use Rattle.avs_eval.specs.OutsideBy.{outside_by};
 ghost use Rattle.avs_state.specs.States.{state_of};
 ghost use Rattle.avs_eval.specs.Evaluates.{Evaluates, Opens, FailedRead};
-ghost use Rattle.avs_eval.specs.Walks.{Keeps};
+ghost use Rattle.avs_eval.specs.Walks.{Keeps, stop_in};
 
 use crate::depth::run;
 use crate::texts::load_body;
@@ -63,7 +63,7 @@ fn clip_of_run<H: Host>(
 ) -> Result<u32, ScriptStop>
     ensures told { Told H.told (λ i. i) (to_clip (outside_by H.clips H.scripts) name.now (block_view statements.now)
         last_line) machine.old result machine.new }
-    ensures kept { Keeps H.Host machine.old host.old result machine.new host.new }
+    ensures kept { Keeps H.Host machine.old host.old (stop_in result) machine.new host.new }
     ensures inside { IfOk result (λ i. i < length (state_of machine.new).plan) }
 {
     let value = run(alloc, table, machine, host, CALL_LIMIT, name, statements)?;
@@ -82,7 +82,7 @@ fn execute<H: Host>(
     requires { length text.now ≤ text_limit }
     ensures told { Told H.told (λ i. i) (executed (outside_by H.clips H.scripts) name.now text.now)
         machine.old result machine.new }
-    ensures kept { Keeps H.Host machine.old host.old result machine.new host.new }
+    ensures kept { Keeps H.Host machine.old host.old (stop_in result) machine.new host.new }
     ensures inside { IfOk result (λ i. i < length (state_of machine.new).plan) }
 {
     let body = load_body(alloc, machine, name, text)?;

@@ -4,7 +4,7 @@ ghost use Rattle.avs_tree.specs.Tree as t;
 ghost use Rattle.avs_tree.specs.View.{expr_view, arg_view, method_call_view, step_view, args_of, method_calls_of, steps_of};
 ghost use Rattle.avs_state.specs.Hosts.{Told};
 ghost use Rattle.avs_eval.specs.At as r;
-ghost use Rattle.avs_eval.specs.Walks.{Deeper, Keeps};
+ghost use Rattle.avs_eval.specs.Walks.{Deeper, Keeps, stop_in};
 
 use crate::walker::Walker;
 use avs_calls::{combined, compared, prefixed, truth};
@@ -40,7 +40,7 @@ impl<
         ensures told { Told H.told (λ v. v)
             (r.value_of H.clips H.scripts self.now.depth self.now.here.now (expr_view e.now))
             machine.old result machine.new }
-        ensures kept { Keeps H.Host machine.old host.old result machine.new host.new }
+        ensures kept { Keeps H.Host machine.old host.old (stop_in result) machine.new host.new }
     {
         match e {
             Expr::Int(n) => Ok(Value::Int(*n)),
@@ -104,7 +104,7 @@ impl<
         requires deeper { Deeper H.Host self.now.depth F.Fn self.now.run }
         ensures told { Told H.told (λ v. v) (r.value_of H.clips H.scripts self.now.depth self.now.here.now
             (t.call name.now (args_of (map arg_view args.now)) line)) machine.old result machine.new }
-        ensures kept { Keeps H.Host machine.old host.old result machine.new host.new }
+        ensures kept { Keeps H.Host machine.old host.old (stop_in result) machine.new host.new }
     {
         let callee = self.called(machine, name, line)?;
         let given = self.givens_of(machine, host, args, Vec::new(self.alloc))?;
@@ -124,7 +124,7 @@ impl<
         requires deeper { Deeper H.Host self.now.depth F.Fn self.now.run }
         ensures told { Told H.told (λ v. v.items) (r.givens_of H.clips H.scripts self.now.depth self.now.here.now
             (args_of (map arg_view args.now)) given.items) machine.old result machine.new }
-        ensures kept { Keeps H.Host machine.old host.old result machine.new host.new }
+        ensures kept { Keeps H.Host machine.old host.old (stop_in result) machine.new host.new }
     {
         for arg in args {
             let value = self.value_of(machine, host, &arg.value)?;
@@ -150,7 +150,7 @@ impl<
         requires deeper { Deeper H.Host self.now.depth F.Fn self.now.run }
         ensures told { Told H.told (λ v. v) (r.calls_from H.clips H.scripts self.now.depth self.now.here.now
             (method_calls_of (map method_call_view calls.now)) first) machine.old result machine.new }
-        ensures kept { Keeps H.Host machine.old host.old result machine.new host.new }
+        ensures kept { Keeps H.Host machine.old host.old (stop_in result) machine.new host.new }
     {
         let mut value = first;
         for call in calls {
@@ -170,7 +170,7 @@ impl<
         requires deeper { Deeper H.Host self.now.depth F.Fn self.now.run }
         ensures told { Told H.told (λ v. v) (r.calls_from H.clips H.scripts self.now.depth self.now.here.now
             (method_calls_of (method_call_view call.now ∷ [])) first) machine.old result machine.new }
-        ensures kept { Keeps H.Host machine.old host.old result machine.new host.new }
+        ensures kept { Keeps H.Host machine.old host.old (stop_in result) machine.new host.new }
     {
         let callee = self.called(machine, &call.name, call.line)?;
         let mut given = Vec::new(self.alloc);
@@ -200,7 +200,7 @@ impl<
         requires deeper { Deeper H.Host self.now.depth F.Fn self.now.run }
         ensures told { Told H.told (λ v. v) (r.steps_from H.clips H.scripts self.now.depth self.now.here.now
             (steps_of (map step_view steps.now)) first) machine.old result machine.new }
-        ensures kept { Keeps H.Host machine.old host.old result machine.new host.new }
+        ensures kept { Keeps H.Host machine.old host.old (stop_in result) machine.new host.new }
     {
         let mut value = first;
         for step in steps {
@@ -223,7 +223,7 @@ impl<
         requires deeper { Deeper H.Host self.now.depth F.Fn self.now.run }
         ensures told { Told H.told (λ v. v) (r.joined H.clips H.scripts self.now.depth self.now.here.now op line
             (expr_view operand.now) first) machine.old result machine.new }
-        ensures kept { Keeps H.Host machine.old host.old result machine.new host.new }
+        ensures kept { Keeps H.Host machine.old host.old (stop_in result) machine.new host.new }
     {
         match op {
             Operator::Or => {
@@ -257,7 +257,7 @@ impl<
         requires deeper { Deeper H.Host self.now.depth F.Fn self.now.run }
         ensures told { Told H.told (λ v. v) (r.truth_of H.clips H.scripts self.now.depth self.now.here.now line
             (expr_view operand.now)) machine.old result machine.new }
-        ensures kept { Keeps H.Host machine.old host.old result machine.new host.new }
+        ensures kept { Keeps H.Host machine.old host.old (stop_in result) machine.new host.new }
     {
         let value = self.value_of(machine, host, operand)?;
         let holds = truth(self.alloc, &value, self.here, line)?;

@@ -6,7 +6,7 @@ ghost use Rattle.avs_state.specs.Answers.{Answers, Gives};
 ghost use Rattle.avs_state.specs.Hosts.{Told};
 ghost use Rattle.avs_state.specs.Sources.{sources_of};
 ghost use Rattle.avs_state.specs.States.{state_of};
-ghost use Rattle.avs_eval.specs.Walks.{Deeper, Keeps};
+ghost use Rattle.avs_eval.specs.Walks.{Deeper, Keeps, stop_in};
 ghost use Rattle.avs_eval.specs.At as r;
 
 use crate::walker::Walker;
@@ -32,6 +32,16 @@ fn next_number(before: i32, step: i32) -> Option<i32>
     before.checked_add(step)
 }
 
+// The number that the variable of a loop is.
+fn number_by(alloc: Global, value: Option<Value>, here: &Text, line: u32) -> Result<i32, ScriptStop>
+    ensures { Answers (λ n. n) (l.number_by here.now value line) result }
+{
+    match value {
+        Some(Value::Int(n)) => Ok(n),
+        _ => Err(fault_at(alloc, ScriptKind::TypeFault, here, line)),
+    }
+}
+
 // The variable of a loop, read again after a turn.
 fn read_number(
     alloc: Global,
@@ -43,10 +53,8 @@ fn read_number(
     ensures { Gives (λ n. n) (l.read_number here.now name.now line (state_of machine.now)) result
         (state_of machine.now) }
 {
-    match machine.variable(alloc, name)? {
-        Some(Value::Int(n)) => Ok(n),
-        _ => Err(fault_at(alloc, ScriptKind::TypeFault, here, line)),
-    }
+    let value = machine.variable(alloc, name)?;
+    number_by(alloc, value, here, line)
 }
 
 /// Sets the variable of a loop to the next number. There is none past 32 bits.
@@ -118,7 +126,7 @@ impl<
         ensures told { Told H.told (λ b. b)
             (r.condition H.clips H.scripts self.now.depth self.now.here.now (expr_view e.now) line)
             machine.old result machine.new }
-        ensures kept { Keeps H.Host machine.old host.old result machine.new host.new }
+        ensures kept { Keeps H.Host machine.old host.old (stop_in result) machine.new host.new }
     {
         let value = self.value_of(machine, host, e)?;
         truth(self.alloc, &value, self.here, line)
@@ -134,7 +142,7 @@ impl<
         requires deeper { Deeper H.Host self.now.depth F.Fn self.now.run }
         ensures told { Told H.told (λ x. x) (r.step_of H.clips H.scripts self.now.depth self.now.here.now
             (option_map expr_view step.now)) machine.old result machine.new }
-        ensures kept { Keeps H.Host machine.old host.old result machine.new host.new }
+        ensures kept { Keeps H.Host machine.old host.old (stop_in result) machine.new host.new }
     {
         match step {
             Some(e) => self.value_of(machine, host, e),
@@ -155,7 +163,7 @@ impl<
         requires deeper { Deeper H.Host self.now.depth F.Fn self.now.run }
         ensures told { Told H.told (λ n. n) (r.bounds H.clips H.scripts self.now.depth self.now.here.now (expr_view
             first.now) (expr_view last.now) (option_map expr_view step.now) line) machine.old result machine.new }
-        ensures kept { Keeps H.Host machine.old host.old result machine.new host.new }
+        ensures kept { Keeps H.Host machine.old host.old (stop_in result) machine.new host.new }
     {
         let first = self.value_of(machine, host, first)?;
         let last = self.value_of(machine, host, last)?;

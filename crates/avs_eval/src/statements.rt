@@ -7,7 +7,7 @@ ghost use Rattle.avs_state.specs.Answers.{Gives};
 ghost use Rattle.avs_state.specs.Hosts.{Told};
 ghost use Rattle.avs_state.specs.Sources.{sources_of};
 ghost use Rattle.avs_state.specs.States.{state_of};
-ghost use Rattle.avs_eval.specs.Walks.{Deeper, Keeps};
+ghost use Rattle.avs_eval.specs.Walks.{Deeper, Keeps, stop_in};
 ghost use Rattle.avs_eval.specs.At as r;
 ghost use Rattle.avs_eval.specs.Flows.{flow_view, turn_view};
 
@@ -74,7 +74,7 @@ impl<
         requires deeper { Deeper H.Host self.now.depth F.Fn self.now.run }
         ensures told { Told H.told flow_view (r.effect_of H.clips H.scripts self.now.depth self.now.here.now
             (kind_view kind.now) line) machine.old result machine.new }
-        ensures kept { Keeps H.Host machine.old host.old result machine.new host.new }
+        ensures kept { Keeps H.Host machine.old host.old (stop_in result) machine.new host.new }
     {
         match kind {
             StatementKind::Global { name, value } => {
@@ -128,7 +128,7 @@ impl<
         requires deeper { Deeper H.Host self.now.depth F.Fn self.now.run }
         ensures told { Told H.told (option_map flow_view) (r.arms_of H.clips H.scripts self.now.depth self.now.here.now
             (arms_of (map arm_view arms.now)) line) machine.old result machine.new }
-        ensures kept { Keeps H.Host machine.old host.old result machine.new host.new }
+        ensures kept { Keeps H.Host machine.old host.old (stop_in result) machine.new host.new }
     {
         for arm in arms {
             if self.condition(machine, host, &arm.condition, line)? {
@@ -153,7 +153,7 @@ impl<
         requires deeper { Deeper H.Host self.now.depth F.Fn self.now.run }
         ensures told { Told H.told flow_view (r.loop_of H.clips H.scripts self.now.depth self.now.here.now
             (expr_view test.now) line (block_view body.now)) machine.old result machine.new }
-        ensures kept { Keeps H.Host machine.old host.old result machine.new host.new }
+        ensures kept { Keeps H.Host machine.old host.old (stop_in result) machine.new host.new }
     {
         let most = machine.units();
         for _turn in 0..most {
@@ -189,7 +189,7 @@ impl<
         ensures told { Told H.told flow_view (r.effect_of H.clips H.scripts self.now.depth self.now.here.now (t.for
             name.now (expr_view first.now) (expr_view last.now) (option_map expr_view step.now) (block_view body.now))
             line) machine.old result machine.new }
-        ensures kept { Keeps H.Host machine.old host.old result machine.new host.new }
+        ensures kept { Keeps H.Host machine.old host.old (stop_in result) machine.new host.new }
     {
         let (first, last, step) = self.bounds(machine, host, first, last, step, line)?;
         machine.set(self.alloc, name, Value::Int(first))?;
@@ -216,7 +216,7 @@ impl<
         requires deeper { Deeper H.Host self.now.depth F.Fn self.now.run }
         ensures told { Told H.told flow_view (r.count_of H.clips H.scripts self.now.depth self.now.here.now name.now
             first.at first.last first.step line (block_view body.now)) machine.old result machine.new }
-        ensures kept { Keeps H.Host machine.old host.old result machine.new host.new }
+        ensures kept { Keeps H.Host machine.old host.old (stop_in result) machine.new host.new }
     {
         let most = machine.units();
         let mut counter = first;
@@ -250,7 +250,7 @@ impl<
         requires deeper { Deeper H.Host self.now.depth F.Fn self.now.run }
         ensures told { Told H.told turn_view (r.turn H.clips H.scripts self.now.depth self.now.here.now name.now
             counter.now.at counter.now.last counter.now.step line (block_view body.now)) machine.old result machine.new }
-        ensures kept { Keeps H.Host machine.old host.old result machine.new host.new }
+        ensures kept { Keeps H.Host machine.old host.old (stop_in result) machine.new host.new }
     {
         if is_past(counter.last, counter.step, counter.at) {
             return Ok(Turn::Done(Flow::On(Value::Undefined)));
@@ -278,7 +278,7 @@ impl<
         requires deeper { Deeper H.Host self.now.depth F.Fn self.now.run }
         ensures told { Told H.told flow_view (r.statement H.clips H.scripts self.now.depth self.now.here.now
             (statement_view statement.now)) machine.old result machine.new }
-        ensures kept { Keeps H.Host machine.old host.old result machine.new host.new }
+        ensures kept { Keeps H.Host machine.old host.old (stop_in result) machine.new host.new }
     {
         machine.spend(self.alloc, self.here, statement.line)?;
         self.effect_of(machine, host, &statement.kind, statement.line)
@@ -296,7 +296,7 @@ impl<
         requires deeper { Deeper H.Host self.now.depth F.Fn self.now.run }
         ensures told { Told H.told flow_view (r.block_of H.clips H.scripts self.now.depth self.now.here.now
             (block_view body.now)) machine.old result machine.new }
-        ensures kept { Keeps H.Host machine.old host.old result machine.new host.new }
+        ensures kept { Keeps H.Host machine.old host.old (stop_in result) machine.new host.new }
     {
         for statement in body {
             match self.statement_of(machine, host, statement)? {
@@ -318,7 +318,7 @@ impl<
         requires deeper { Deeper H.Host self.now.depth F.Fn self.now.run }
         ensures told { Told H.told (λ x. x) (r.body_of H.clips H.scripts self.now.depth self.now.here.now
             (block_view body.now) Value.Undefined) machine.old result machine.new }
-        ensures kept { Keeps H.Host machine.old host.old result machine.new host.new }
+        ensures kept { Keeps H.Host machine.old host.old (stop_in result) machine.new host.new }
     {
         let mut last = Value::Undefined;
         for statement in body {

@@ -11,7 +11,7 @@ ghost use Rattle.avs_state.specs.Sources.{sources_of};
 ghost use Rattle.avs_state.specs.States.{state_of};
 ghost use Rattle.avs_eval.specs.At as r;
 ghost use Rattle.avs_eval.specs.Bodies.{body_by, body_view};
-ghost use Rattle.avs_eval.specs.Walks.{Deeper, Keeps};
+ghost use Rattle.avs_eval.specs.Walks.{Deeper, Keeps, stop_in};
 
 use crate::walker::Walker;
 use avs_meaning::{ScriptKind, ScriptStop, Table};
@@ -102,7 +102,7 @@ impl<
         requires room { 0 < self.now.depth }
         ensures told { Told H.told (λ v. v) (r.deeper H.clips H.scripts self.now.depth here.now (block_view body.now))
             machine.old result machine.new }
-        ensures kept { Keeps H.Host machine.old host.old result machine.new host.new }
+        ensures kept { Keeps H.Host machine.old host.old (stop_in result) machine.new host.new }
     {
         (self.run)(
             self.alloc,
@@ -130,7 +130,7 @@ impl<
         ensures told { Told H.told (λ v. v)
             (r.execute H.clips H.scripts self.now.depth from.now text.now self.now.here.now line)
             machine.old result machine.new }
-        ensures kept { Keeps H.Host machine.old host.old result machine.new host.new }
+        ensures kept { Keeps H.Host machine.old host.old (stop_in result) machine.new host.new }
     {
         if text.as_str().len() > TEXT_LIMIT {
             return Err(self.fault(ScriptKind::TextLimit, line));
@@ -152,7 +152,7 @@ impl<
         ensures told { Told H.told (λ v. v)
             (r.execute H.clips H.scripts self.now.depth e.eval_name text.now self.now.here.now line)
             machine.old result machine.new }
-        ensures kept { Keeps H.Host machine.old host.old result machine.new host.new }
+        ensures kept { Keeps H.Host machine.old host.old (stop_in result) machine.new host.new }
     {
         let from = Text::from_str(self.alloc, "Eval")?;
         self.execute(machine, host, &from, text, line)
@@ -171,7 +171,7 @@ impl<
         ensures told { Told H.told (λ v. v)
             (r.eval_text H.clips H.scripts self.now.depth self.now.here.now text.now line)
             machine.old result machine.new }
-        ensures kept { Keeps H.Host machine.old host.old result machine.new host.new }
+        ensures kept { Keeps H.Host machine.old host.old (stop_in result) machine.new host.new }
     {
         if self.depth == 0 {
             return Err(self.fault(ScriptKind::CallDepth, line));
@@ -190,7 +190,7 @@ impl<
         requires deeper { Deeper H.Host self.now.depth F.Fn self.now.run }
         ensures told { Told H.told (λ v. v)
             (r.eval H.clips H.scripts self.now.depth self.now.here.now values.now line) machine.old result machine.new }
-        ensures kept { Keeps H.Host machine.old host.old result machine.new host.new }
+        ensures kept { Keeps H.Host machine.old host.old (stop_in result) machine.new host.new }
     {
         match values {
             [Value::Text(text)] => self.eval_text(machine, host, text, line),
@@ -208,7 +208,7 @@ impl<
     ) -> Result<Text, ScriptStop>
         ensures told { Told H.told (λ text. text) (e.script_by self.now.here.now (H.scripts name.now) line)
             machine.now result machine.now }
-        ensures kept { Keeps H.Host machine.now host.old result machine.now host.new }
+        ensures kept { Keeps H.Host machine.now host.old (stop_in result) machine.now host.new }
     {
         match host.script(name) {
             Ok(text) => Ok(text),
@@ -234,7 +234,7 @@ impl<
         ensures told { Told H.told (λ v. v)
             (r.import_ H.clips H.scripts self.now.depth self.now.here.now values.now line)
             machine.old result machine.new }
-        ensures kept { Keeps H.Host machine.old host.old result machine.new host.new }
+        ensures kept { Keeps H.Host machine.old host.old (stop_in result) machine.new host.new }
     {
         let [Value::Text(file)] = values else {
             return Err(self.fault(ScriptKind::NoMatch, line));

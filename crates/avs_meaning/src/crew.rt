@@ -1,5 +1,5 @@
 // The workers of a render.
-ghost use Rattle.std.specs.Prelude.{◌≡◌};
+ghost use Rattle.std.specs.Prelude.{◌≡◌, ◌≤◌};
 ghost use Rattle.avs_meaning.specs.Crews as d;
 
 use std::marker::Model;
@@ -39,14 +39,25 @@ impl Crew {
 
     /// The number of the workers.
     pub fn threads(self) -> u32
-        ensures { result ≡ self.threads }
+        ensures threads { result ≡ self.threads }
+        ensures some { 1 ≤ result }
+        ensures few { result ≤ 16 }
     {
         self.threads
     }
 
+    /// The number of frames in a window, where it was given.
+    pub fn frames(self) -> Option<u32>
+        ensures { result ≡ self.frames }
+    {
+        self.frames
+    }
+
     /// The number of frames in a window: twice that of the workers where none is given.
     pub fn window(self) -> u32
-        ensures { result ≡ d.window_of self }
+        ensures window { result ≡ d.window_of self }
+        ensures some { 1 ≤ result }
+        ensures few { result ≤ 32 }
     {
         match self.frames {
             Some(frames) => frames,

@@ -89,19 +89,31 @@ fn listed(alloc: Global, count: usize) -> Result<Signature, AllocError>
     })
 }
 
+// Parameters of these kinds and names, which a call may leave out.
+fn options(alloc: Global, table: &[(Kind, &str)]) -> Result<Vec<Param>, AllocError>
+    ensures { IfOk result (λ made. made.items ≡ map (λ o. v.optional o.0 o.1.now) table.now) }
+{
+    let mut params = Vec::new(alloc);
+    for (kind, name) in table {
+        params.push(Param::optional(alloc, *kind, name)?)?;
+    }
+    Ok(params)
+}
+
 // What `BlankClip` takes beside its clip.
 fn blank_options(alloc: Global) -> Result<Vec<Param>, AllocError>
     ensures { IfOk result (λ made. made.items ≡ d.blank_options) }
 {
-    let mut params = Vec::new(alloc);
-    params.push(Param::optional(alloc, Kind::Int, "length")?)?;
-    params.push(Param::optional(alloc, Kind::Int, "width")?)?;
-    params.push(Param::optional(alloc, Kind::Int, "height")?)?;
-    params.push(Param::optional(alloc, Kind::Text, "pixel_type")?)?;
-    params.push(Param::optional(alloc, Kind::Int, "fps")?)?;
-    params.push(Param::optional(alloc, Kind::Int, "fps_denominator")?)?;
-    params.push(Param::optional(alloc, Kind::Int, "color_yuv")?)?;
-    Ok(params)
+    let table = [
+        (Kind::Int, "length"),
+        (Kind::Int, "width"),
+        (Kind::Int, "height"),
+        (Kind::Text, "pixel_type"),
+        (Kind::Int, "fps"),
+        (Kind::Int, "fps_denominator"),
+        (Kind::Int, "color_yuv"),
+    ];
+    options(alloc, &table)
 }
 
 fn blank(alloc: Global) -> Result<Signature, AllocError>
