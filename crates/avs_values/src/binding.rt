@@ -10,14 +10,14 @@ use std::alloc::{AllocError, Global};
 use std::marker::Model;
 
 /// An argument of a call, with the name that it is given by, if any.
-#[derive(Drop, Debug)]
+#[derive(Drop)]
 pub struct Given {
     pub name: Option<Text>,
     pub value: Value,
 }
 
 /// The value of each parameter, `Undefined` where it was not given, and the values of the rest.
-#[derive(Drop, Debug)]
+#[derive(Drop)]
 pub struct Bound {
     pub values: Vec<Value>,
     pub rest: Vec<Value>,

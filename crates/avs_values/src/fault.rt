@@ -5,7 +5,7 @@ use fv_io::Text;
 use std::alloc::AllocError;
 
 /// Why an operator or a function has no value.
-#[derive(Drop, Debug)]
+#[derive(Drop)]
 pub enum ValueFault {
     /// A value is of another kind than the operator or the function takes.
     TypeFault,

@@ -7,7 +7,7 @@ use fv_io::Text;
 use std::alloc::{AllocError, Global};
 
 /// A parameter. Only an optional one may be given by its name.
-#[derive(Drop, Debug)]
+#[derive(Drop)]
 pub struct Param {
     pub name: Text,
     pub kind: Kind,
@@ -43,7 +43,7 @@ impl Param {
 }
 
 /// What a function takes: its parameters in order, and then, where there is a rest, at least `least` more values of a kind.
-#[derive(Drop, Debug)]
+#[derive(Drop)]
 pub struct Signature {
     pub params: Vec<Param>,
     pub rest: Option<Kind>,

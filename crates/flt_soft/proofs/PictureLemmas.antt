@@ -1,11 +1,12 @@
 -- Pictures of one shape, and planes that stay.
-use Rattle.std.proofs.Common.{◌≡◌, ℕ, ◌+◌, ◌*◌, ◌/◌, ◌<◌, ◌∙◌, List, [], ◌∷◌, length, map, get_or, refl, ap, arith, Bool, true, false, inl, inr, eqb-true, eq-eqb}
+use Rattle.std.proofs.Common.{◌≡◌, ℕ, ◌+◌, ◌*◌, ◌/◌, ◌<◌, ◌≤◌, ◌∙◌, List, [], ◌∷◌, length, map, get_or, refl, ap, arith, Bool, true, false, inl, inr, eqb-true, eq-eqb}
 use Rattle.std.specs.Prelude.{ℤ, ◌⊎◌, ◌||◌, if◌then◌else◌, ◌==◌, ◌&&◌, nat_le}
 use Rattle.std.proofs.lemmas.List.{get_or_read}
 use Rattle.fv_plane.specs.declared.format.Shape.{Shape}
-use Rattle.fv_plane.specs.Picture.{Picture}
+use Rattle.fv_plane.specs.Format.{plane_width, sub_w}
+use Rattle.fv_plane.specs.Picture.{Picture, IsPicture}
 use Rattle.fv_plane.specs.Look.{Look, look_in, look_at, row_from}
-use Rattle.fv_plane.proofs.FillLemmas.{row_listed}
+use Rattle.fv_plane.proofs.FillLemmas.{Filled, row_listed}
 use Rattle.clip_term.specs.declared.op.Matrix.{Matrix}
 use Rattle.clip_term.specs.declared.op.SoftOp.{SoftOp}
 use Rattle.clip_term.specs.declared.op.SoftOp.TheVariants as op
@@ -30,6 +31,18 @@ first_shape pictures one some is = ap (λ (q : Picture). q.shape) (get_or_read p
 -- and so has each other
 pub shape_same : (shape : Shape) (pictures : List Picture) (i : ℕ) (one : Picture) → HaveShape shape pictures → i < length pictures → one ≡ get_or pictures i one → one.shape ≡ shape
 shape_same shape pictures i one alike there is = ap (λ (q : Picture). q.shape) is ∙ alike i one there
+
+at_most : (test : Bool) (n m : ℕ) → m ≤ n → (if test then n else m) ≤ n
+at_most true n m less = omega arith
+at_most false n m less = less
+
+-- no plane is wider than the first
+pub width_at_most : (shape : Shape) (p : ℕ) → plane_width shape p ≤ shape.width
+width_at_most shape p = at_most (p == 0) shape.width (shape.width / sub_w shape.kind) (omega arith)
+
+-- nothing is written yet in a picture of this shape
+pub none_filled : (want : ℕ → ℕ → List ℕ) (shape : Shape) (made : Picture) → IsPicture made → made.shape ≡ shape → Filled want shape made 0 0
+none_filled want shape made sizes same = record { same = same; sizes = sizes; below = λ p z before there. absurd (omega arith); here = λ z before. absurd (omega arith) }
 
 -- a row that is listed for one shape and width is listed for equal ones
 pub row_moved : (filter : SoftOp) (looks : List Look) (p y : ℕ) (s t : Shape) (w v : ℕ) (row : List ℕ) → s ≡ t → v ≡ w → row ≡ row_from (soft_at filter t looks) p v y → row ≡ row_from (soft_at filter s looks) p w y

@@ -109,7 +109,7 @@ pub record IsWithin (most : ℕ) (z : ℤ) : Type 0 where
   pub low : neg_ℤ (pos most) ≤ℤ z
   pub high : z ≤ℤ pos most
 
-size_of_weight : (weight : ℤ) → IsWeight weight → unsigned_abs weight ≤ 1024
+pub size_of_weight : (weight : ℤ) → IsWeight weight → unsigned_abs weight ≤ 1024
 size_of_weight (pos n) is = omega (arith, ints, is.high)
 size_of_weight (negsuc n) is = omega (arith, ints, is.low)
 
@@ -117,7 +117,7 @@ within_by : (most : ℕ) (z : ℤ) → unsigned_abs z ≤ most → IsWithin most
 within_by most (pos n) h = record { low = omega (arith, ints); high = omega (arith, ints) }
 within_by most (negsuc n) h = record { low = omega (arith, ints); high = omega (arith, ints) }
 
-times_within : (weight : ℤ) (sample : ℕ) → IsWeight weight → sample ≤ 255 → IsWithin 261120 (weight *ℤ pos sample)
+pub times_within : (weight : ℤ) (sample : ℕ) → IsWeight weight → sample ≤ 255 → IsWithin 261120 (weight *ℤ pos sample)
 times_within weight sample is few =
     within_by 261120 (weight *ℤ pos sample) (omega (arith, unsigned_abs-mul weight (pos sample), mul-le (unsigned_abs weight) sample 1024 255 (size_of_weight weight is) few))
 

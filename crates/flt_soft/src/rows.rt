@@ -1,7 +1,8 @@
 // Filters that make each row of a picture by itself.
-ghost use Rattle.std.specs.Prelude.{◌≡◌, ◌<◌, ◌≤◌, max, map, IfOk, false, length};
+ghost use Rattle.std.specs.Prelude.{◌≡◌, ◌<◌, ◌≤◌, max, map, IfOk, OnOk, false, length};
 ghost use Rattle.fv_plane.specs.Format.{planes, plane_width, plane_height};
 ghost use Rattle.fv_plane.specs.Look.{look_in, row_from};
+ghost use Rattle.fv_plane.specs.Picture.{IsPicture};
 ghost use Rattle.clip_term.specs.declared.op.SoftOp.{SoftOp};
 ghost use Rattle.clip_term.specs.Soft.{soft_at};
 ghost use Rattle.flt_soft.specs.Pictures.{CanSoften, HaveShape, keeps_plane, row_in, shape_of, soft_picture};
@@ -45,23 +46,25 @@ pub trait RowFilter {
         ensures room { scratch.new ≡ scratch.old };
 }
 
-/// The picture that a filter makes.
-pub fn make_by_rows<F: RowFilter>(
+// Makes the planes of the picture, in a builder of its shape.
+fn fill_planes<F: RowFilter>(
     alloc: Global,
     filter: &F,
     inputs: &[Frame],
     scratch: &mut Scratch,
-) -> Result<Frame, AllocError>
-    requires { CanSoften (F.op filter.now) inputs.now }
-    ensures made { IfOk result (λ made. made ≡ soft_picture (F.op filter.now) inputs.now) }
-    ensures room { scratch.new ≤ max scratch.old (shape_of inputs.now).width }
+    made: &mut FrameBuilder,
+) -> Result<(), AllocError>
+    requires able { CanSoften (F.op filter.now) inputs.now }
+    requires shape { made.old.shape ≡ shape_of inputs.now }
+    requires sizes { IsPicture made.old }
+    requires room { (shape_of inputs.now).width ≤ scratch.old }
+    ensures made { OnOk result (made.new ≡ soft_picture (F.op filter.now) inputs.now) }
+    ensures room { scratch.new ≡ scratch.old }
 {
     let first = &inputs[0];
     let middle = &inputs[inputs.len() / 2];
     let shape = first.shape();
     let _ = middle.shape();
-    scratch.grow(shape.width as usize)?;
-    let mut made = FrameBuilder::new(alloc, shape)?;
     for plane in 0..shape.kind.planes() {
         if filter.keeps_plane(plane) {
             made.put_plane(plane, middle, plane)?;
@@ -74,5 +77,24 @@ pub fn make_by_rows<F: RowFilter>(
             made.put_row(plane, y, row);
         }
     }
+    Ok(())
+}
+
+/// The picture that a filter makes.
+pub fn make_by_rows<F: RowFilter>(
+    alloc: Global,
+    filter: &F,
+    inputs: &[Frame],
+    scratch: &mut Scratch,
+) -> Result<Frame, AllocError>
+    requires { CanSoften (F.op filter.now) inputs.now }
+    ensures made { IfOk result (λ made. made ≡ soft_picture (F.op filter.now) inputs.now) }
+    ensures room { scratch.new ≤ max scratch.old (shape_of inputs.now).width }
+{
+    let first = &inputs[0];
+    let shape = first.shape();
+    scratch.grow(shape.width as usize)?;
+    let mut made = FrameBuilder::new(alloc, shape)?;
+    fill_planes(alloc, filter, inputs, scratch, &mut made)?;
     made.finish()
 }

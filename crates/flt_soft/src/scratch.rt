@@ -1,5 +1,5 @@
 // Rows that a filter keeps from frame to frame.
-ghost use Rattle.std.specs.Prelude.{◌≡◌, ◌<◌, ◌+◌, ◌*◌, ◌≤◌, max, OnOk, OnErr};
+ghost use Rattle.std.specs.Prelude.{◌≡◌, ◌<◌, ◌+◌, ◌*◌, ◌≤◌, max, IfOk, OnOk, OnErr};
 
 use std::alloc::{AllocError, Global};
 use std::marker::Model;
@@ -51,22 +51,30 @@ impl Scratch {
         self.padded.len() as u64 + 2 * self.means.len() as u64 + 4 * self.sums.len() as u64
     }
 
+    // Rows of this width. An `Err` is out of memory.
+    fn of_width(alloc: Global, width: usize) -> Result<Scratch, AllocError>
+        requires some { 0 < width }
+        requires wide { width ≤ 65535 }
+        ensures { IfOk result (λ made. made ≡ width) }
+    {
+        Ok(Scratch {
+            alloc,
+            width,
+            padded: vec![in alloc; 0u8; width + 4]?,
+            means: vec![in alloc; 0u16; width]?,
+            sums: vec![in alloc; 0i32; width]?,
+        })
+    }
+
     /// Makes room for rows of this width. An `Err` is out of memory, and then nothing has changed.
     pub(crate) fn grow(&mut self, width: usize) -> Result<(), AllocError>
         requires { width ≤ 65535 }
         ensures ok { OnOk result (self.new ≡ max self.old width) }
         ensures err { OnErr result (self.new ≡ self.old) }
     {
-        if width <= self.width {
-            return Ok(());
+        if width > self.width {
+            *self = Scratch::of_width(self.alloc, width)?;
         }
-        let padded = vec![in self.alloc; 0u8; width + 4]?;
-        let means = vec![in self.alloc; 0u16; width]?;
-        let sums = vec![in self.alloc; 0i32; width]?;
-        self.padded = padded;
-        self.means = means;
-        self.sums = sums;
-        self.width = width;
         Ok(())
     }
 }

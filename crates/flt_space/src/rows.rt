@@ -1,7 +1,8 @@
 // Filters that make each row of a picture by itself.
-ghost use Rattle.std.specs.Prelude.{◌≡◌, ◌<◌, IfOk, None, false, length};
+ghost use Rattle.std.specs.Prelude.{◌≡◌, ◌<◌, IfOk, OnOk, None, false, length};
 ghost use Rattle.fv_plane.specs.Format.{IsLegal, planes, plane_width, plane_height};
 ghost use Rattle.fv_plane.specs.Look.{look_in, row_from};
+ghost use Rattle.fv_plane.specs.Picture.{IsPicture};
 ghost use Rattle.fv_plane.specs.Refusals.{first_fault};
 ghost use Rattle.clip_term.specs.declared.op.SpaceOp.{SpaceOp};
 ghost use Rattle.clip_term.specs.Space.{space_at, space_shape, space_picture, space_refusals};
@@ -29,20 +30,21 @@ pub trait RowFilter {
         ensures { out.new ≡ row_from (space_at (op self.now) input.now.shape (look_in input.now)) plane (length out.old) y };
 }
 
-/// The picture of this shape that a filter makes.
-pub fn make_by_rows<F: RowFilter>(
+// Makes the planes of the picture, in a builder of its shape.
+fn fill_planes<F: RowFilter>(
     alloc: Global,
     filter: &F,
     input: &Frame,
     shape: Shape,
-) -> Result<Frame, AllocError>
+    made: &mut FrameBuilder,
+) -> Result<(), AllocError>
     requires accepted { first_fault (space_refusals (F.op filter.now) input.now.shape) ≡ None }
     requires shape { shape ≡ space_shape (F.op filter.now) input.now.shape }
-    requires legal { IsLegal shape }
-    ensures { IfOk result (λ made. made ≡ space_picture (F.op filter.now) input.now) }
+    requires made { made.old.shape ≡ shape }
+    requires sizes { IsPicture made.old }
+    ensures { OnOk result (made.new ≡ space_picture (F.op filter.now) input.now) }
 {
     let _ = input.shape();
-    let mut made = FrameBuilder::new(alloc, shape)?;
     for plane in 0..shape.kind.planes() {
         if filter.keeps_plane(plane) {
             made.put_plane(plane, input, plane)?;
@@ -55,5 +57,22 @@ pub fn make_by_rows<F: RowFilter>(
             made.put_row(plane, y, row);
         }
     }
+    Ok(())
+}
+
+/// The picture of this shape that a filter makes.
+pub fn make_by_rows<F: RowFilter>(
+    alloc: Global,
+    filter: &F,
+    input: &Frame,
+    shape: Shape,
+) -> Result<Frame, AllocError>
+    requires accepted { first_fault (space_refusals (F.op filter.now) input.now.shape) ≡ None }
+    requires shape { shape ≡ space_shape (F.op filter.now) input.now.shape }
+    requires legal { IsLegal shape }
+    ensures { IfOk result (λ made. made ≡ space_picture (F.op filter.now) input.now) }
+{
+    let mut made = FrameBuilder::new(alloc, shape)?;
+    fill_planes(alloc, filter, input, shape, &mut made)?;
     made.finish()
 }

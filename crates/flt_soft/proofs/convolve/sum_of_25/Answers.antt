@@ -1,5 +1,5 @@
 use Rattle.std.proofs.Common.{◌≡◌, ◌<◌, ◌≤◌, ◌*◌, ◌+◌, ◌∙◌, ℕ, List, length, get_or, sym, ap, arith, pos, ◌+ℤ◌}
-use Rattle.std.proofs.lemmas.Int.{ints}
+use Rattle.std.proofs.lemmas.Int.{to_z-of_z}
 use Rattle.std.proofs.lemmas.List.{take_all}
 use Rattle.fv_plane.specs.declared.format.Shape.{Shape}
 use Rattle.fv_plane.specs.Bytes.{bytes_of_row}
@@ -32,11 +32,11 @@ loop-i-preserved c =
     = c.place.ensures.place ∙ ap (λ h. place y i 2 h) (c.plane_height-height.ensures ∙ ap (λ (s : Shape). plane_height s p) c.shape.ensures.shape) in
     let seen : (z : ℕ) → get_or row z 0 ≡ look_in input p z (place y i 2 (plane_height input.shape p)) = λ z. ap (λ l. get_or l z 0) c.row.ensures.row ∙ ap (λ r. look_in input p z r) line in
     let long : length row ≡ plane_width input.shape p = omega (arith, c.row.ensures.whole) in
-    let a : to_z w16 (of_z w16 c.weight.result) ≡ get_or weights (5 * i) (pos 0) = omega (arith, ints, c.weight.ensures.value, c.weight.ensures.weight.low, c.weight.ensures.weight.high) in
-    let b : to_z w16 (of_z w16 c.weight-in-loop-i.result) ≡ get_or weights (5 * i + 1) (pos 0) = omega (arith, ints, c.weight-in-loop-i.ensures.value, c.weight-in-loop-i.ensures.weight.low, c.weight-in-loop-i.ensures.weight.high) in
-    let d : to_z w16 (of_z w16 c.weight-in-loop-i-2.result) ≡ get_or weights (5 * i + 2) (pos 0) = omega (arith, ints, c.weight-in-loop-i-2.ensures.value, c.weight-in-loop-i-2.ensures.weight.low, c.weight-in-loop-i-2.ensures.weight.high) in
-    let e : to_z w16 (of_z w16 c.weight-in-loop-i-3.result) ≡ get_or weights (5 * i + 3) (pos 0) = omega (arith, ints, c.weight-in-loop-i-3.ensures.value, c.weight-in-loop-i-3.ensures.weight.low, c.weight-in-loop-i-3.ensures.weight.high) in
-    let f : to_z w16 (of_z w16 c.weight-in-loop-i-4.result) ≡ get_or weights (5 * i + 4) (pos 0) = omega (arith, ints, c.weight-in-loop-i-4.ensures.value, c.weight-in-loop-i-4.ensures.weight.low, c.weight-in-loop-i-4.ensures.weight.high) in
+    let a : to_z w16 (of_z w16 c.weight.result) ≡ get_or weights (5 * i) (pos 0) = to_z-of_z w16 c.weight.result (record { sfits = c.weight.type_inv }) ∙ c.weight.ensures.value in
+    let b : to_z w16 (of_z w16 c.weight-in-loop-i.result) ≡ get_or weights (5 * i + 1) (pos 0) = to_z-of_z w16 c.weight-in-loop-i.result (record { sfits = c.weight-in-loop-i.type_inv }) ∙ c.weight-in-loop-i.ensures.value in
+    let d : to_z w16 (of_z w16 c.weight-in-loop-i-2.result) ≡ get_or weights (5 * i + 2) (pos 0) = to_z-of_z w16 c.weight-in-loop-i-2.result (record { sfits = c.weight-in-loop-i-2.type_inv }) ∙ c.weight-in-loop-i-2.ensures.value in
+    let e : to_z w16 (of_z w16 c.weight-in-loop-i-3.result) ≡ get_or weights (5 * i + 3) (pos 0) = to_z-of_z w16 c.weight-in-loop-i-3.result (record { sfits = c.weight-in-loop-i-3.type_inv }) ∙ c.weight-in-loop-i-3.ensures.value in
+    let f : to_z w16 (of_z w16 c.weight-in-loop-i-4.result) ≡ get_or weights (5 * i + 4) (pos 0) = to_z-of_z w16 c.weight-in-loop-i-4.result (record { sfits = c.weight-in-loop-i-4.type_inv }) ∙ c.weight-in-loop-i-4.ensures.value in
     λ x h.
     let inside : x < length c.loop-i.sums = omega arith in
     let more = of_25_more input.shape (look_in input) p x y i weights row c.requires.all c.loop-i-test.true long (omega arith) seen in

@@ -1,5 +1,5 @@
-use Rattle.std.proofs.Common.{◌≡◌, ◌∙◌, ◌+◌, ap, arith, w32, pos, ◌+ℤ◌, ◌*ℤ◌, get_or}
-use Rattle.std.proofs.lemmas.Int.{ints, to_z-of_z}
+use Rattle.std.proofs.Common.{◌∙◌, ◌+◌, ap, w32, pos, ◌+ℤ◌, ◌*ℤ◌, get_or}
+use Rattle.std.proofs.lemmas.Int.{to_z-of_z}
 use Rattle.flt_soft.specs.Rows.{weighed_three}
 use Rattle.flt_soft.proofs.kernels.weigh_five.Goals as goal
 use mir.Syntax.{w16}
@@ -7,11 +7,11 @@ use mir.Val.{to_z, of_z}
 
 pub returns-clause-value : goal.returns-clause-value
 returns-clause-value c =
-    let whole : to_z w32 (of_z w32 c.quintuple.result) ≡ c.quintuple.result = omega (arith, ints) in
-    let three : to_z w32 (of_z w32 c.weigh_three-three.result) ≡ c.weigh_three-three.result = omega (arith, ints) in
-    let two : to_z w32 (of_z w32 c.pair.result) ≡ c.pair.result = omega (arith, ints) in
-    let fourth : to_z w32 (of_z w32 c.times.result) ≡ c.times.result = omega (arith, ints) in
-    let fifth : to_z w32 (of_z w32 c.times-2.result) ≡ c.times-2.result = omega (arith, ints) in
+    let whole = to_z-of_z w32 c.quintuple.result (record { sfits = c.quintuple.type_inv }) in
+    let three = to_z-of_z w32 c.weigh_three-three.result (record { sfits = c.weigh_three-three.type_inv }) in
+    let two = to_z-of_z w32 c.pair.result (record { sfits = c.pair.type_inv }) in
+    let fourth = to_z-of_z w32 c.times.result (record { sfits = c.times.type_inv }) in
+    let fifth = to_z-of_z w32 c.times-2.result (record { sfits = c.times-2.type_inv }) in
     let a = to_z-of_z w16 c.args.a c.ranges.a in
     let b = to_z-of_z w16 c.args.b c.ranges.b in
     let e = to_z-of_z w16 c.args.c c.ranges.c in

@@ -1,7 +1,7 @@
-use Rattle.std.proofs.Common.{rules, ◌≡◌, ◌∙◌, arith}
+use Rattle.std.proofs.Common.{rules, ◌≡◌, ◌<◌, ◌∙◌, arith}
 use Rattle.fv_plane.specs.Look.{look_in}
 use Rattle.fv_plane.specs.Bytes.{bytes_of_row, row_of_bytes}
-use Rattle.fv_plane.specs.Format.{plane_height}
+use Rattle.fv_plane.specs.Format.{planes, plane_height}
 use Rattle.fv_plane.proofs.BytesLemmas.{row-bytes_of_row}
 use Rattle.fv_plane.proofs.FillLemmas.{filled_start, filled_put, filled_plane, filled_done}
 use Rattle.clip_term.specs.declared.op.SpaceOp.TheVariants.{FlipVertical}
@@ -12,6 +12,16 @@ use Rattle.flt_space.proofs.flip.flip_vertical.Goals as goal
 
 pub loop-plane-init : goal.loop-plane-init
 loop-plane-init c = search (rules, filled_start)
+
+pub put_row-requires-clause-plane : goal.put_row-requires-clause-plane
+put_row-requires-clause-plane c =
+    let there : c.loop-plane.plane < planes c.shape-shape.result.kind = search rules in
+    rw c.loop-y.invariant.same there
+
+pub put_row-requires-clause-inside : goal.put_row-requires-clause-inside
+put_row-requires-clause-inside c =
+    let inside : c.loop-y.y < plane_height c.shape-shape.result c.loop-plane.plane = search rules in
+    rw c.loop-y.invariant.same inside
 
 pub loop-y-preserved : goal.loop-y-preserved
 loop-y-preserved c =

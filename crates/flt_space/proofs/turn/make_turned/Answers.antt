@@ -1,7 +1,7 @@
-use Rattle.std.proofs.Common.{rules, ◌≡◌, ◌∙◌, ◌+◌, ◌*◌, arith, ap, sym, refl, length, get_or}
+use Rattle.std.proofs.Common.{rules, ◌≡◌, ◌∙◌, ◌+◌, ◌*◌, ◌<◌, ◌≤◌, arith, ap, sym, refl, length, get_or}
 use Rattle.fv_plane.specs.declared.format.Shape.{Shape}
 use Rattle.fv_plane.specs.Bytes.{rows_of_bytes}
-use Rattle.fv_plane.specs.Format.{plane_width, plane_height, row_bytes}
+use Rattle.fv_plane.specs.Format.{planes, plane_width, plane_height, row_bytes}
 use Rattle.fv_plane.specs.Look.{look_in, row_from}
 use Rattle.fv_plane.proofs.FillLemmas.{filled_plane, filled_done}
 use Rattle.fv_plane.proofs.WholePlaneLemmas.{rows_listed, filled_rows}
@@ -34,6 +34,34 @@ loop-y-preserved g c =
           ∙ ap (λ w. row_from at plane w (c.loop-y.y + z)) (sym wide))
           (search rules) (search rules),
     )
+
+pub turned_rows-requires-clause-plane : goal.turned_rows-requires-clause-plane
+turned_rows-requires-clause-plane g c =
+    let is : c.on_side-shape.result ≡ space_shape TurnLeft c.args.input.now.shape = c.on_side-shape.ensures ∙ ap (space_shape TurnLeft) c.shape.ensures.shape in
+    let there : c.loop-plane.plane < planes c.on_side-shape.result.kind = search rules in
+    omega (arith, there, ap (λ (s : Shape). planes s.kind) is)
+
+pub put_rows-requires-clause-plane : goal.put_rows-requires-clause-plane
+put_rows-requires-clause-plane g c =
+    let there : c.loop-plane.plane < planes c.on_side-shape.result.kind = search rules in
+    rw c.loop-y.invariant.1.same there
+
+pub put_rows-requires-clause-inside : goal.put_rows-requires-clause-inside
+put_rows-requires-clause-inside g c =
+    let inside : c.loop-y.y + c.min-count.result ≤ plane_height c.on_side-shape.result c.loop-plane.plane = search rules in
+    rw c.loop-y.invariant.1.same inside
+
+pub put_rows-requires-clause-whole : goal.put_rows-requires-clause-whole
+put_rows-requires-clause-whole g c =
+    let input = c.args.input.now in
+    let shape = c.on_side-shape.result in
+    let plane = c.loop-plane.plane in
+    let high = plane_height input.shape plane in
+    let is : shape ≡ space_shape TurnLeft input.shape = c.on_side-shape.ensures ∙ ap (space_shape TurnLeft) c.shape.ensures.shape in
+    let wide : plane_width shape plane ≡ high
+    = ap (λ (s : Shape). plane_width s plane) is ∙ turned_width input.shape.kind input.shape.width input.shape.height plane c.requires.accepted in
+    let stored : row_bytes c.loop-y.made.shape plane ≡ high = omega (arith, wide, ap (λ (s : Shape). plane_width s plane) c.loop-y.invariant.1.same) in
+    ap length c.deref.ensures.value ∙ c.in_ok-rows.ensures.long ∙ ap (λ b. c.min-count.result * b) (sym stored)
 
 pub loop-plane-preserved : goal.loop-plane-preserved
 loop-plane-preserved g c =

@@ -1,4 +1,5 @@
-use Rattle.std.proofs.Common.{rules, ◌≡◌, ◌∙◌, ℕ, ◌+◌, ◌*◌, ◌-◌, ◌<◌, List, length, get_or, ap, arith, refl}
+use Rattle.std.proofs.Common.{rules, ◌≡◌, ◌∙◌, ℕ, ◌+◌, ◌*◌, ◌-◌, ◌<◌, List, length, drop, get_or, ap, arith, refl}
+use Rattle.std.proofs.lemmas.List.{length-take-le, length-drop}
 use Rattle.std.proofs.lemmas.List.Edits.{get_or-between}
 use Rattle.fv_plane.specs.Bytes.{bytes_of_row}
 use Rattle.fv_plane.specs.Format.{plane_height}
@@ -25,3 +26,29 @@ loop-i-preserved g c =
       length_written (16 * c.loop-i.i) (16 * c.loop-i.i + 16 - 16 * c.loop-i.i) c.loop-i.block part long (omega (arith, c.loop-i.invariant.0)) ∙ c.loop-i.invariant.0,
       block_more c.loop-i.block part want c.loop-i.i (16 * c.loop-i.i) (16 * c.loop-i.i + 16 - 16 * c.loop-i.i) c.loop-i.invariant.0 (omega arith) refl sixteen long seen c.loop-i.invariant.1,
     )
+
+pub row-row-requires-clause-inside : goal.row-row-requires-clause-inside
+row-row-requires-clause-inside g c =
+    let high : c.plane_height-height.result ≡ plane_height c.args.input.now.shape c.args.plane = search rules in
+    omega (arith, high, c.row.ensures.inside)
+
+pub row-requires : goal.row-requires
+row-requires g c =
+    let high : c.plane_height-height.result ≡ plane_height c.args.input.now.shape c.args.plane = search rules in
+    omega (arith, high, c.requires.down, c.loop-i-test.true)
+
+pub slice_bounds-copy_from_slice-end-in-loop-i : goal.slice_bounds-copy_from_slice-end-in-loop-i
+slice_bounds-copy_from_slice-end-in-loop-i g c = omega (arith, c.row-row.ensures.whole, c.requires.across)
+
+pub returns : goal.returns
+returns g c = λ k i less few. c.loop-i.invariant.1 k i less (omega (arith, few, c.loop-i-test.false))
+
+pub loop-i-init : goal.loop-i-init
+loop-i-init g c = (search rules, λ k i less few. absurd (omega arith))
+
+pub copy_from_slice-requires : goal.copy_from_slice-requires
+copy_from_slice-requires g c =
+    let row : List ℕ = c.row-row.result.now in
+    let part = length_part (16 * c.loop-i.i) (16 * c.loop-i.i + 16 - 16 * c.loop-i.i) c.loop-i.block (omega (arith, c.loop-i.invariant.0)) in
+    let taken = length-take-le (c.args.column + 16 - c.args.column) (drop c.args.column row) (omega (arith, length-drop c.args.column row, c.row-row.ensures.whole, c.requires.across)) in
+    omega (arith, part, taken)

@@ -1,4 +1,5 @@
 use Rattle.std.proofs.Common.{rules, ◌≡◌, ◌∙◌, ℕ, ◌+◌, ◌*◌, ◌-◌, ◌<◌, ◌≤◌, List, length, get_or, ap, arith}
+use Rattle.std.proofs.lemmas.Nat.{mul-le}
 use Rattle.std.proofs.lemmas.List.Edits.{get_or-between}
 use Rattle.fv_plane.specs.Format.{plane_width, plane_height}
 use Rattle.fv_plane.specs.Picture.{sample_of}
@@ -49,3 +50,27 @@ loop-k-preserved g c =
       left = λ j z past less within. row_left out part want count h x row a n c.loop-k.invariant.long inside c.requires.down at sixteen long c.loop-k.invariant.left
           j z (omega (arith, past, end)) less within;
     }
+
+-- a row of 16 more samples fits
+pub overflow_mul-at : goal.overflow_mul-at
+overflow_mul-at g c =
+    let high : c.plane_height-height.result ≡ plane_height c.args.input.now.shape c.args.plane = search rules in
+    omega (arith, mul-le (c.args.top + c.loop-k.k) c.plane_height-height.result 64 65535 (omega (arith, c.loop-k-test.true, c.requires.inside, c.requires.few)) (omega (arith, high, c.requires.high)))
+
+pub overflow_add-at : goal.overflow_add-at
+overflow_add-at g c =
+    let high : c.plane_height-height.result ≡ plane_height c.args.input.now.shape c.args.plane = search rules in
+    omega (arith, mul-le (c.args.top + c.loop-k.k) c.plane_height-height.result 64 65535 (omega (arith, c.loop-k-test.true, c.requires.inside, c.requires.few)) (omega (arith, high, c.requires.high)))
+
+pub slice_bounds-copy_from_slice-end : goal.slice_bounds-copy_from_slice-end
+slice_bounds-copy_from_slice-end g c =
+    let high : c.plane_height-height.result ≡ plane_height c.args.input.now.shape c.args.plane = search rules in
+    let row : ℕ = c.args.top + c.loop-k.k in
+    let at : row * c.plane_height-height.result ≡ row * plane_height c.args.input.now.shape c.args.plane = ap (λ z. row * z) high in
+    let more = mul-le (row + 1) (plane_height c.args.input.now.shape c.args.plane) c.args.count (plane_height c.args.input.now.shape c.args.plane) (omega (arith, c.loop-k-test.true, c.requires.inside)) (omega arith) in
+    omega (arith, at, more, c.requires.down, c.loop-k.invariant.long)
+
+pub read_block-requires-clause-across : goal.read_block-requires-clause-across
+read_block-requires-clause-across g c =
+    let wide : c.plane_width-width.result ≡ plane_width c.args.input.now.shape c.args.plane = search rules in
+    omega (arith, wide, c.first_column-first.ensures.inside)

@@ -8,7 +8,17 @@ use Rattle.clip_term.specs.Space.{space_at}
 use Rattle.flt_space.specs.Kept.{keeps_plane}
 use Rattle.fv_plane.proofs.WholePlaneLemmas.{rows_listed, filled_whole, row_seen}
 use Rattle.flt_space.proofs.KeptLemmas.{kept_shape, kept_samples}
-use Rattle.flt_space.proofs.rows.make_by_rows.Goals as goal
+use Rattle.flt_space.proofs.rows.fill_planes.Goals as goal
+
+pub loop-plane-init : goal.loop-plane-init
+loop-plane-init g c = record { same = c.requires.made; sizes = c.requires.sizes; below = λ p z before there. absurd (omega arith); here = λ z before. absurd (omega arith) }
+
+pub put_plane-requires-clause-of : goal.put_plane-requires-clause-of
+put_plane-requires-clause-of g c =
+    let keeps : keeps_plane (g.F.RowFilter.op c.args.filter.now) c.loop-plane.plane ≡ true = search rules in
+    let same : c.args.shape ≡ c.args.input.now.shape = c.requires.shape ∙ kept_shape (g.F.RowFilter.op c.args.filter.now) c.args.input.now.shape c.loop-plane.plane keeps in
+    let there : c.loop-plane.plane < planes c.args.shape.kind = search rules in
+    omega (arith, there, ap (λ (s : Shape). planes s.kind) same)
 
 pub put_plane-requires-clause-same : goal.put_plane-requires-clause-same
 put_plane-requires-clause-same g c =
@@ -35,6 +45,24 @@ fill_row-requires-clause-plane g c =
     let there : c.loop-plane.plane < planes c.args.shape.kind = search rules in
     rw (← c.requires.shape) there
 
+pub fill_row-requires-clause-inside : goal.fill_row-requires-clause-inside
+fill_row-requires-clause-inside g c =
+    let inside : c.loop-y.y < plane_height c.args.shape c.loop-plane.plane = search rules in
+    rw (← c.requires.shape) inside
+
+pub fill_row-requires-clause-whole : goal.fill_row-requires-clause-whole
+fill_row-requires-clause-whole g c = rw (← c.requires.shape) c.loop-y.invariant.0
+
+pub put_row-requires-clause-plane : goal.put_row-requires-clause-plane
+put_row-requires-clause-plane g c =
+    let there : c.loop-plane.plane < planes c.args.shape.kind = search rules in
+    rw c.loop-y.invariant.1.same there
+
+pub put_row-requires-clause-inside : goal.put_row-requires-clause-inside
+put_row-requires-clause-inside g c =
+    let inside : c.loop-y.y < plane_height c.args.shape c.loop-plane.plane = search rules in
+    rw c.loop-y.invariant.1.same inside
+
 pub loop-y-preserved : goal.loop-y-preserved
 unfolding row_of_bytes
 loop-y-preserved g c =
@@ -53,4 +81,4 @@ loop-plane-preserved g c =
 pub returns : goal.returns
 returns g c =
     let at = space_at (g.F.RowFilter.op c.args.filter.now) c.args.input.now.shape (look_in c.args.input.now) in
-    rw (← c.requires.shape, ← filled_done (rows_listed c.args.shape at) c.args.shape c.loop-plane.made at c.loop-plane.plane 0 (search rules) (search rules) (search rules) (λ p z there inside. refl)) c.finish.ensures
+    rw (← c.requires.shape) (filled_done (rows_listed c.args.shape at) c.args.shape c.loop-plane.made at c.loop-plane.plane 0 (search rules) (search rules) (search rules) (λ p z there inside. refl))

@@ -4,7 +4,7 @@ use Rattle.fv_plane.specs.Look.{look_in}
 use Rattle.fv_plane.proofs.FillLemmas.{Filled}
 use Rattle.clip_term.specs.Space.{space_at}
 use Rattle.fv_plane.proofs.WholePlaneLemmas.{rows_listed}
-use Rattle.flt_space.proofs.rows.make_by_rows.Given as goal
+use Rattle.flt_space.proofs.rows.fill_planes.Given as goal
 
 abbrev pub invariant-loop-y : goal.invariant-loop-y
 invariant-loop-y g l =
