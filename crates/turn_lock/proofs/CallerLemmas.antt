@@ -25,10 +25,10 @@ HasEnded-right n xs ys has = subst (λ l. Contains l n) (sym (map-append (λ x. 
 module _ {E T : Type 0} (seat other : SeatView E T) where
   -- a joined seat keeps the numbers that had ended, and has that of the other seat and those that had ended there
   pub HasEnded-joined : (n : ℕ) → HasEnded n seat.ended → HasEnded n (joined_seat seat other).ended
-  HasEnded-joined n has = HasEnded-left n seat.ended (record { number = other.number; entries = other.own } ∷ other.ended) has
+  HasEnded-joined n has = HasEnded-left n seat.ended (record { number = other.number; entries = other.own; seen = other.seen } ∷ other.ended) has
 
   pub HasEnded-joined_number : HasEnded other.number (joined_seat seat other).ended
-  HasEnded-joined_number = HasEnded-right other.number seat.ended (record { number = other.number; entries = other.own } ∷ other.ended) (0, omega arith, refl)
+  HasEnded-joined_number = HasEnded-right other.number seat.ended (record { number = other.number; entries = other.own; seen = other.seen } ∷ other.ended) (0, omega arith, refl)
 
   pub HasEnded-joined_other : (n : ℕ) → HasEnded n other.ended → HasEnded n (joined_seat seat other).ended
-  HasEnded-joined_other n has = HasEnded-right n seat.ended (record { number = other.number; entries = other.own } ∷ other.ended) (let less = has.1 in (suc has.0, omega arith, has.2))
+  HasEnded-joined_other n has = HasEnded-right n seat.ended (record { number = other.number; entries = other.own; seen = other.seen } ∷ other.ended) (let less = has.1 in (suc has.0, omega arith, has.2))

@@ -1,6 +1,7 @@
 -- Parts of the rule over a step: the views of the other seats, tickets, and the slot.
 use Rattle.std.proofs.Common.{◌≡◌, ◌≢◌, ◌⊎◌, ℕ, zero, suc, ◌+◌, ◌%◌, ◌^◌, ◌<◌, ◌≤◌, List, [], ◌∷◌, ◌++◌, length, sum_by, get_or, set, sym, refl, ap, ◌∙◌, subst, ⊎_elim, inl, inr, arith, Option, Some, None, IsSome, IfSome, length-set}
 use Rattle.std.proofs.lemmas.List.Sums.{sum_by-set, sum_by-le}
+use Rattle.std.proofs.lemmas.List.Elements.{All-weaker}
 use mathlib.Core.Option.{none, some, some-injective, some-ne-none}
 use mathlib.Core.Option as maybe
 use native.Mathlib.Decide.{ℕ_discrete}
@@ -8,6 +9,7 @@ use lib.ListN.{get_elem?}
 use lib.Seq.{set-get_or}
 use Rattle.atomic_table.specs.Table.{State}
 use Rattle.atomic_table.proofs.Lists.{at_set, set_else}
+use Rattle.turn_lock.specs.declared.view.Ended.{Ended}
 use Rattle.turn_lock.specs.declared.view.View.{View}
 use Rattle.turn_lock.specs.declared.view.Stage.{Stage}
 use Rattle.turn_lock.specs.declared.view.Stage.TheVariants.{Rests, Waits, Holds}
@@ -118,6 +120,7 @@ module _ {V E T : Type 0} (entries : V → List E) (by : E → ℕ) (stands_for 
     own_seen = k.own_seen;
     taken = each_weaker (IsSettled by list u.seen vs) (IsSettled by list' u.seen (set vs id w)) u.ended
         (λ n es p. (same n (live_apart vs id n v at live p.2) ∙ p.0, p.1, spent_stays vs id n v w at live p.2)) k.taken;
+    taken_seen = All-weaker (λ (x : Ended E). IsPrefix x.seen list) (λ x. IsPrefix x.seen list') (λ x p. grows x.seen p) u.ended k.taken_seen;
     gives = λ h. let t = k.gives h in (t.0, t.1 ∙ sym (length-set vs id w), t.2);
     gives_none = k.gives_none;
     tagged = k.tagged;
@@ -134,6 +137,7 @@ module _ {V E T : Type 0} (entries : V → List E) (by : E → ℕ) (stands_for 
     own_all = k.own_all;
     own_seen = k.own_all;
     taken = each_weaker (IsSettled by list u.seen vs) (IsSettled by list list vs) u.ended (λ n es p. (p.0, p.0, p.2)) k.taken;
+    taken_seen = k.taken_seen;
     gives = k.gives;
     gives_none = k.gives_none;
     tagged = k.tagged;

@@ -1,7 +1,7 @@
 -- The start of a lock, the steps that split and join its seats, and its end.
-use Rattle.std.proofs.Common.{◌⊎◌, ◌≡◌, ◌≢◌, ℕ, zero, suc, ◌+◌, ◌^◌, ◌<◌, ◌≤◌, max, List, [], ◌∷◌, ◌++◌, length, set, sym, refl, ap, ◌∙◌, subst, ⊎_elim, arith, Option, Some, None, IsSome, IfSome, length-set, length-append}
+use Rattle.std.proofs.Common.{◌⊎◌, ◌≡◌, ◌≢◌, ℕ, zero, suc, ◌+◌, ◌^◌, ◌<◌, ◌≤◌, max, List, [], ◌∷◌, ◌++◌, length, All, set, sym, refl, ap, ◌∙◌, subst, ⊎_elim, arith, Option, Some, None, IsSome, IfSome, length-set, length-append}
 use Rattle.std.proofs.lemmas.List.{append-nil}
-use Rattle.std.proofs.lemmas.List.Elements.{All-append, All-cons}
+use Rattle.std.proofs.lemmas.List.Elements.{All-append, All-cons, All-weaker}
 use Rattle.std.proofs.lemmas.List.Sums.{sum_by_push}
 use mathlib.Core.Logic.{dite}
 use mathlib.Core.Option.{none, some, some-injective, some-ne-none}
@@ -12,7 +12,7 @@ use Rattle.atomic_table.proofs.Lists.{at_set, set_here, set_else, at_longer}
 use Rattle.turn_lock.specs.declared.view.Ended.{Ended}
 use Rattle.turn_lock.specs.declared.view.View.{View}
 use Rattle.turn_lock.specs.declared.view.Stage.TheVariants.{Rests}
-use Rattle.turn_lock.specs.Entries.{longer, entries_of}
+use Rattle.turn_lock.specs.Entries.{IsPrefix, longer, entries_of}
 use Rattle.atomic_table.specs.Seated.{TableId}
 use Rattle.turn_lock.specs.SeatView.{seat_view, HasEnded, HasAllNumbers}
 use Rattle.turn_lock.specs.TurnRule.{tickets, FitsTickets, EachEnded, IsSpent, IsSettled, Knows, KeepsTurns}
@@ -57,7 +57,7 @@ module _ {V E T : Type 0} (entries : V → List E) (by : E → ℕ) (stands_for 
     holder_saw = λ i v _ e. absurd (some-ne-none i (sym e));
     each_stage = λ i v e. only_first tag seats (λ j w. FitsTickets 0 0 none (λ _. 0) j w.stage) (λ z. some-ne-none 0 (sym z)) i v e;
     each_view = λ i v e. only_first tag seats (λ j w. IsSome w.tag → Knowing [] tag (first_view tag seats ∷ []) 0 j w)
-        (λ _. record { numbered = refl; begins = ([], refl); own_all = refl; own_seen = refl; taken = λ k d less. absurd (omega arith); gives = λ _. (refl, refl, few); gives_none = λ h. absurd (omega arith); tagged = refl }) i v e;
+        (λ _. record { numbered = refl; begins = ([], refl); own_all = refl; own_seen = refl; taken = λ k d less. absurd (omega arith); taken_seen = λ k d less. absurd (omega arith); gives = λ _. (refl, refl, few); gives_none = λ h. absurd (omega arith); tagged = refl }) i v e;
     others = λ n _. refl;
   }
 
@@ -99,9 +99,9 @@ module _ {V E T : Type 0} (entries : V → List E) (by : E → ℕ) (stands_for 
         holder_saw = each_new s.views id w o (λ i u. r.turn ≡ some i → u.seen ≡ r.list) (λ e. r.holder_saw id v at e) (λ e. let below = (r.turn_owns (length s.views) e).2 in absurd (omega arith)) (λ i u _ a. r.holder_saw i u a);
         each_stage = each_new s.views id w o (λ i u. FitsTickets r.drawn r.serving r.turn r.owner i u.stage) (r.each_stage id v at) (λ e. let below = (r.turn_owns (length s.views) e).2 in omega arith) (λ i u _ a. r.each_stage i u a);
         each_view = each_new s.views id w o (λ i u. IsSome u.tag → Knowing r.list r.tag vs'' r.giver i u)
-            (λ _. record { numbered = known.numbered; begins = known.begins; own_all = known.own_all; own_seen = known.own_seen; taken = took v known.taken; gives = λ h. (gives.0, omega arith, gives.2); gives_none = λ h. absurd (omega arith); tagged = known.tagged })
-            (λ _. record { numbered = count; begins = known.begins; own_all = nothing_yet; own_seen = own_between by (length s.views) [] v.seen r.list [] (v.seen, refl) known.begins refl nothing_yet; taken = λ k d less. absurd (omega arith); gives = λ h. absurd (omega arith); gives_none = λ _. refl; tagged = known.tagged })
-            (λ i u ne a l. let k = r.each_view i u a l in record { numbered = k.numbered; begins = k.begins; own_all = k.own_all; own_seen = k.own_seen; taken = took u k.taken; gives = λ h. absurd (ne ((k.gives h).0 ∙ sym gives.0)); gives_none = k.gives_none; tagged = k.tagged });
+            (λ _. record { numbered = known.numbered; begins = known.begins; own_all = known.own_all; own_seen = known.own_seen; taken = took v known.taken; taken_seen = known.taken_seen; gives = λ h. (gives.0, omega arith, gives.2); gives_none = λ h. absurd (omega arith); tagged = known.tagged })
+            (λ _. record { numbered = count; begins = known.begins; own_all = nothing_yet; own_seen = own_between by (length s.views) [] v.seen r.list [] (v.seen, refl) known.begins refl nothing_yet; taken = λ k d less. absurd (omega arith); taken_seen = λ k d less. absurd (omega arith); gives = λ h. absurd (omega arith); gives_none = λ _. refl; tagged = known.tagged })
+            (λ i u ne a l. let k = r.each_view i u a l in record { numbered = k.numbered; begins = k.begins; own_all = k.own_all; own_seen = k.own_seen; taken = took u k.taken; taken_seen = k.taken_seen; gives = λ h. absurd (ne ((k.gives h).0 ∙ sym gives.0)); gives_none = k.gives_none; tagged = k.tagged });
         others = λ n h. r.others n (omega arith);
       }
 
@@ -158,11 +158,13 @@ module _ {V E T : Type 0} (entries : V → List E) (by : E → ℕ) (stands_for 
                 begins = long.2;
                 own_all = k.own_all;
                 own_seen = own_between by id v.seen (longer v.seen w.seen) r.list v.own long.0 long.2 k.own_seen k.own_all;
-                taken = All-append (λ (x : Ended E). IsSettled by r.list (longer v.seen w.seen) Vs x.number x.entries) v.ended (record { number = w.number; entries = w.own } ∷ w.ended)
+                taken = All-append (λ (x : Ended E). IsSettled by r.list (longer v.seen w.seen) Vs x.number x.entries) v.ended (record { number = w.number; entries = w.own; seen = w.seen } ∷ w.ended)
                     (each_weaker (IsSettled by r.list v.seen s.views) (IsSettled by r.list (longer v.seen w.seen) Vs) v.ended (λ n es p. (p.0, own_between by n v.seen (longer v.seen w.seen) r.list es long.0 long.2 p.1 p.0, spent_after n p.2)) k.taken)
-                    (All-cons (λ (x : Ended E). IsSettled by r.list (longer v.seen w.seen) Vs x.number x.entries) (record { number = w.number; entries = w.own }) w.ended
+                    (All-cons (λ (x : Ended E). IsSettled by r.list (longer v.seen w.seen) Vs x.number x.entries) (record { number = w.number; entries = w.own; seen = w.seen }) w.ended
                     (subst (λ n. IsSettled by r.list (longer v.seen w.seen) Vs n w.own) (sym k'.numbered) (k'.own_all, own_between by other w.seen (longer v.seen w.seen) r.list w.own long.1 long.2 k'.own_seen k'.own_all, spent_now))
                     (each_weaker (IsSettled by r.list w.seen s.views) (IsSettled by r.list (longer v.seen w.seen) Vs) w.ended (λ n es p. (p.0, own_between by n w.seen (longer v.seen w.seen) r.list es long.1 long.2 p.1 p.0, spent_after n p.2)) k'.taken));
+                taken_seen = All-append (λ (x : Ended E). IsPrefix x.seen r.list) v.ended (record { number = w.number; entries = w.own; seen = w.seen } ∷ w.ended) k.taken_seen
+                    (All-cons (λ (x : Ended E). IsPrefix x.seen r.list) (record { number = w.number; entries = w.own; seen = w.seen }) w.ended k'.begins k'.taken_seen);
                 gives = λ h. let t = mine h in (t.0, t.1 ∙ sym wide_after, t.2);
                 gives_none = none_give;
                 tagged = k.tagged;
@@ -174,6 +176,7 @@ module _ {V E T : Type 0} (entries : V → List E) (by : E → ℕ) (stands_for 
                 own_all = m.own_all;
                 own_seen = m.own_seen;
                 taken = each_weaker (IsSettled by r.list u.seen s.views) (IsSettled by r.list u.seen Vs) u.ended (λ n es p. (p.0, p.1, spent_after n p.2)) m.taken;
+                taken_seen = m.taken_seen;
                 gives = λ h. let t = m.gives h in (others_give i ne' t.0, t.1 ∙ sym wide_after, t.2);
                 gives_none = m.gives_none;
                 tagged = m.tagged;
@@ -197,6 +200,7 @@ module _ {V E T : Type 0} (entries : V → List E) (by : E → ℕ) (stands_for 
     pub seen : entries value ≡ v.seen
     pub own : entries_of by v.number (entries value) ≡ v.own
     pub ended : EachEnded (λ n es. entries_of by n (entries value) ≡ es) v.ended
+    pub ended_seen : All (λ (x : Ended E). IsPrefix x.seen (entries value)) v.ended
     pub others : (n : ℕ) → v.next ≤ n → entries_of by n (entries value) ≡ []
     pub stands : IfSome v.tag (stands_for value)
 
@@ -239,6 +243,7 @@ module _ {V E T : Type 0} (entries : V → List E) (by : E → ℕ) (stands_for 
       seen = has ∙ saw_all;
       own = ap (entries_of by v.number) has ∙ (ap (λ n. entries_of by n r.list) known.numbered ∙ known.own_all);
       ended = each_weaker (IsSettled by r.list v.seen s.views) (λ n es. entries_of by n (entries value) ≡ es) v.ended (λ n es p. ap (entries_of by n) has ∙ p.0) known.taken;
+      ended_seen = All-weaker (λ (x : Ended E). IsPrefix x.seen r.list) (λ x. IsPrefix x.seen (entries value)) (λ x p. subst (IsPrefix x.seen) (sym has) p) v.ended known.taken_seen;
       others = λ n past. let count = next_is in ap (entries_of by n) has ∙ r.others n (omega arith);
       stands = stands_at entries by stands_for value r.tag v.tag known.tagged stands;
     }

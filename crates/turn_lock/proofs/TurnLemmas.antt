@@ -1,5 +1,6 @@
 -- The steps of a turn keep the rule: a ticket is drawn, the turn is taken, and it ends.
 use Rattle.std.proofs.Common.{◌≡◌, ◌≢◌, ℕ, ◌+◌, ◌%◌, ◌^◌, ◌<◌, ◌≤◌, List, [], ◌∷◌, length, get_or, set, sym, refl, ap, ◌∙◌, subst, ⊎_elim, arith, Option, Some, None, IsSome, IfSome, unwrap_or, length-set}
+use Rattle.std.proofs.lemmas.List.Elements.{All-weaker}
 use mathlib.Core.Logic.{dite}
 use mathlib.Core.Option.{none, some, some-injective, some-ne-none}
 use native.Mathlib.Decide.{ℕ_discrete}
@@ -7,6 +8,7 @@ use lib.ListN.{get_elem?}
 use lib.Seq.{set-get_or}
 use Rattle.atomic_table.specs.Table.{State, Me, step, keeps, takes, gives, stepped, rest, Allows}
 use Rattle.atomic_table.proofs.Lists.{set_again, one_turn}
+use Rattle.turn_lock.specs.declared.view.Ended.{Ended}
 use Rattle.turn_lock.specs.declared.view.View.{View}
 use Rattle.turn_lock.specs.declared.view.Stage.TheVariants.{Rests, Waits, Holds}
 use Rattle.turn_lock.specs.Entries.{IsPrefix, entries_of, AddsOnly}
@@ -65,7 +67,7 @@ module _ {V E T : Type 0} (entries : V → List E) (by : E → ℕ) (stands_for 
           each_stage = each_set (λ i v. FitsTickets (r.drawn + 1) r.serving r.turn (put r.owner r.drawn id) i v.stage) s.views id w (omega arith, omega arith, put_here r.owner r.drawn id, idle)
               (λ i v _ a. fits_drawn r.drawn r.serving r.turn r.owner i id v.stage (r.each_stage i v a));
           each_view = each_set (λ i v. IsSome v.tag → Knowing r.list r.tag (set s.views id w) r.giver i v) s.views id w
-              (λ _. record { numbered = mine.numbered; begins = mine.begins; own_all = mine.own_all; own_seen = mine.own_seen; taken = mine.taken; gives = mine.gives; gives_none = mine.gives_none; tagged = mine.tagged })
+              (λ _. record { numbered = mine.numbered; begins = mine.begins; own_all = mine.own_all; own_seen = mine.own_seen; taken = mine.taken; taken_seen = mine.taken_seen; gives = mine.gives; gives_none = mine.gives_none; tagged = mine.tagged })
               (λ i v _ a l. still i v at live (r.each_view i v a l));
           others = λ n h. r.others n (subst (λ m. m ≤ n) (length-set s.views id w) h);
         },
@@ -177,6 +179,7 @@ module _ {V E T : Type 0} (entries : V → List E) (by : E → ℕ) (stands_for 
                 own_seen = own;
                 taken = each_weaker (IsSettled by r.list me.0.seen s.views) (IsSettled by (entries v) (entries v) (set s.views id w)) me.0.ended
                     (λ n es p. let ne = live_apart s.views id n me.0 at live p.2 in (later n ne ∙ p.0, later n ne ∙ p.0, spent_stays s.views id n me.0 w at live p.2)) known.taken;
+                taken_seen = All-weaker (λ (x : Ended E). IsPrefix x.seen r.list) (λ x. IsPrefix x.seen (entries v)) (λ x p. prefix_of_more by id x.seen r.list (entries v) p goes') me.0.ended known.taken_seen;
                 gives = λ h. let t = known.gives h in (t.0, t.1 ∙ sym (length-set s.views id w), t.2);
                 gives_none = known.gives_none;
                 tagged = known.tagged;

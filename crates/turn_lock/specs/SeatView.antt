@@ -13,7 +13,7 @@ pub record SeatView (E T : Type 0) : Type 0 where
   pub seen : List E
   -- the entries of its number among them
   pub own : List E
-  -- the numbers of the seats that were joined into it, with their entries
+  -- the numbers of the seats that were joined into it, with their entries and what they had seen
   pub ended : List (Ended E)
   -- the next number that it may give out, and the first that no seat of the lock may have; both are 0 where it may give out none
   pub next : ℕ
@@ -34,7 +34,7 @@ module _ {E T : Type 0} where
 
   -- a seat after another was joined into it: it has seen what either saw, and of the two one at most may give out numbers
   abbrev pub joined_seat : SeatView E T → SeatView E T → SeatView E T
-  joined_seat seat other = record seat { seen = longer seat.seen other.seen; ended = seat.ended ++ record { number = other.number; entries = other.own } ∷ other.ended; next = max seat.next other.next; limit = max seat.limit other.limit }
+  joined_seat seat other = record seat { seen = longer seat.seen other.seen; ended = seat.ended ++ record { number = other.number; entries = other.own; seen = other.seen } ∷ other.ended; next = max seat.next other.next; limit = max seat.limit other.limit }
 
   -- the seat may give out numbers, and each one given out is its own or that of a seat joined into it
   abbrev pub HasAllNumbers : SeatView E T → Type 0

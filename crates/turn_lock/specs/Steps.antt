@@ -32,7 +32,7 @@ module _ {E T : Type 0} where
 
   -- a seat that another was joined into: no entry of the other's numbers is forgotten
   abbrev pub joined_view : View E T → View E T → View E T
-  joined_view v w = record v { seen = longer v.seen w.seen; ended = v.ended ++ record { number = w.number; entries = w.own } ∷ w.ended; next = max v.next w.next; limit = max v.limit w.limit }
+  joined_view v w = record v { seen = longer v.seen w.seen; ended = v.ended ++ record { number = w.number; entries = w.own; seen = w.seen } ∷ w.ended; next = max v.next w.next; limit = max v.limit w.limit }
 
   -- the seat that was joined: a table leaves one view to all such seats, so it has no tag
   abbrev pub spent : View E T

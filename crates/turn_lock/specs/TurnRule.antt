@@ -55,6 +55,7 @@ module _ {V E T : Type 0} (entries : V → List E) (by : E → ℕ) (stands_for 
     pub own_all : entries_of by seat list ≡ v.own
     pub own_seen : entries_of by seat v.seen ≡ v.own
     pub taken : EachEnded (IsSettled by list v.seen views) v.ended
+    pub taken_seen : All (λ x. IsPrefix x.seen list) v.ended
     -- one seat gives out numbers, and the next is the number of the next seat of the table
     pub gives : 0 < v.limit → (seat ≡ giver) × (v.next ≡ length views) × (v.limit < 2 ^ 32)
     pub gives_none : v.limit ≡ 0 → v.next ≡ 0

@@ -5,12 +5,14 @@
 //! the value back, with exactly the entries that the last seat has seen.
 #![tactic(auto)]
 
+mod bell;
 mod booked;
 mod rule;
 mod seat;
 mod turn_lock;
 mod view;
 
+pub use bell::Bell;
 pub use booked::Booked;
 pub use seat::{LockSeat, Turn};
 pub use turn_lock::{NoLock, TurnLock};

@@ -1,5 +1,5 @@
 // Seats and turns.
-ghost use Rattle.std.specs.Prelude.{◌≡◌};
+ghost use Rattle.std.specs.Prelude.{◌≡◌, IsSome};
 
 use crate::booked::Booked;
 use crate::rule::Place;
@@ -31,6 +31,9 @@ impl<V: Booked> LockSeat<V> {
     /// The number of the seat, which each entry that it adds has to have.
     pub fn number(&self) -> u32
         ensures number { result ≡ self.now.number }
+
+        // What is true of every seat.
+        ensures tagged { IsSome self.now.tag }
     {
         self.number
     }

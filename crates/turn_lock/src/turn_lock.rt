@@ -6,6 +6,7 @@ ghost use Rattle.turn_lock.specs.Steps.{holding, Finds};
 ghost use Rattle.turn_lock.specs.Places.{IsLockTable};
 ghost use Rattle.turn_lock.specs.declared.view.Stage.TheVariants.{Waits};
 
+use crate::bell::{Bell, LOOKS};
 use crate::booked::Booked;
 use crate::rule::{
     Board, DrawTicket, GiveOut, LookAtServing, Place, SERVING, ServeNext, Start, TICKET, TakeIn,
@@ -14,17 +15,18 @@ use crate::rule::{
 use crate::seat::{LockSeat, Turn};
 use atomic_table::{Refused, Table};
 use std::alloc::{AllocFailed, Global};
+use std::hint::spin_loop;
 use std::marker::Model;
 use std::snapshot::Snapshot;
 use std::sync::Wait;
-use std::thread::yield_now;
-
-// How often a seat that waits looks again before it sleeps. To sleep and to be woken takes longer than a short turn.
-const LOOKS: u32 = 16;
+use std::sync::atomic::{AtomicU64, Ordering};
 
 /// A lock that its seats take turns at, in the order of their tickets.
 pub struct TurnLock<V: Booked> {
     board: Board<V>,
+    // How many threads sleep until another ticket is served, or are about to.
+    sleepers: AtomicU64,
+    bell: Bell,
 }
 
 impl<V: Booked> Model for TurnLock<V> {
@@ -68,7 +70,11 @@ impl<V: Booked> TurnLock<V> {
         }
         match Table::new(alloc, &[0, 0], slots, &start) {
             Ok((board, place)) => Ok((
-                TurnLock { board },
+                TurnLock {
+                    board,
+                    sleepers: AtomicU64::new(0),
+                    bell: Bell::new(),
+                },
                 LockSeat {
                     place,
                     number: 0,
@@ -83,6 +89,11 @@ impl<V: Booked> TurnLock<V> {
         }
     }
 
+    /// The bell beside the lock, for those who wait outside it for what another's turn brings.
+    pub fn bell(&self) -> &Bell {
+        &self.bell
+    }
+
     /// Waits for a turn, and takes the value out for it.
     pub fn enter<R: Wait>(&self, rt: &R, seat: LockSeat<V>) -> (V, Turn<V>)
         requires lock { seat.lock ≡ self.now }
@@ -92,6 +103,7 @@ impl<V: Booked> TurnLock<V> {
         ensures stands { IfSome seat.tag (V.stands_for result.0) }
         ensures turn { result.1 ≡ record seat { seen = V.entries result.0 } }
     {
+        approach(rt, &self.board, &self.sleepers);
         let LockSeat {
             mut place,
             number,
@@ -101,7 +113,7 @@ impl<V: Booked> TurnLock<V> {
             .board
             .shared
             .fetch_add::<DrawTicket>(&mut place, TICKET, 1);
-        let value = wait(rt, &self.board, &mut place, ticket);
+        let value = wait(rt, &self.board, &self.sleepers, &mut place, ticket);
         (
             value,
             Turn {
@@ -128,11 +140,10 @@ impl<V: Booked> TurnLock<V> {
         } = turn;
         let taken = self.board.shared.exchange(&mut place, VALUE, Some(value));
         let None = taken else { unreachable!() };
-        let served = self
-            .board
+        self.board
             .shared
             .fetch_add::<ServeNext<V>>(&mut place, SERVING, 1);
-        wake_waiting(&self.board, served);
+        wake(&self.board, &self.sleepers);
         LockSeat {
             place,
             number,
@@ -201,10 +212,15 @@ impl<V: Booked> TurnLock<V> {
         ensures seen { V.entries result ≡ seat.seen }
         ensures own { entries_of V.by seat.number (V.entries result) ≡ seat.own }
         ensures ended { All (λ x. entries_of V.by x.number (V.entries result) ≡ x.entries) seat.ended }
+        ensures ended_seen { All (λ x. IsPrefix x.seen (V.entries result)) seat.ended }
         ensures others { (n : ℕ) → seat.next ≤ n → entries_of V.by n (V.entries result) ≡ [] }
         ensures stands { IfSome seat.tag (V.stands_for result) }
     {
-        let TurnLock { board } = self;
+        let TurnLock {
+            board,
+            sleepers: _,
+            bell: _,
+        } = self;
         let LockSeat {
             place,
             number: _,
@@ -217,18 +233,31 @@ impl<V: Booked> TurnLock<V> {
     }
 }
 
-// Wakes the seats that sleep, if any may: some seat drew a ticket after the one that was served. A seat sleeps only
-// while the served ticket is the one it found, and it drew its own before that look, so none sleeps past its turn.
-fn wake_waiting<V: Booked>(board: &Board<V>, served: u64)
+// Waits until no ticket is out, so that a ticket which is drawn now is mostly served at once: one whose thread has no
+// processor when its turn comes holds up all later ones. The drawn tickets are looked at second. So where the numbers
+// differ, the ticket that was served had been drawn.
+fn approach<V: Booked, R: Wait>(rt: &R, board: &Board<V>, sleepers: &AtomicU64)
     requires { IsLockTable board.now.shared.table_id }
 {
-    if board.shared.peek(TICKET) != served.wrapping_add(1) {
-        board.shared.wake_all(SERVING);
+    let mut looks: u32 = 0;
+    for _ in rt.forever() {
+        let served = board.shared.peek(SERVING);
+        if board.shared.peek(TICKET) == served {
+            return;
+        }
+        looks = look_again(rt, board, sleepers, served, looks);
     }
+    unreachable!()
 }
 
 // Waits until a ticket is served, and takes the value out of the slot.
-fn wait<V: Booked, R: Wait>(rt: &R, board: &Board<V>, place: &mut Place<V>, ticket: u64) -> V
+fn wait<V: Booked, R: Wait>(
+    rt: &R,
+    board: &Board<V>,
+    sleepers: &AtomicU64,
+    place: &mut Place<V>,
+    ticket: u64,
+) -> V
     requires table { IsLockTable board.now.shared.table_id × (place.old.table_id ≡ board.now.shared.table_id) }
     requires live { IsSome place.old.me.0.tag }
     requires waits { (k : ℕ) × (place.old.me.0.stage ≡ Waits k) × (place.old.me.1 ≡ []) × (k % 2 ^ 64 ≡ ticket) }
@@ -242,12 +271,47 @@ fn wait<V: Booked, R: Wait>(rt: &R, board: &Board<V>, place: &mut Place<V>, tick
         if served == ticket {
             return board.shared.exchange(place, VALUE, None).unwrap();
         }
-        if looks < LOOKS {
-            looks += 1;
-            yield_now();
-        } else {
-            board.shared.park(rt, SERVING, (served % (1 << 32)) as u32);
-        }
+        looks = look_again(rt, board, sleepers, served, looks);
     }
     unreachable!()
+}
+
+// Comes back for another look, after so many looks and one at which this ticket was served, and says how many looks
+// there were. After many it sleeps first.
+fn look_again<V: Booked, R: Wait>(
+    rt: &R,
+    board: &Board<V>,
+    sleepers: &AtomicU64,
+    served: u64,
+    looks: u32,
+) -> u32
+    requires { IsLockTable board.now.shared.table_id }
+{
+    if looks < LOOKS {
+        spin_loop();
+        return looks + 1;
+    }
+    sleep(rt, board, sleepers, served);
+    looks
+}
+
+// Sleeps while this ticket is served. It had been drawn, so its turn is still to end. No wake-up is lost: the thread
+// counts itself before the system compares the ticket that is served with this one, and the end of a turn serves the
+// next ticket before it reads the count. So that end finds the thread counted, and wakes it, or the system finds another
+// ticket, and doesn't let it sleep. It compares the lower 32 bits: 2^32 turns would have to end between look and sleep.
+fn sleep<V: Booked, R: Wait>(rt: &R, board: &Board<V>, sleepers: &AtomicU64, served: u64)
+    requires { IsLockTable board.now.shared.table_id }
+{
+    sleepers.fetch_add(1, Ordering::SeqCst);
+    board.shared.park(rt, SERVING, (served % (1 << 32)) as u32);
+    sleepers.fetch_sub(1, Ordering::SeqCst);
+}
+
+// Wakes the threads that sleep, if there are any, once another ticket is served.
+fn wake<V: Booked>(board: &Board<V>, sleepers: &AtomicU64)
+    requires { IsLockTable board.now.shared.table_id }
+{
+    if sleepers.load(Ordering::SeqCst) != 0 {
+        board.shared.wake_all(SERVING);
+    }
 }

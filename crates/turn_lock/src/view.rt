@@ -8,10 +8,11 @@ pub enum Stage {
     Holds(u64),
 }
 
-/// A number whose seat was joined into another, with all its entries.
+/// A number whose seat was joined into another, with all its entries, and the list that the seat had seen.
 pub struct Ended<E> {
     pub number: u64,
     pub entries: LinkedList<E>,
+    pub seen: LinkedList<E>,
 }
 
 /// What a seat knows of the value, and where it is. `specs/SeatView.antt` has the part that callers see.

@@ -13,4 +13,4 @@ pub returns : goal.returns
 returns g c =
     let whole = whole_at_end g.V.Booked.entries g.V.Booked.by g.V.Booked.stands_for c.seat.inside.place.table_id _ _ _ _ c.seat.invariant.numbered.live c.seat.invariant.stage (subst HasAllNumbers (sym c.seat.view_is) c.requires.all) c.close_with-closed.ensures.values.2
     c.take.result c.unwrap-value.result c.take.ensures.value c.unwrap-value.ensures in
-    rw (← c.seat.view_is) record { seen = whole.seen; own = whole.own; ended = whole.ended; others = whole.others; stands = whole.stands }
+    rw (← c.seat.view_is) record { seen = whole.seen; own = whole.own; ended = whole.ended; ended_seen = whole.ended_seen; others = whole.others; stands = whole.stands }

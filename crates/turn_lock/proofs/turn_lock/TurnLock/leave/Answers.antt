@@ -8,8 +8,8 @@ use Rattle.turn_lock.specs.Steps.{rested}
 use Rattle.turn_lock.proofs.turn_lock.TurnLock.leave.Given.{Over}
 use Rattle.turn_lock.proofs.turn_lock.TurnLock.leave.Goals as goal
 
-pub fetch_add-served-requires : goal.fetch_add-served-requires
-fetch_add-served-requires g c =
+pub fetch_add-requires : goal.fetch_add-requires
+fetch_add-requires g c =
     let turn = c.turn.invariant in
     let here : c.turn.inside.place.table_id ≡ c.self.inside.board.shared.table_id = ap (λ s. s.lock) c.turn.view_is ∙ (c.requires.lock ∙ sym c.self.view_is) in
     let still : c.exchange-taken.new.seat.table_id ≡ c.turn.inside.place.table_id = c.exchange-taken.ensures.0 in
@@ -22,8 +22,8 @@ fetch_add-served-requires g c =
     )
 
 -- the seat's place once the turn has ended
-after : (g : Over) (c : goal.After-wake_waiting g) → c.fetch_add-served.new.seat.me ≡ (rested g.V.Booked.by c.turn.inside.place.me.0 (g.V.Booked.entries c.args.value), [])
-after g c = rested_after g.V.Booked.entries g.V.Booked.by g.V.Booked.stands_for c.turn.inside.place.me c.exchange-taken.new.seat.me c.fetch_add-served.new.seat.me c.args.value c.exchange-taken.ensures.3 c.turn.invariant.out c.fetch_add-served.ensures.2
+after : (g : Over) (c : goal.After-wake g) → c.fetch_add.new.seat.me ≡ (rested g.V.Booked.by c.turn.inside.place.me.0 (g.V.Booked.entries c.args.value), [])
+after g c = rested_after g.V.Booked.entries g.V.Booked.by g.V.Booked.stands_for c.turn.inside.place.me c.exchange-taken.new.seat.me c.fetch_add.new.seat.me c.args.value c.exchange-taken.ensures.3 c.turn.invariant.out c.fetch_add.ensures.2
 
 pub invariant_of-result : goal.invariant_of-result
 invariant_of-result g c =
@@ -36,7 +36,7 @@ invariant_of-result g c =
 
 pub returns-clause-seat : goal.returns-clause-seat
 returns-clause-seat g c =
-    let table = c.fetch_add-served.ensures.0 ∙ c.exchange-taken.ensures.0 in
+    let table = c.fetch_add.ensures.0 ∙ c.exchange-taken.ensures.0 in
     rw (← c.turn.view_is) (λ i. seat_view (table i) (after g c i).0)
 
 pub returns-clause-own : goal.returns-clause-own
