@@ -39,6 +39,8 @@ impl Held for Untold {
     ghost faults = { λ it. 0 };
 
     ghost holds = { λ it. Some it.0 };
+
+    ghost ends = { λ it frame want got. ⊥ };
 }
 
 // The instance of a source.

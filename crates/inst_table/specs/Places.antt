@@ -1,8 +1,8 @@
 -- Places, what stands at them, and the place that a worker means by a node.
 use Rattle.std.specs.Prelude.{◌≡◌, ℕ, ◌==◌, Bool, true, false, not, ◌&&◌, if◌then◌else◌, List, Option, Some, None, is_some}
 use Rattle.std.specs.Bool.{beq}
-use Rattle.std.specs.List.{AllPass}
-use Rattle.std.specs.Map.{lookup, set_value}
+use Rattle.std.specs.List.{AllPass, IsDistinct}
+use Rattle.std.specs.Map.{lookup, set_value, keys_of}
 use Rattle.inst_table.specs.declared.place.Place.{Place}
 use Rattle.inst_table.specs.declared.place.Slot.{Slot}
 use Rattle.inst_table.specs.declared.place.Slot.TheVariants.{Free, Leased}
@@ -26,6 +26,10 @@ module _ {I : Type 0} where
 
   abbrev pub has_place : Place → List (Place × Slot I) → Bool
   has_place place places = is_some (slot_at place places)
+
+  -- no place is there twice
+  abbrev pub PlacesDiffer : List (Place × Slot I) → Type 0
+  PlacesDiffer places = IsDistinct same_place (keys_of places)
 
   -- something else stands at a place that is there
   abbrev pub with_slot : Place → Slot I → List (Place × Slot I) → List (Place × Slot I)

@@ -1,6 +1,6 @@
 // Instances by their places, in a map, so that none is searched for.
-ghost use Rattle.std.specs.Prelude.{◌≡◌, ◌∷◌, ◌++◌, [], slice_get, IsTrue, IfOk, IfErr, IfSome, IfNone, IsSome};
-ghost use Rattle.inst_table.specs.Places.{place_at, slot_at, with_slot, is_out, is_free_entry, place_meant, IsNewPair, AllLent};
+ghost use Rattle.std.specs.Prelude.{◌≡◌, ◌∷◌, ◌++◌, [], length, slice_get, IsTrue, IfOk, IfErr, IfSome, IfNone, IsSome};
+ghost use Rattle.inst_table.specs.Places.{place_at, slot_at, with_slot, is_out, is_free_entry, place_meant, PlacesDiffer, IsNewPair, AllLent};
 ghost use Rattle.inst_table.specs.Changes.{Enters, TakesOne};
 
 use crate::{Entered, Lease, Place, Slot};
@@ -35,6 +35,16 @@ impl<I> InstTable<I> {
         InstTable {
             places: IndexMap::new(alloc),
         }
+    }
+
+    /// The number of instances that are in the table or lent.
+    pub fn len(&self) -> usize
+        ensures len { result ≡ length self.now }
+
+        // What is true of every table.
+        ensures differ { PlacesDiffer self.now }
+    {
+        self.places.len()
     }
 
     /// Adds an instance of a node, under a number that no instance of the node has. A shared one has the number 0. An

@@ -8,3 +8,5 @@ pub mod Standing
 pub mod Telling
 pub mod WorkerLemmas
 pub mod WindowLemmas
+pub mod ClosedLemmas
+pub mod TurnLemmas

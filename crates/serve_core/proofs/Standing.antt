@@ -55,6 +55,17 @@ either : (a b : Bool) → (a || b) ≡ true → (a ≡ true) ⊎ (b ≡ true)
 either true b h = inl refl
 either false b h = inr h
 
+-- an instance that is in the table is at another place than one that comes back, and stays there
+module _ {I : Type 0} (table : List (Place × Slot I)) (p : Place) (w : ℕ) (out : slot_at p table ≡ Some (LeasedTo w)) where
+  apart : (q : Place) (x : I) → slot_at q table ≡ Some (Free x) → same_place q p ≡ false
+  apart q x there = ⊎_elim
+      (λ (e : same_place q p ≡ true). let at : slot_at q table ≡ Some (LeasedTo w) = subst (λ z. slot_at z table ≡ Some (LeasedTo w)) (sym (same_places q p e)) out in
+      absurd (not_free (some_same (sym at ∙ there))))
+      (λ (e : same_place q p ≡ false). e) (test (same_place q p))
+
+  pub still_there : (q : Place) (x y : I) → slot_at q table ≡ Some (Free x) → slot_at q (with_slot p (Free y) table) ≡ Some (Free x)
+  still_there q x y there = slot_other q p (Free y) table (apart q x there) ∙ there
+
 module _ {I : Type 0} {feed : I → Option (List Picture)} {faults : I → ℕ} {book : Book} {numbers : List ℕ} {c : CoreValue I} (v : Stands feed faults book numbers c) where
   -- the journal goes on without a failure
   failed_on : (es : List Event) → AreQuiet es → (i : ℕ) → has_read i (c.journal ++ es) ≡ true → HasFailed feed faults book numbers c.fixed.plan c.table i
@@ -91,17 +102,10 @@ module _ {I : Type 0} {feed : I → Option (List Picture)} {faults : I → ℕ} 
     changed = changed_on (Enter w i p.instance ∷ []) (refl, tt);
   }
 
-  -- a source that is in the table is at another place than one that comes back
-  apart : (p : Place) (w i : ℕ) (x : I) → slot_at p c.table ≡ Some (LeasedTo w) → slot_at (shared_place i) c.table ≡ Some (Free x) → same_place (shared_place i) p ≡ false
-  apart p w i x out there = ⊎_elim
-      (λ (e : same_place (shared_place i) p ≡ true). let at : slot_at (shared_place i) c.table ≡ Some (LeasedTo w) = subst (λ z. slot_at z c.table ≡ Some (LeasedTo w)) (sym (same_places (shared_place i) p e)) out in
-      absurd (not_free (some_same (sym at ∙ there))))
-      (λ (e : same_place (shared_place i) p ≡ false). e) (test (same_place (shared_place i) p))
-
   still_failed : (p : Place) (w : ℕ) (y : I) (i : ℕ) → slot_at p c.table ≡ Some (LeasedTo w) → HasFailed feed faults book numbers c.fixed.plan c.table i → HasFailed feed faults book numbers c.fixed.plan (with_slot p (Free y) c.table) i
   still_failed p w y i out f = record {
     instance = f.instance;
-    there = slot_other (shared_place i) p (Free y) c.table (apart p w i f.instance out f.there) ∙ f.there;
+    there = still_there c.table p w out (shared_place i) f.instance y f.there;
     more = f.more;
   }
 

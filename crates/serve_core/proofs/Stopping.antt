@@ -6,19 +6,12 @@ use Rattle.serve_events.specs.declared.event.Event.TheVariants.{Publish, Fail}
 use Rattle.serve_events.specs.declared.event.WindowStop.{WindowStop}
 use Rattle.serve_events.specs.SerialRun.{eviction}
 use Rattle.serve_machine.specs.Stops.{kept_stop, stop_of, earlier, first_stop, is_read, has_read, is_changed, has_changed}
+use Rattle.serve_machine.proofs.ClosingLemmas.{first_stop-append}
 
 -- no event of these is a failure
 abbrev pub AreQuiet : List Event → Type 0
 AreQuiet [] = Unit {0}
 AreQuiet (e ∷ es) = (stop_of e ≡ None) × AreQuiet es
-
-pub first_append : (es fs : List Event) → first_stop (es ++ fs) ≡ earlier (first_stop es) (first_stop fs)
-first_append [] fs = refl
-first_append (e ∷ es) fs = ap (earlier (stop_of e)) (first_append es fs) ∙ joined (stop_of e)
-  where
-    joined : (o : Option WindowStop) → earlier o (earlier (first_stop es) (first_stop fs)) ≡ earlier (earlier o (first_stop es)) (first_stop fs)
-    joined None = refl
-    joined (Some why) = refl
 
 quiet_none : (fs : List Event) → AreQuiet fs → first_stop fs ≡ None
 quiet_none [] q = refl
@@ -29,14 +22,14 @@ earlier_none None = refl
 earlier_none (Some why) = refl
 
 pub first_quiet : (es fs : List Event) → AreQuiet fs → first_stop (es ++ fs) ≡ first_stop es
-first_quiet es fs q = first_append es fs ∙ (ap (earlier (first_stop es)) (quiet_none fs q) ∙ earlier_none (first_stop es))
+first_quiet es fs q = first_stop-append es fs ∙ (ap (earlier (first_stop es)) (quiet_none fs q) ∙ earlier_none (first_stop es))
 
 kept_earlier : (o : Option WindowStop) (why : WindowStop) → Some (kept_stop o why) ≡ earlier o (Some why)
 kept_earlier None why = refl
 kept_earlier (Some first) why = refl
 
 pub first_fail : (es : List Event) (w : ℕ) (why : WindowStop) → Some (kept_stop (first_stop es) why) ≡ first_stop (es ++ Fail w why ∷ [])
-first_fail es w why = kept_earlier (first_stop es) why ∙ sym (first_append es (Fail w why ∷ []))
+first_fail es w why = kept_earlier (first_stop es) why ∙ sym (first_stop-append es (Fail w why ∷ []))
 
 joined_or : (a b c : Bool) → (a || (b || c)) ≡ ((a || b) || c)
 joined_or true b c = refl

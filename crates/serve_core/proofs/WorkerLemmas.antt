@@ -1,5 +1,5 @@
 -- What a worker has in a core.
-use Rattle.std.proofs.Common.{◌≡◌, ℕ, ◌-◌, ◌==◌, true, false, ◌&&◌, ◌||◌, List, [], ◌∷◌, slice_get, Option, Some, None, sym, refl, ap, ◌∙◌, ⊎_elim, eq-eqb}
+use Rattle.std.proofs.Common.{◌≡◌, ℕ, ◌-◌, ◌==◌, true, false, ◌&&◌, ◌||◌, List, [], ◌∷◌, map, slice_get, Option, Some, None, sym, refl, ap, ◌∙◌, ⊎_elim, eq-eqb}
 use Rattle.std.specs.Prelude.{option_map}
 use Rattle.std.specs.Map.{keys_of}
 use Rattle.std.proofs.lemmas.Option.{slice_get-map}
@@ -10,13 +10,16 @@ use Rattle.frame_cache.proofs.CallerLemmas.{test, same_keys}
 use Rattle.inst_table.specs.declared.place.Slot.{Slot}
 use Rattle.inst_table.specs.declared.place.Slot.TheVariants.{Free, Leased}
 use Rattle.inst_table.specs.Places.{same_place, slot_at}
+use Rattle.serve_events.specs.Own.{own_events}
+use Rattle.serve_machine.specs.Holdings.{Holdings, outputs_of, IsToldBy}
 use Rattle.serve_machine.specs.Lifted.{bare, keys_machine}
 use Rattle.serve_machine.proofs.TruthLemmas.{by_there}
 use Rattle.serve_machine.proofs.SeenLemmas.{lookup_seen}
 use Rattle.serve_machine.proofs.HoldingLemmas.{own_events_tell}
 use Rattle.serve_core.specs.Holds.{claims_at}
-use Rattle.serve_core.specs.Runs.{holder, keys_alone, state_of}
-use Rattle.serve_core.specs.Workers.{OwnEventsTell}
+use Rattle.serve_core.specs.CoreValue.{CoreValue}
+use Rattle.serve_core.specs.Runs.{holder, keys_alone, state_of, IsRun}
+use Rattle.serve_core.specs.Workers.{told_holdings, OwnEventsTell}
 use Rattle.serve_core.proofs.Places.{some_same}
 use Rattle.serve_core.proofs.StepLemmas.{held_as}
 
@@ -38,10 +41,20 @@ node_of w k (c ∷ cs) h = ⊎_elim
     (λ (e : same_key k c.0 ≡ false). let ih = node_of w k cs (rw e at h) in
     elim (c.1 == w && (c.0).node == k.node) as (λ b. (b || claims_at w k.node cs) ≡ true) [ true ↦ refl | false ↦ ih ]) (test (same_key k c.0))
 
+-- in the state that the journal leads to
+module _ {I : Type 0} (c : CoreValue I) (w : ℕ) (r : IsRun c) where
+  told_in : IsToldBy (keys_machine c.fixed) (own_events w c.journal) (state_of c r.got r.entered) w
+  told_in = (own_events_tell (Unit {0})).told (keys_machine c.fixed) (keys_alone c.fixed.opening) (keys_of c.table) c.journal (state_of c r.got r.entered) w r.runs
+
+  -- the outputs that the worker took and has not delivered
+  pub told_outputs : (told_holdings c w).outputs ≡ outputs_of w c.fixed.first c.outputs.taken (map (option_map bare) c.outputs.frames)
+  told_outputs = ap (λ (h : Holdings). h.outputs) told_in.holdings
+
 pub has_told : (I : Type 0) → OwnEventsTell I
 has_told I c w r =
-    let told = (own_events_tell (Unit {0})).told (keys_machine c.fixed) (keys_alone c.fixed.opening) (keys_of c.table) c.journal (state_of c r.got r.entered) w r.runs in
+    let told = told_in c w r in
     record {
+      claims = ap (λ (h : Holdings). h.claims) told.holdings;
       claim = told.claim;
       node = λ k h. node_of w k c.claims (by_there w (at_key k c.claims) (sym (told.claim k) ∙ h));
       lease = λ p h. out_at w (slot_at p c.table) (sym (lookup_seen holder (same_place p) c.table) ∙ told.lease p h);

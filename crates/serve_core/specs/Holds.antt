@@ -1,5 +1,6 @@
 -- What a worker holds.
 use Rattle.std.specs.Prelude.{◌≡◌, ℕ, ◌==◌, Bool, true, false, not, ◌&&◌, List, [], ◌∷◌, Option, Some, None}
+use Rattle.fv_plane.specs.declared.key.Key.{Key}
 use Rattle.inst_table.specs.declared.place.Place.{Place}
 use Rattle.inst_table.specs.declared.place.Slot.{Slot}
 use Rattle.inst_table.specs.declared.place.Slot.TheVariants.{Free, Leased}
@@ -24,3 +25,11 @@ abbrev pub IsThere : {I : Type 0} → List (Place × Slot I) → WindowStop → 
 IsThere table (Read i) = is_free_at (slot_at (shared_place i) table) ≡ true
 IsThere table (Changed i n want got) = Unit {0}
 IsThere table Memory = Unit {0}
+
+-- the last of these keys, or the one before them
+abbrev pub last_after : Option Key → List Key → Option Key
+last_after before [] = before
+last_after before (k ∷ ks) = last_after (Some k) ks
+
+abbrev pub newest : List Key → Option Key
+newest keys = last_after None keys

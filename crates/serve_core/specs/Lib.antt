@@ -5,6 +5,7 @@ pub mod Holds
 pub mod Kept
 pub mod Runs
 pub mod Stands
+pub mod Turns
 pub mod Told
 pub mod Workers
 pub mod WindowRuns
@@ -14,4 +15,5 @@ pub use Rattle.serve_machine.specs.Machine
 pub use Rattle.serve_machine.specs.Law
 pub use Rattle.serve_machine.specs.Lifted
 pub use Rattle.serve_machine.specs.Holdings
+pub use Rattle.serve_machine.specs.Closing
 pub use Rattle.serve_machine.specs.Renders

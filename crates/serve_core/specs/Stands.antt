@@ -37,6 +37,18 @@ AnswerIsRight book plan k Claimed = Unit {0}
 AnswerIsRight book plan k (Taken v) = Unit {0}
 AnswerIsRight book plan k (Stopped why) = Unit {0}
 
+-- the source of node i is in the table, and its bytes ended too early
+pub record EndsThere {I : Type 0} (ends : I → ℕ → ℕ → ℕ → Type 0) (table : List (Place × Slot I))
+    (i frame want got : ℕ) : Type 0 where
+  pub instance : I
+  pub there : slot_at (shared_place i) table ≡ Some (Free instance)
+  pub early : ends instance frame want got
+
+abbrev pub EndShows : {I : Type 0} → (I → ℕ → ℕ → ℕ → Type 0) → List (Place × Slot I) → WindowStop → Type 0
+EndShows ends table (Read i) = Unit {0}
+EndShows ends table (Changed i frame want got) = EndsThere ends table i frame want got
+EndShows ends table Memory = Unit {0}
+
 module _ {I : Type 0} (feed : I → Option (List Picture)) (faults : I → ℕ) (book : Book) (numbers : List ℕ) where
   -- a source's instance has its frames of a told book, and counts no fewer faults than its number
   abbrev pub FitsAct : Act → I → Type 0

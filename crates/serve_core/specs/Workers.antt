@@ -1,5 +1,6 @@
 -- What a worker has in a core is told by its own events of the journal.
-use Rattle.std.specs.Prelude.{◌≡◌, ℕ, ◌-◌, ◌<◌, ◌≤◌, true, [], ◌∷◌, slice_get, is_some, Some, None}
+use Rattle.std.specs.Prelude.{◌≡◌, ℕ, ◌+◌, ◌-◌, ◌<◌, ◌≤◌, true, List, [], ◌∷◌, length, slice_get, is_some, Some, None}
+use Rattle.fv_plane.specs.Picture.{Picture}
 use Rattle.fv_plane.specs.declared.key.Key.{Key}
 use Rattle.frame_cache.specs.Cached.{at_key}
 use Rattle.inst_table.specs.declared.place.Place.{Place}
@@ -9,7 +10,10 @@ use Rattle.serve_events.specs.Keys.{has}
 use Rattle.serve_events.specs.Own.{own_events}
 use Rattle.serve_machine.specs.State.{is_by}
 use Rattle.serve_machine.specs.Stops.{first_stop}
-use Rattle.serve_machine.specs.Holdings.{Holdings, has_number, own_holdings}
+use Rattle.serve_machine.specs.Holdings.{Holdings, has_number, own_holdings, claims_of}
+use Rattle.serve_events.specs.declared.event.Event.{Event}
+use Rattle.serve_events.specs.declared.event.Event.TheVariants.{Take}
+use Rattle.serve_core.specs.Kept.{leases_out}
 use Rattle.serve_core.specs.CoreValue.{CoreValue}
 use Rattle.serve_core.specs.Holds.{claims_at, holds_none}
 use Rattle.serve_core.specs.Runs.{IsRun}
@@ -27,6 +31,7 @@ module _ {I : Type 0} where
 
   -- the worker has what its own events say
   pub record HasTold (c : CoreValue I) (w : ℕ) : Type 0 where
+    pub claims : (told_holdings c w).claims ≡ claims_of w c.claims
     pub claim : (k : Key) → has k (told_holdings c w).claims ≡ is_by w (at_key k c.claims)
     pub node : (k : Key) → has k (told_holdings c w).claims ≡ true → claims_at w k.node c.claims ≡ true
     pub lease : (p : Place) → (told_holdings c w).leases ≡ p ∷ [] → slot_at p c.table ≡ Some (Leased w)
@@ -37,3 +42,21 @@ module _ {I : Type 0} where
 -- in every core
 abbrev pub OwnEventsTell : Type 0 → Type 0
 OwnEventsTell I = (c : CoreValue I) (w : ℕ) → IsRun c → HasTold c w
+
+-- the outputs that were taken
+abbrev pub takes : List Event → ℕ
+takes [] = 0
+takes (Take w n ∷ es) = takes es + 1
+takes (e ∷ es) = takes es
+
+-- The journal tells how many outputs were taken. Where each worker has closed what it opened, no claim and no instance is
+-- open, and each output that was taken is delivered.
+pub record WorkersTell (I : Type 0) : Type 0 where
+  pub taken : (c : CoreValue I) → IsRun c → length c.outputs.taken ≡ takes c.journal
+  pub closed_claims : (c : CoreValue I) → IsRun c
+      → ((w : ℕ) → w < c.fixed.workers → (told_holdings c w).claims ≡ []) → c.claims ≡ []
+  pub closed_leases : (c : CoreValue I) → IsRun c
+      → ((w : ℕ) → w < c.fixed.workers → (told_holdings c w).leases ≡ []) → leases_out c.table ≡ 0
+  pub delivered : (c : CoreValue I) → IsRun c
+      → ((w : ℕ) → w < c.fixed.workers → (told_holdings c w).outputs ≡ [])
+      → (j : ℕ) → j < length c.outputs.taken → (x : Picture) × (slice_get c.outputs.frames j ≡ Some (Some x))

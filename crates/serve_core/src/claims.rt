@@ -2,6 +2,8 @@
 // is deep.
 ghost use Rattle.std.specs.Prelude.{◌≡◌, ◌+◌, length, true};
 ghost use Rattle.std.specs.List.{position_or_len};
+ghost use Rattle.serve_core.specs.Holds.{newest};
+ghost use Rattle.serve_machine.specs.Holdings.{claims_of};
 ghost use Rattle.frame_cache.specs.Cached.{same_key, at_key, has_key, without_key};
 
 use fv_plane::Key;
@@ -30,6 +32,19 @@ pub(crate) fn claimant(claims: &[(Key, u32)], key: Key) -> Option<u32>
         }
     }
     None
+}
+
+/// The worker's claim that stands last.
+pub(crate) fn newest_of(claims: &[(Key, u32)], worker: u32) -> Option<Key>
+    ensures { result ≡ newest (claims_of worker claims.now) }
+{
+    let mut found = None;
+    for (key, other) in claims {
+        if *other == worker {
+            found = Some(*key);
+        }
+    }
+    found
 }
 
 /// Ends the claim on a key.

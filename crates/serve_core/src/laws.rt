@@ -1,16 +1,22 @@
 // What the definitions of the calls have in common, and what the journal of a core tells.
 ghost use Rattle.serve_core.specs.Stands.{CallsStand};
 ghost use Rattle.serve_core.specs.Told.{RunsAreTold};
+ghost use Rattle.serve_core.specs.Turns.{TurnsStand};
 ghost use Rattle.serve_core.specs.WindowRuns.{WindowsAreRuns};
-ghost use Rattle.serve_core.specs.Workers.{OwnEventsTell};
+ghost use Rattle.serve_core.specs.Workers.{OwnEventsTell, WorkersTell};
 
 use inst_table::Held;
-pub use serve_machine::laws::runs_refine;
+pub use serve_machine::laws::{runs_refine, work_closes};
 
 /// Each call leaves a core standing for the book and the counts of faults for which it stood, where what is handed in
 /// fits them, and what it hands out fits them too. `begin_window` takes new counts.
 pub fn calls_stand<I: Held>()
     ensures { CallsStand I.feed I.faults }
+{}
+
+/// Each call leaves a core of the window that it was of, for whatever the window's first core stood.
+pub fn turns_stand<I: Held>()
+    ensures { TurnsStand I.feed I.faults I.ends }
 {}
 
 /// Where a core stands for a told book, its journal is a run over frames too. It leads to the frames that the core has,
@@ -23,6 +29,11 @@ pub fn runs_are_told<I: Held>()
 /// that it took and has not delivered.
 pub fn own_events_tell<I>()
     ensures { OwnEventsTell I }
+{}
+
+/// Where each worker has closed what it opened, by its own events, nothing is open in the core.
+pub fn workers_tell<I>()
+    ensures { WorkersTell I }
 {}
 
 /// The window of a core is a run that begins with the opening keys, and it leaves the keys that are cached.

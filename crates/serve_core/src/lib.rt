@@ -8,6 +8,7 @@
 #![tactic(auto)]
 
 mod answers;
+mod booked;
 mod claims;
 pub mod laws;
 mod state;

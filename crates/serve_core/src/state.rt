@@ -7,21 +7,22 @@ ghost use Rattle.fv_plane.specs.Picture.{Picture};
 ghost use Rattle.clip_graph.specs.Plan.{application_at, IsPlan};
 ghost use Rattle.clip_graph.specs.Unfolding.{input_keys};
 ghost use Rattle.frame_cache.specs.Cached.{at_key, Differ};
-ghost use Rattle.inst_table.specs.Places.{slot_at};
+ghost use Rattle.inst_table.specs.Places.{slot_at, PlacesDiffer};
 ghost use Rattle.inst_table.specs.declared.place.Slot.TheVariants.{Leased};
 ghost use Rattle.serve_events.specs.Keys.{IsKey, frame_key, mode_at};
 ghost use Rattle.serve_events.specs.Own.{has_got, has_got_all, may_fail, names_source};
 ghost use Rattle.serve_events.specs.SerialRun.{eviction};
 ghost use Rattle.serve_core.specs.Calls.{Asked, Admits, left, published, abandoned};
 ghost use Rattle.serve_core.specs.Calls.{TookOutput, delivered, failing, made, begun, ended};
-ghost use Rattle.serve_core.specs.Holds.{claims_at, holds_none, IsThere};
+ghost use Rattle.serve_core.specs.Holds.{claims_at, holds_none, newest, IsThere};
 ghost use Rattle.serve_core.specs.Kept.{leases_out, IsBetween, IsUndelivered, AnswerIsShaped, AnswerHolds};
 ghost use Rattle.serve_core.specs.Runs.{IsRun};
 ghost use Rattle.serve_core.specs.Sources.{shape_at, opened_at, IsFurnished, HoldTheirs};
+ghost use Rattle.serve_machine.specs.Holdings.{claims_of};
 ghost use Rattle.serve_machine.specs.Stops.{kept_stop, first_stop};
 
 use crate::answers::{Admitted, Ask, Finished};
-use crate::claims::{claimant, close};
+use crate::claims::{claimant, close, newest_of};
 use clip_graph::Graph;
 use frame_cache::FrameCache;
 use fv_plane::{Frame, Key};
@@ -182,12 +183,31 @@ impl<I: Held> Core<I> {
         self.cache.len()
     }
 
+    /// The number of instances. Each that is in the table keeps the source of its node, where it has one.
+    pub fn instances(&self) -> usize
+        ensures instances { result ≡ length self.now.table }
+
+        // What is true of every core.
+        ensures differ { PlacesDiffer self.now.table }
+        ensures sources { HoldTheirs I.holds self.now.fixed.plan self.now.table }
+    {
+        let _ = &self.journal;
+        self.table.len()
+    }
+
     /// In a window the journal is a run of the machine, over keys alone: it leads from the keys that were cached when
     /// the window began to what is cached, claimed, lent, taken, delivered and stopped now.
     pub fn account(&self)
         ensures { 0 < self.now.fixed.count → IsRun self.now }
     {
         let _ = &self.journal;
+    }
+
+    /// The claim that the worker took last, of those that are open.
+    pub fn newest_claim(&self, worker: u32) -> Option<Key>
+        ensures { result ≡ newest (claims_of worker self.now.claims) }
+    {
+        newest_of(&self.claims, worker)
     }
 
     /// Begins a window of 1 to 32 outputs from number `first` on, between windows. It empties the journal and reserves

@@ -9,3 +9,4 @@ pub mod WorkerLists
 pub mod HoldingLemmas
 pub mod RenderLemmas
 pub mod ReachLemmas
+pub mod ClosingLemmas

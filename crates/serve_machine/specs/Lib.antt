@@ -6,3 +6,4 @@ pub mod Examples
 pub mod Lifted
 pub mod Holdings
 pub mod Renders
+pub mod Closing

@@ -1,5 +1,6 @@
 // Laws of the machine, each the contract of a function with an empty body.
 ghost use Rattle.std.specs.Prelude.{◌≡◌, true, is_some, None};
+ghost use Rattle.serve_machine.specs.Closing.{WorkCloses};
 ghost use Rattle.serve_machine.specs.Examples.{ran, hit_after_eviction, publish_after_eviction};
 ghost use Rattle.serve_machine.specs.Examples.{claimed_twice, entered_twice, wrong_instance};
 ghost use Rattle.serve_machine.specs.Holdings.{OwnEventsTell};
@@ -38,6 +39,11 @@ pub fn makes_once<F>()
 /// A worker that delivers outputs claims only keys that these reach.
 pub fn work_reaches()
     ensures { WorkReaches }
+{}
+
+/// Work closes what it opens, by a worker's own events.
+pub fn work_closes()
+    ensures { WorkCloses }
 {}
 
 /// Two lists of events that are runs, and three that are none.
