@@ -1,5 +1,5 @@
 -- The frame that a node's instance makes is that of its key.
-use Rattle.std.proofs.Common.{◌≡◌, ℕ, ◌<◌, ◌==◌, Bool, true, false, List, [], map, Some, sym, refl, ap, ◌∙◌, arith, slice_get, length}
+use Rattle.std.proofs.Common.{◌≡◌, ℕ, ◌<◌, ◌==◌, Bool, true, false, List, [], map, Option, Some, sym, refl, ap, ◌∙◌, subst, arith, slice_get, length}
 use Rattle.std.specs.Prelude.{slice_index_or}
 use Rattle.std.proofs.lemmas.Option.{get_or_from_slice_get}
 use Rattle.fv_plane.specs.declared.format.Info.{Info}
@@ -7,13 +7,15 @@ use Rattle.fv_plane.specs.declared.key.Key.{Key}
 use Rattle.fv_plane.specs.Look.{look_in, picture_from}
 use Rattle.fv_plane.specs.Picture.{Picture}
 use Rattle.clip_term.specs.ClipTerm.{Act, source, plain, time, space, joined, soft}
-use Rattle.clip_graph.specs.Plan.{Application, application_at, is_source, IsPlan, IsCounted}
-use Rattle.clip_graph.specs.Unfolding.{input_keys, key_made, key_picture}
+use Rattle.clip_term.specs.Terms.{asked}
+use Rattle.clip_graph.specs.Plan.{Application, application_at, infos_at, is_source, IsPlan, IsCounted}
+use Rattle.clip_graph.specs.Unfolding.{key_of, input_keys, key_made, key_picture}
 use Rattle.clip_graph.proofs.UnfoldingLemmas.{unfolds}
 use Rattle.clip_term.proofs.ListedLemmas.{listed}
 use Rattle.inst_table.specs.Places.{shared_place}
 use Rattle.serve_events.specs.Keys.{mode_at, instance_in}
 use Rattle.serve_core.specs.Sources.{place_of}
+use Rattle.serve_core.specs.Stands.{Book, FitsAct, IsRight}
 use Rattle.serve_worker.specs.Works.{IsMade}
 
 -- a source has mode 3
@@ -56,3 +58,25 @@ source_right plan k b name number info frame is less act feed made told =
 pub filter_right : (plan : List Application) (k : Key) (b : List (List Picture)) (inputs : List Picture) (frame : Picture) → IsPlan plan → k.node < length plan → frame ≡ key_made b plan k inputs
     → inputs ≡ map (key_picture b plan) (input_keys plan k) → frame ≡ key_picture b plan k
 filter_right plan k b inputs frame is less made are = made ∙ ap (key_made b plan k) are ∙ unfolds b plan k is less
+
+-- the frame of either
+
+module _ {I : Type 0} (feed : I → Option (List Picture)) (faults : I → ℕ) (plan : List Application) (k : Key) (inputs : List Picture) (value : I) (frame : Picture) (book : Book) (numbers : List ℕ) where
+  pub made_right : IsPlan plan → k.node < length plan → IsMade plan k (feed value) inputs frame → (is_source (application_at plan k.node).act ≡ true → FitsAct feed faults book numbers (application_at plan k.node).act value)
+      → ((b : List (List Picture)) → book ≡ Some b → inputs ≡ map (key_picture b plan) (input_keys plan k)) → IsRight book plan k frame
+  made_right is less made fits right b q = pick (application_at plan k.node).act refl
+    where
+      other : is_source (application_at plan k.node).act ≡ false → frame ≡ key_picture b plan k
+      other is_none = filter_right plan k b inputs frame is less (made.filtered is_none b) (right b q)
+
+      pick : (act : Act) → (application_at plan k.node).act ≡ act → frame ≡ key_picture b plan k
+      pick (source name number info) e =
+          let fit : FitsAct feed faults book numbers (source name number info) value = subst (λ act. FitsAct feed faults book numbers act value) e (fits (ap is_source e)) in
+          let told : feed value ≡ Some (slice_index_or b number []) = fit.0 b q in
+          let none : inputs ≡ [] = right b q ∙ ap (λ act. map (key_picture b plan) (map (key_of plan k.node) (asked act (infos_at plan k.node) k.n))) e in
+          source_right plan k b name number info frame is less e (slice_index_or b number []) (subst (λ l. IsMade plan k (Some (slice_index_or b number [])) l frame) none (subst (λ o. IsMade plan k o inputs frame) told made)) refl
+      pick (plain info colour) e = other (ap is_source e)
+      pick (time op) e = other (ap is_source e)
+      pick (space op) e = other (ap is_source e)
+      pick (joined op) e = other (ap is_source e)
+      pick (soft op) e = other (ap is_source e)

@@ -14,8 +14,8 @@ use Rattle.fv_plane.specs.declared.key.Key.{Key}
 use Rattle.fv_plane.specs.Picture.{Picture}
 use Rattle.clip_term.specs.ClipTerm.{Act, source, plain, time, space, joined, soft}
 use Rattle.clip_term.specs.Terms.{asked}
-use Rattle.clip_graph.specs.Plan.{Application, application_at, infos_at, is_source, IsPlan}
-use Rattle.clip_graph.specs.Unfolding.{key_of, input_keys, key_picture, IsKeyBelow}
+use Rattle.clip_graph.specs.Plan.{Application, application_at, is_source, IsPlan}
+use Rattle.clip_graph.specs.Unfolding.{input_keys, key_picture, IsKeyBelow}
 use Rattle.clip_graph.proofs.UnfoldingLemmas.{inputs_are_keys}
 use Rattle.frame_cache.specs.Cached.{without_key, fronted, dropped_key}
 use Rattle.inst_table.specs.declared.place.Place.{Place}
@@ -48,7 +48,7 @@ use Rattle.serve_worker.specs.Made.{Returned, Keeps, AreRight, StopIs, Made, Unm
 use Rattle.serve_worker.specs.Works.{IsMade, MakeStops}
 use Rattle.serve_worker.proofs.Going.{went_none, went_more, abandon_went, lent_went, no_lease}
 use Rattle.serve_worker.proofs.KeyLemmas.{has_keys, keys_fronted, keys_put, not_there, closed_claim}
-use Rattle.serve_worker.proofs.Making.{source_mode, no_source, shared_for, source_right, filter_right}
+use Rattle.serve_worker.proofs.Making.{source_mode, no_source, shared_for, filter_right, made_right}
 
 below : (a b : ℕ) → a < b → nat_lt a b ≡ true
 below a b h = (Decides-ltb a b).1 h
@@ -105,7 +105,7 @@ module _ {I : Type 0} (holds : I → Option Info) (feed : I → Option (List Pic
   plain_unmade c k (Ok x) a is = tt
   plain_unmade c k (Err why) a is = subst (λ w. Unmade holds feed faults ends plan c k w c) (sym is) (unmade_now c c k a refl)
 
-  fits_more : (act : Act) (x y : I) (book : Book) (numbers : List ℕ) → feed y ≡ feed x → faults x ≤ faults y → FitsAct feed faults book numbers act x → FitsAct feed faults book numbers act y
+  pub fits_more : (act : Act) (x y : I) (book : Book) (numbers : List ℕ) → feed y ≡ feed x → faults x ≤ faults y → FitsAct feed faults book numbers act x → FitsAct feed faults book numbers act y
   fits_more (source name number info) x y book numbers f g h = let low = h.1 in ((λ b q. f ∙ h.0 b q), omega arith)
   fits_more (plain info colour) x y book numbers f g h = tt
   fits_more (time op) x y book numbers f g h = tt
@@ -142,23 +142,8 @@ module _ {I : Type 0} (holds : I → Option Info) (feed : I → Option (List Pic
 
   frame_right : (c : CoreValue I) (k : Key) (inputs : List Picture) (l : Lent I) (x : Picture) (book : Book) (numbers : List ℕ) → Alone plan c → k.node < length plan → l.place ≡ place_of c.fixed.plan 0 k.node
       → IsMade plan k (feed l.value) inputs x → Fits feed faults book numbers c.fixed.plan l.place l.value → AreRight holds feed faults ends plan c (input_keys plan k) inputs book → IsRight book plan k x
-  frame_right c k inputs l x book numbers a less place made fits right b q = pick (application_at plan k.node).act refl
-    where
-      other : is_source (application_at plan k.node).act ≡ false → x ≡ key_picture b plan k
-      other is_none = filter_right plan k b inputs x a.is_plan less (made.filtered is_none b) (right b q)
-
-      pick : (act : Act) → (application_at plan k.node).act ≡ act → x ≡ key_picture b plan k
-      pick (source name number info) e =
-          let is : is_source (application_at plan k.node).act ≡ true = ap is_source e in
-          let fit : FitsAct feed faults book numbers (source name number info) l.value = subst (λ act. FitsAct feed faults book numbers act l.value) e (source_fits c k.node l book numbers a less is place fits) in
-          let told : feed l.value ≡ Some (slice_index_or b number []) = fit.0 b q in
-          let none : inputs ≡ [] = right b q ∙ ap (λ act. map (key_picture b plan) (map (key_of plan k.node) (asked act (infos_at plan k.node) k.n))) e in
-          source_right plan k b name number info x a.is_plan less e (slice_index_or b number []) (subst (λ l. IsMade plan k (Some (slice_index_or b number [])) l x) none (subst (λ o. IsMade plan k o inputs x) told made)) refl
-      pick (plain info colour) e = other (ap is_source e)
-      pick (time op) e = other (ap is_source e)
-      pick (space op) e = other (ap is_source e)
-      pick (joined op) e = other (ap is_source e)
-      pick (soft op) e = other (ap is_source e)
+  frame_right c k inputs l x book numbers a less place made fits right =
+      made_right feed faults plan k inputs l.value x book numbers a.is_plan less made (λ is. source_fits c k.node l book numbers a less is place fits) right
 
   pub made_ok : (c c1 e : CoreValue I) (k : Key) (inputs : List Picture) (l : Lent I) (r : Result Picture WindowStop) → Alone plan c → k.node < length plan → (mode_at plan k.node ≡ 1 → ⊥) → c.stop ≡ first_stop c.journal → Admits c 0 k.node (Lends l) c1
       → Returned holds feed faults ends plan k inputs l c1 r e → IfOk r (λ x. Made holds feed faults ends plan c k inputs x e)
@@ -187,7 +172,7 @@ module _ {I : Type 0} (holds : I → Option Info) (feed : I → Option (List Pic
       let last : List Event = Leave 0 l.place.node l.place.instance ∷ [] in
       ap (λ (z : CoreValue I). has_entered 0 i z.journal) is ∙ (ap (λ (z : CoreValue I). has_entered 0 i (z.journal ++ last)) adm.3 ∙ (ap (has_entered 0 i) (append_assoc c.journal (Enter 0 i j ∷ []) last) ∙ entered_now 0 i j c.journal last))
 
-  exceeds : (act : Act) (x y : I) (book : Book) (numbers : List ℕ) → FitsAct feed faults book numbers act x → HasRisen (faults x) (faults y) → ExceedsAct feed faults book numbers act y
+  pub exceeds : (act : Act) (x y : I) (book : Book) (numbers : List ℕ) → FitsAct feed faults book numbers act x → HasRisen (faults x) (faults y) → ExceedsAct feed faults book numbers act y
   exceeds (source name number info) x y book numbers fits risen = let low = fits.1 in omega arith
   exceeds (plain info colour) x y book numbers fits risen = tt
   exceeds (time op) x y book numbers fits risen = tt
@@ -195,7 +180,7 @@ module _ {I : Type 0} (holds : I → Option Info) (feed : I → Option (List Pic
   exceeds (joined op) x y book numbers fits risen = tt
   exceeds (soft op) x y book numbers fits risen = tt
 
-  untold_book : (act : Act) (x : I) (book : Book) (numbers : List ℕ) → is_source act ≡ true → ((frames : List Picture) → feed x ≡ Some frames → ⊥) → FitsAct feed faults book numbers act x → book ≡ None
+  pub untold_book : (act : Act) (x : I) (book : Book) (numbers : List ℕ) → is_source act ≡ true → ((frames : List Picture) → feed x ≡ Some frames → ⊥) → FitsAct feed faults book numbers act x → book ≡ None
   untold_book (source name number info) x None numbers is untold fits = refl
   untold_book (source name number info) x (Some b) numbers is untold fits = absurd (untold (slice_index_or b number []) (fits.0 b refl))
   untold_book (plain info colour) x book numbers is untold fits = absurd (cc)

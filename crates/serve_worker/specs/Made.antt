@@ -8,36 +8,19 @@ use Rattle.clip_graph.specs.Plan.{Application}
 use Rattle.clip_graph.specs.Unfolding.{input_keys, key_picture}
 use Rattle.clip_frames.specs.Asked.{AreOfKeys}
 use Rattle.frame_cache.specs.Cached.{without_key}
-use Rattle.inst_table.specs.declared.place.Place.{Place}
-use Rattle.inst_table.specs.declared.place.Slot.{Slot}
-use Rattle.inst_table.specs.declared.place.Slot.TheVariants.{Free}
 use Rattle.inst_table.specs.Lent.{Lent}
-use Rattle.inst_table.specs.Places.{slot_at, shared_place}
 use Rattle.serve_events.specs.declared.event.Event.{Event}
 use Rattle.serve_events.specs.declared.event.Event.TheVariants.{Publish}
 use Rattle.serve_events.specs.declared.event.WindowStop.{WindowStop}
-use Rattle.serve_events.specs.declared.event.WindowStop.TheVariants.{Read, Changed, Memory}
 use Rattle.serve_events.specs.Own.{has_got, has_got_all, may_fail, names_source}
 use Rattle.serve_events.specs.SerialRun.{serial_production_within, each_produced, leases, eviction_from}
 use Rattle.serve_core.specs.Calls.{left}
 use Rattle.serve_core.specs.CoreValue.{CoreValue}
 use Rattle.serve_core.specs.Holds.{IsThere}
 use Rattle.serve_core.specs.Sources.{shape_at}
-use Rattle.serve_core.specs.Stands.{Book, Stands, StopFits, IsRight}
+use Rattle.serve_core.specs.Stands.{Book, Stands, StopFits, IsRight, EndShows}
 use Rattle.serve_worker.specs.Alone.{AllFree, held_in, Went, Ran}
 use Rattle.serve_worker.specs.Works.{IsMade, MakeStops}
-
--- the source of node i is in the table, and its bytes ended too early
-pub record EndsThere {I : Type 0} (ends : I → ℕ → ℕ → ℕ → Type 0) (table : List (Place × Slot I))
-    (i frame want got : ℕ) : Type 0 where
-  pub instance : I
-  pub there : slot_at (shared_place i) table ≡ Some (Free instance)
-  pub early : ends instance frame want got
-
-abbrev pub EndShows : {I : Type 0} → (I → ℕ → ℕ → ℕ → Type 0) → List (Place × Slot I) → WindowStop → Type 0
-EndShows ends table (Read i) = Unit {0}
-EndShows ends table (Changed i frame want got) = EndsThere ends table i frame want got
-EndShows ends table Memory = Unit {0}
 
 module _ {I : Type 0} (holds : I → Option Info) (feed : I → Option (List Picture)) (faults : I → ℕ)
     (ends : I → ℕ → ℕ → ℕ → Type 0) (plan : List Application) where

@@ -13,9 +13,9 @@ use Rattle.serve_events.specs.SerialRun.{Serial, serial_production, serial_deliv
 use Rattle.serve_events.specs.Work.{CutShort, FailedWork}
 use Rattle.serve_core.specs.Calls.{next_output}
 use Rattle.serve_core.specs.CoreValue.{CoreValue}
-use Rattle.serve_core.specs.Stands.{StopFits}
+use Rattle.serve_core.specs.Stands.{StopFits, EndShows}
 use Rattle.serve_worker.specs.Alone.{AllFree, held_in}
-use Rattle.serve_worker.specs.Made.{Keeps, StopIs, EndShows}
+use Rattle.serve_worker.specs.Made.{Keeps, StopIs}
 
 -- between two outputs no claim is open, and the outputs are frames of the root
 pub record Ready {I : Type 0} (plan : List Application) (c : CoreValue I) : Type 0 where

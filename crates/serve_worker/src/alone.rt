@@ -45,6 +45,13 @@ impl Worker {
     {
         self.number
     }
+
+    /// The graph that it renders.
+    pub fn graph(&self) -> &Graph
+        ensures { result.now ≡ self.now.plan }
+    {
+        &self.graph
+    }
 }
 
 // Delivers the next output. False where all are taken.

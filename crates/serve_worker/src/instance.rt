@@ -11,7 +11,7 @@ ghost use Rattle.serve_core.specs.Sources.{opened_at};
 ghost use Rattle.serve_worker.specs.Instances.{feed_of, faults_of, holds_of, Ends, ReadStops};
 ghost use Rattle.serve_worker.specs.Works.{IsMade, MakeStops};
 
-use crate::filtered::filtered;
+use crate::filtering::filtered;
 use crate::works::Works;
 use clip_graph::Graph;
 use flt_soft::Scratch;
@@ -39,11 +39,11 @@ impl<S: Source> Held for Instance<S> {
     ghost faults = { λ it. faults_of S.Source it };
 
     ghost holds = { λ it. holds_of it };
+
+    ghost ends = { λ it. Ends it };
 }
 
 impl<S: Source> Works for Instance<S> {
-    ghost ends = { λ it. Ends it };
-
     fn make(
         &mut self,
         alloc: Global,

@@ -5,7 +5,7 @@
 #![tactic(auto)]
 
 mod alone;
-mod filtered;
+mod filtering;
 mod furnishing;
 mod instance;
 mod produce;
@@ -13,6 +13,7 @@ mod works;
 
 pub use alone::{Worker, run_alone};
 pub use clip_frames::input_at;
+pub use filtering::filtered;
 pub use furnishing::furnish;
 pub use instance::Instance;
 pub use works::Works;

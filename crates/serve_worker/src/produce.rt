@@ -13,7 +13,7 @@ ghost use Rattle.serve_core.specs.Sources.{opened_at};
 ghost use Rattle.serve_worker.specs.Alone.{Alone, AllFrom};
 ghost use Rattle.serve_worker.specs.Made.{Returned, Made, Unmade, Published, Produced, Gathered, Stopped};
 
-use crate::filtered::filtered;
+use crate::filtering::filtered;
 use crate::works::Works;
 use clip_frames::input_at;
 use clip_graph::Graph;

@@ -14,11 +14,6 @@ use std::alloc::Global;
 
 /// An instance of a node at work.
 pub trait Works: Held {
-    ghost use Rattle.std.specs.Prelude.{ℕ};
-
-    /// Whether the bytes of its source end at an offset, before another, the one just past a frame.
-    ghost ends: { Self → ℕ → ℕ → ℕ → Type 0 };
-
     /// The frame of a key, from the frames that it is made of. A source reads it. An `Err` says why there is none; the
     /// instance can be asked again.
     fn make(
@@ -32,7 +27,7 @@ pub trait Works: Held {
         requires source { Self.holds self.old ≡ opened_at graph.now key.node }
         requires shapes { AreOfKeys graph.now (input_keys graph.now key) inputs.now }
         ensures made { IfOk result (IsMade graph.now key (Self.feed self.old) inputs.now) }
-        ensures stop { IfErr result (MakeStops Self.feed Self.faults ends graph.now key.node self.old self.new) }
+        ensures stop { IfErr result (MakeStops Self.feed Self.faults Self.ends graph.now key.node self.old self.new) }
         ensures feed { Self.feed self.new ≡ Self.feed self.old }
         ensures faults { Self.faults self.old ≤ Self.faults self.new }
         ensures source { Self.holds self.new ≡ Self.holds self.old };

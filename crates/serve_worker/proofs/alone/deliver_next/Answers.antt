@@ -11,7 +11,7 @@ use Rattle.serve_worker.proofs.Serving.{is_taken, still_open, output_key, taken_
 use Rattle.serve_worker.proofs.alone.deliver_next.Goals as goal
 
 pub returns-in-Err-clause-err : goal.returns-in-Err-clause-err
-returns-in-Err-clause-err g c = untaken_cut g.I.Held.holds g.I.Held.feed g.I.Held.faults g.I.Works.ends c.args.graph.now c.args.core.now c.take_output.new.self c.requires.alone c.in-Err.ensures.err
+returns-in-Err-clause-err g c = untaken_cut g.I.Held.holds g.I.Held.feed g.I.Held.faults g.I.Held.ends c.args.graph.now c.args.core.now c.take_output.new.self c.requires.alone c.in-Err.ensures.err
 
 pub produce-requires-clause-alone : goal.produce-requires-clause-alone
 produce-requires-clause-alone g c =
@@ -44,12 +44,12 @@ deliver-requires-clause-open g c =
 pub returns-in-Ok-clause-ok : goal.returns-in-Ok-clause-ok
 returns-in-Ok-clause-ok g c =
     let took = subst (λ o. TookOutput c.args.core.now 0 o c.take_output.new.self) c.in-Ok-Some.field-0-is c.in-Ok-Some.ensures.ok in
-    (c.in-Ok.frame, step_ok g.I.Held.holds g.I.Held.feed g.I.Held.faults g.I.Works.ends c.args.graph.now c.args.core.now c.take_output.new.self c.produce.new.core c.deliver.new.self c.root.result c.in-Ok-Some.n c.in-Ok.frame c.requires.alone.plan_is took c.root.ensures.root c.in-Ok.ensures.ok c.deliver.ensures)
+    (c.in-Ok.frame, step_ok g.I.Held.holds g.I.Held.feed g.I.Held.faults g.I.Held.ends c.args.graph.now c.args.core.now c.take_output.new.self c.produce.new.core c.deliver.new.self c.root.result c.in-Ok-Some.n c.in-Ok.frame c.requires.alone.plan_is took c.root.ensures.root c.in-Ok.ensures.ok c.deliver.ensures)
 
 pub returns-in-Err-produce-clause-err : goal.returns-in-Err-produce-clause-err
 returns-in-Err-produce-clause-err g c =
     let took = subst (λ o. TookOutput c.args.core.now 0 o c.take_output.new.self) c.in-Ok-Some.field-0-is c.in-Ok-Some.ensures.ok in
-    taken_cut g.I.Held.holds g.I.Held.feed g.I.Held.faults g.I.Works.ends c.args.graph.now c.args.core.now c.take_output.new.self c.produce.new.core c.root.result c.in-Ok-Some.n c.in-Err-produce.stop took c.root.ensures.root c.in-Err-produce.ensures.err
+    taken_cut g.I.Held.holds g.I.Held.feed g.I.Held.faults g.I.Held.ends c.args.graph.now c.args.core.now c.take_output.new.self c.produce.new.core c.root.result c.in-Ok-Some.n c.in-Err-produce.stop took c.root.ensures.root c.in-Err-produce.ensures.err
 
 pub deliver-requires-clause-worker : goal.deliver-requires-clause-worker
 deliver-requires-clause-worker g c =

@@ -11,7 +11,7 @@ abbrev pub decreases-produce : goal.decreases-produce
 decreases-produce g l = 2 * l.key.node + 1
 
 abbrev pub invariant-gather-loop-input : goal.invariant-gather-loop-input
-invariant-gather-loop-input g l = (l.i ≤ length (input_keys l.graph l.key)) × Gathered g.I.Held.holds g.I.Held.feed g.I.Held.faults g.I.Works.ends l.graph l.fn.core l.key.node (take l.i (input_keys l.graph l.key)) l.frames.items l.core
+invariant-gather-loop-input g l = (l.i ≤ length (input_keys l.graph l.key)) × Gathered g.I.Held.holds g.I.Held.feed g.I.Held.faults g.I.Held.ends l.graph l.fn.core l.key.node (take l.i (input_keys l.graph l.key)) l.frames.items l.core
 
 abbrev pub decreases-gather-loop-input : goal.decreases-gather-loop-input
 decreases-gather-loop-input g l = length (input_keys l.graph l.key) - l.i

@@ -12,7 +12,7 @@ pub make-requires-clause-claim : goal.make-requires-clause-claim
 make-requires-clause-claim g c = claim_at c.args.key 0 c.args.core.now.claims c.requires.claim
 
 pub returns-in_default-clause-err : goal.returns-in_default-clause-err
-returns-in_default-clause-err g c = unmade_after g.I.Held.holds g.I.Held.feed g.I.Held.faults g.I.Works.ends c.args.graph.now c.args.core.now c.make.new.core c.make.new.core c.args.key c.args.frames.now c.in-Ok.frame c.in-Ok.ensures.ok refl
+returns-in_default-clause-err g c = unmade_after g.I.Held.holds g.I.Held.feed g.I.Held.faults g.I.Held.ends c.args.graph.now c.args.core.now c.make.new.core c.make.new.core c.args.key c.args.frames.now c.in-Ok.frame c.in-Ok.ensures.ok refl
 
 pub publish-requires-clause-hands : goal.publish-requires-clause-hands
 publish-requires-clause-hands g c = none_held c.make.new.core.table c.in-Ok.ensures.ok.went.free
@@ -24,7 +24,7 @@ publish-requires-clause-got g c =
     (subst (λ es. has_got_all 0 (input_keys c.args.graph.now c.args.key) es ≡ true) (sym went.journal) (all_got 0 (input_keys c.args.graph.now c.args.key) c.args.core.now.journal _ c.requires.got))
 
 pub returns-in-Ok-publish-clause-ok : goal.returns-in-Ok-publish-clause-ok
-returns-in-Ok-publish-clause-ok g c = published_ok g.I.Held.holds g.I.Held.feed g.I.Held.faults g.I.Works.ends c.args.graph.now c.args.core.now c.make.new.core c.publish.new.self c.args.key c.args.frames.now c.in-Ok.frame c.in-Ok-share.kept c.requires.alone.plan_is c.in-Ok.ensures.ok c.in-Ok-share.ensures c.in-Ok-publish.ensures.ok
+returns-in-Ok-publish-clause-ok g c = published_ok g.I.Held.holds g.I.Held.feed g.I.Held.faults g.I.Held.ends c.args.graph.now c.args.core.now c.make.new.core c.publish.new.self c.args.key c.args.frames.now c.in-Ok.frame c.in-Ok-share.kept c.requires.alone.plan_is c.in-Ok.ensures.ok c.in-Ok-share.ensures c.in-Ok-publish.ensures.ok
 
 pub returns-in-Err-publish-clause-err : goal.returns-in-Err-publish-clause-err
-returns-in-Err-publish-clause-err g c = unmade_after g.I.Held.holds g.I.Held.feed g.I.Held.faults g.I.Works.ends c.args.graph.now c.args.core.now c.make.new.core c.publish.new.self c.args.key c.args.frames.now c.in-Ok.frame c.in-Ok.ensures.ok c.in-Err-publish.ensures.err
+returns-in-Err-publish-clause-err g c = unmade_after g.I.Held.holds g.I.Held.feed g.I.Held.faults g.I.Held.ends c.args.graph.now c.args.core.now c.make.new.core c.publish.new.self c.args.key c.args.frames.now c.in-Ok.frame c.in-Ok.ensures.ok c.in-Err-publish.ensures.err

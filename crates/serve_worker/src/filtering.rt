@@ -15,7 +15,7 @@ use serve_events::WindowStop;
 use std::alloc::{AllocError, Global};
 
 /// The frame that a filter makes of the frames of its inputs.
-pub(crate) fn filtered(
+pub fn filtered(
     alloc: Global,
     graph: &Graph,
     key: Key,

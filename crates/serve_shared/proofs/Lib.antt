@@ -1,0 +1,10 @@
+pub mod ClaimLemmas
+pub mod EventLemmas
+pub mod TurnLemmas
+pub mod TurnCases
+pub mod StopCases
+pub mod SeatLemmas
+pub mod MakeLemmas
+pub mod ProduceLemmas
+pub mod ShareLemmas
+pub mod CallerLemmas

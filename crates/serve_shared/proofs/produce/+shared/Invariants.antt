@@ -1,0 +1,20 @@
+-- The inputs of a key are of earlier nodes.
+use Rattle.std.proofs.Common.{◌+◌, ◌-◌, ◌*◌, ◌≤◌, length, take}
+use Rattle.clip_graph.specs.Unfolding.{input_keys}
+use Rattle.serve_shared.specs.Shares.{Gathered}
+use Rattle.serve_shared.proofs.produce.+shared.Given as goal
+
+abbrev pub decreases-gather : goal.decreases-gather
+decreases-gather g l = 2 * l.key.node
+
+abbrev pub decreases-produce : goal.decreases-produce
+decreases-produce g l = 2 * l.key.node + 1
+
+abbrev pub invariant-gather-loop-input : goal.invariant-gather-loop-input
+invariant-gather-loop-input g l = record {
+  inside : l.i ≤ length (input_keys l.worker.plan l.key);
+  gathered : Gathered g.I.Held.feed g.I.Held.faults l.worker l.fn.seat (take l.i (input_keys l.worker.plan l.key)) l.frames.items l.seat;
+}
+
+abbrev pub decreases-gather-loop-input : goal.decreases-gather-loop-input
+decreases-gather-loop-input g l = length (input_keys l.worker.plan l.key) - l.i

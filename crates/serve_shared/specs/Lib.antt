@@ -1,0 +1,4 @@
+pub mod Seats
+pub mod Shares
+pub mod Steps
+pub mod Turns

@@ -1,0 +1,170 @@
+// What a worker does to the core in one turn: the events of one call, or those that close its work.
+ghost use Rattle.std.specs.Prelude.{◌≡◌, ◌<◌, true, false, Some, length, IfOk, IfErr, OnOk};
+ghost use Rattle.clip_graph.specs.Unfolding.{input_keys};
+ghost use Rattle.frame_cache.specs.Cached.{at_key};
+ghost use Rattle.serve_events.specs.Keys.{IsKey, mode_at};
+ghost use Rattle.serve_events.specs.Own.{has_got_all, may_fail, names_source};
+ghost use Rattle.serve_machine.specs.Stops.{first_stop};
+ghost use Rattle.serve_core.specs.Calls.{published, failing};
+ghost use Rattle.serve_core.specs.Holds.{claims_at, holds_none, IsThere};
+ghost use Rattle.serve_core.specs.Sources.{shape_at};
+ghost use Rattle.serve_shared.specs.Steps.{IsRunning, closed, RunsOut, Refuses, Finds, Enters, Takes};
+
+use fv_plane::{Frame, Key};
+use inst_table::{Held, Lease};
+use serve_core::{Admitted, Ask, Core};
+use serve_events::WindowStop;
+use turn_lock::Bell;
+
+/// What a worker learns that asks for a frame.
+pub(crate) enum Found {
+    /// It is cached: this is a share of it.
+    Hit(Frame),
+    /// The worker has the claim on it now.
+    Claimed,
+    /// Another worker has the claim on it. The bell had this many strokes then.
+    Taken { heard: u64 },
+}
+
+/// What a worker learns that asks for its instance of a node.
+pub(crate) enum Entry<I> {
+    /// The instance, which has to be given back.
+    Leased(Lease<I>),
+    /// Another worker has it. The bell had this many strokes then.
+    Busy { heard: u64 },
+}
+
+// Gives up each claim of the worker, the newest first.
+fn give_up<I: Held>(core: &mut Core<I>, bell: &Bell, number: u32)
+    requires worker { number < core.old.fixed.workers }
+    requires window { 0 < core.old.fixed.count }
+    ensures { core.new ≡ closed number core.old }
+{
+    core.account();
+    'claims: while let Some(key) = core.newest_claim(number) {
+        core.abandon(number, key);
+    }
+    bell.strike();
+}
+
+/// Closes what the worker has open, and fails.
+pub(crate) fn fail<I: Held>(core: &mut Core<I>, bell: &Bell, number: u32, stop: WindowStop)
+    requires worker { IsRunning number core.old }
+    requires cause { may_fail number stop core.old.journal ≡ true }
+    requires source { names_source core.old.fixed.plan stop ≡ true }
+    requires there { IsThere core.old.table stop }
+    ensures { core.new ≡ failing (closed number core.old) number stop }
+{
+    give_up(core, bell, number);
+    core.fail(number, stop);
+}
+
+// Fails as there is no memory.
+fn run_out<I: Held>(core: &mut Core<I>, bell: &Bell, number: u32) -> WindowStop
+    requires { IsRunning number core.old }
+    ensures { RunsOut number result core.old core.new }
+{
+    fail(core, bell, number, WindowStop::Memory);
+    WindowStop::Memory
+}
+
+/// Asks for a frame. A worker that gets no answer has closed its work.
+pub(crate) fn ask<I: Held>(
+    core: &mut Core<I>,
+    bell: &Bell,
+    number: u32,
+    key: Key,
+) -> Result<Found, WindowStop>
+    requires worker { IsRunning number core.old }
+    requires key { IsKey core.old.fixed.plan key }
+    requires open { at_key key core.old.claims ≡ Some number → ⊥ }
+    ensures ok { IfOk result (λ found. Finds core.old number key found core.new) }
+    ensures err { IfErr result (λ stop. Refuses number stop core.old core.new) }
+    ensures stopped { core.old.stop ≡ first_stop core.old.journal }
+{
+    match core.ask(number, key) {
+        Ok(Ask::Hit(frame)) => Ok(Found::Hit(frame)),
+        Ok(Ask::Claimed) => Ok(Found::Claimed),
+        Ok(Ask::Taken { by: _ }) => Ok(Found::Taken {
+            heard: bell.strokes(),
+        }),
+        Ok(Ask::Stopped(stop)) => {
+            give_up(core, bell, number);
+            Err(stop)
+        }
+        Err(_) => Err(run_out(core, bell, number)),
+    }
+}
+
+/// Asks for the worker's instance of a node. A worker that gets no answer has closed its work.
+pub(crate) fn enter<I: Held>(
+    core: &mut Core<I>,
+    bell: &Bell,
+    number: u32,
+    node: u32,
+) -> Result<Entry<I>, WindowStop>
+    requires worker { IsRunning number core.old }
+    requires node { node < length core.old.fixed.plan }
+    requires mode { (mode_at core.old.fixed.plan node ≡ 1) → ⊥ }
+    requires claim { claims_at number node core.old.claims ≡ true }
+    requires hands { holds_none number core.old.table ≡ true }
+    ensures ok { IfOk result (λ entry. Enters I.holds core.old number node entry core.new) }
+    ensures err { IfErr result (λ stop. Refuses number stop core.old core.new) }
+    ensures stopped { core.old.stop ≡ first_stop core.old.journal }
+{
+    match core.enter(number, node) {
+        Ok(Admitted::Leased(lease)) => Ok(Entry::Leased(lease)),
+        Ok(Admitted::Busy { holder: _ }) => Ok(Entry::Busy {
+            heard: bell.strokes(),
+        }),
+        Ok(Admitted::Stopped(stop)) => {
+            give_up(core, bell, number);
+            Err(stop)
+        }
+        Err(_) => Err(run_out(core, bell, number)),
+    }
+}
+
+/// Publishes the frame of a claim. A worker that can't has closed its work.
+pub(crate) fn publish<I: Held>(
+    core: &mut Core<I>,
+    bell: &Bell,
+    number: u32,
+    key: Key,
+    frame: Frame,
+) -> Result<(), WindowStop>
+    requires worker { IsRunning number core.old }
+    requires claim { at_key key core.old.claims ≡ Some number }
+    requires hands { holds_none number core.old.table ≡ true }
+    requires got { has_got_all number (input_keys core.old.fixed.plan key) core.old.journal ≡ true }
+    requires shape { frame.shape ≡ shape_at core.old.fixed.plan key.node }
+    ensures ok { OnOk result (core.new ≡ published core.old number key frame) }
+    ensures err { IfErr result (λ stop. RunsOut number stop core.old core.new) }
+{
+    match core.publish(number, key, frame) {
+        Ok(()) => {
+            bell.strike();
+            Ok(())
+        }
+        Err(_) => Err(run_out(core, bell, number)),
+    }
+}
+
+/// Takes the next output, and answers its frame's key. `None` comes where none is left or the window was stopped.
+pub(crate) fn take<I: Held>(
+    core: &mut Core<I>,
+    bell: &Bell,
+    number: u32,
+) -> Result<Option<Key>, WindowStop>
+    requires { IsRunning number core.old }
+    ensures ok { IfOk result (λ key. Takes core.old number key core.new) }
+    ensures err { IfErr result (λ stop. RunsOut number stop core.old core.new) }
+    ensures stopped { core.old.stop ≡ first_stop core.old.journal }
+{
+    let node = core.root();
+    match core.take_output(number) {
+        Ok(Some(n)) => Ok(Some(Key { node, n })),
+        Ok(None) => Ok(None),
+        Err(_) => Err(run_out(core, bell, number)),
+    }
+}

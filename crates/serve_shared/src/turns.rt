@@ -1,0 +1,210 @@
+// Each function takes one turn at the lock.
+ghost use Rattle.std.specs.Prelude.{◌≡◌, ◌<◌, true, false, length, [], ◌∷◌, IfSome, IfOk, IfErr};
+ghost use Rattle.clip_graph.specs.Unfolding.{input_keys};
+ghost use Rattle.inst_table.specs.Lent.{Lent};
+ghost use Rattle.serve_events.specs.declared.event.Event.TheVariants.{Leave, Deliver};
+ghost use Rattle.serve_events.specs.declared.event.WindowStop.TheVariants.{Memory};
+ghost use Rattle.serve_events.specs.Keys.{IsKey, has, mode_at, instance_of};
+ghost use Rattle.serve_events.specs.Own.{has_got, has_got_all};
+ghost use Rattle.serve_machine.specs.Holdings.{has_number};
+ghost use Rattle.serve_core.specs.Sources.{shape_at};
+ghost use Rattle.serve_shared.specs.Seats.{seat_holdings, HasSeat, AtWork, Adds, RightFor};
+ghost use Rattle.serve_shared.specs.Shares.{StopsNow};
+ghost use Rattle.serve_shared.specs.Turns.{TurnAsks, TurnEnters, TurnTakes, TurnPublishes, IsLent, HasStopped};
+
+use crate::steps::{Entry, Found, ask, enter, fail, publish, take};
+use fv_plane::{Frame, Key};
+use inst_table::{Held, Lease};
+use serve_core::Core;
+use serve_events::WindowStop;
+use serve_worker::Worker;
+use std::sync::Wait;
+use turn_lock::{Bell, LockSeat, TurnLock};
+
+// Wakes those who wait outside the lock after a turn that closed a worker's work.
+fn wake_stopped<T>(bell: &Bell, found: &Result<T, WindowStop>) {
+    if found.is_err() {
+        bell.wake();
+    }
+}
+
+/// Asks for a frame.
+pub(crate) fn ask_turn<R: Wait, I: Held>(
+    rt: &R,
+    lock: &TurnLock<Core<I>>,
+    seat: LockSeat<Core<I>>,
+    worker: &Worker,
+    key: Key,
+) -> (LockSeat<Core<I>>, Result<Found, WindowStop>)
+    requires lock { seat.lock ≡ lock.now }
+    requires work { AtWork worker.now seat }
+    requires key { IsKey worker.now.plan key }
+    requires open { has key (seat_holdings worker.now seat).claims ≡ false }
+    ensures { TurnAsks I.holds I.feed I.faults worker.now seat key result.1 result.0 }
+{
+    let (mut core, turn) = lock.enter(rt, seat);
+    core.account();
+    let found = ask(&mut core, lock.bell(), worker.number(), key);
+    let seat = lock.leave(turn, core);
+    wake_stopped(lock.bell(), &found);
+    (seat, found)
+}
+
+/// Asks for the worker's instance of a claim's node.
+pub(crate) fn enter_turn<R: Wait, I: Held>(
+    rt: &R,
+    lock: &TurnLock<Core<I>>,
+    seat: LockSeat<Core<I>>,
+    worker: &Worker,
+    key: Key,
+) -> (LockSeat<Core<I>>, Result<Entry<I>, WindowStop>)
+    requires lock { seat.lock ≡ lock.now }
+    requires work { AtWork worker.now seat }
+    requires key { IsKey worker.now.plan key }
+    requires mode { (mode_at worker.now.plan key.node ≡ 1) → ⊥ }
+    requires claim { has key (seat_holdings worker.now seat).claims ≡ true }
+    ensures { TurnEnters I.holds I.feed I.faults worker.now seat key.node result.1 result.0 }
+{
+    let (mut core, turn) = lock.enter(rt, seat);
+    core.account();
+    let entry = enter(&mut core, lock.bell(), worker.number(), key.node);
+    let seat = lock.leave(turn, core);
+    wake_stopped(lock.bell(), &entry);
+    (seat, entry)
+}
+
+/// Gives an instance back.
+pub(crate) fn leave_turn<R: Wait, I: Held>(
+    rt: &R,
+    lock: &TurnLock<Core<I>>,
+    seat: LockSeat<Core<I>>,
+    worker: &Worker,
+    lease: Lease<I>,
+) -> LockSeat<Core<I>>
+    requires lock { seat.lock ≡ lock.now }
+    requires sits { HasSeat worker.now seat }
+    requires out { (seat_holdings worker.now seat).leases ≡ lease.place ∷ [] }
+    requires lent { IsLent I.holds I.feed I.faults worker.now seat lease.place.node lease }
+    ensures { Adds (Leave worker.now.number lease.place.node lease.place.instance ∷ []) seat result }
+{
+    let (mut core, turn) = lock.enter(rt, seat);
+    core.account();
+    core.leave(worker.number(), lease);
+    lock.bell().strike();
+    let seat = lock.leave(turn, core);
+    lock.bell().wake();
+    seat
+}
+
+/// Gives back an instance that made no frame, and closes the worker's work.
+pub(crate) fn give_back_turn<R: Wait, I: Held>(
+    rt: &R,
+    lock: &TurnLock<Core<I>>,
+    seat: LockSeat<Core<I>>,
+    worker: &Worker,
+    lease: Lease<I>,
+    stop: WindowStop,
+) -> LockSeat<Core<I>>
+    requires lock { seat.lock ≡ lock.now }
+    requires sits { HasSeat worker.now seat }
+    requires out { (seat_holdings worker.now seat).leases ≡ lease.place ∷ [] }
+    requires stopped { HasStopped I.holds I.feed I.faults I.ends worker.now seat lease stop }
+    ensures { StopsNow worker.now stop
+        (Leave worker.now.number lease.place.node lease.place.instance ∷ []) seat result }
+{
+    let number = worker.number();
+    let (mut core, turn) = lock.enter(rt, seat);
+    core.account();
+    core.leave(number, lease);
+    fail(&mut core, lock.bell(), number, stop);
+    let seat = lock.leave(turn, core);
+    lock.bell().wake();
+    seat
+}
+
+/// Closes the work of a worker that is out of memory.
+pub(crate) fn fail_turn<R: Wait, I: Held>(
+    rt: &R,
+    lock: &TurnLock<Core<I>>,
+    seat: LockSeat<Core<I>>,
+    worker: &Worker,
+) -> LockSeat<Core<I>>
+    requires lock { seat.lock ≡ lock.now }
+    requires work { AtWork worker.now seat }
+    ensures { StopsNow worker.now Memory [] seat result }
+{
+    let (mut core, turn) = lock.enter(rt, seat);
+    core.account();
+    fail(&mut core, lock.bell(), worker.number(), WindowStop::Memory);
+    let seat = lock.leave(turn, core);
+    lock.bell().wake();
+    seat
+}
+
+/// Publishes the frame of a claim.
+pub(crate) fn publish_turn<R: Wait, I: Held>(
+    rt: &R,
+    lock: &TurnLock<Core<I>>,
+    seat: LockSeat<Core<I>>,
+    worker: &Worker,
+    key: Key,
+    frame: Frame,
+) -> (LockSeat<Core<I>>, Result<(), WindowStop>)
+    requires lock { seat.lock ≡ lock.now }
+    requires work { AtWork worker.now seat }
+    requires claim { has key (seat_holdings worker.now seat).claims ≡ true }
+    requires got { has_got_all worker.now.number (input_keys worker.now.plan key) seat.own ≡ true }
+    requires shape { frame.shape ≡ shape_at worker.now.plan key.node }
+    requires right { RightFor I.feed I.faults worker.now.plan seat key frame }
+    ensures { TurnPublishes worker.now seat key result.1 result.0 }
+{
+    let (mut core, turn) = lock.enter(rt, seat);
+    core.account();
+    let done = publish(&mut core, lock.bell(), worker.number(), key, frame);
+    let seat = lock.leave(turn, core);
+    lock.bell().wake();
+    (seat, done)
+}
+
+/// Takes the next output.
+pub(crate) fn take_turn<R: Wait, I: Held>(
+    rt: &R,
+    lock: &TurnLock<Core<I>>,
+    seat: LockSeat<Core<I>>,
+    worker: &Worker,
+) -> (LockSeat<Core<I>>, Result<Option<Key>, WindowStop>)
+    requires lock { seat.lock ≡ lock.now }
+    requires work { AtWork worker.now seat }
+    ensures { TurnTakes worker.now seat result.1 result.0 }
+{
+    let (mut core, turn) = lock.enter(rt, seat);
+    core.account();
+    let taken = take(&mut core, lock.bell(), worker.number());
+    let seat = lock.leave(turn, core);
+    wake_stopped(lock.bell(), &taken);
+    (seat, taken)
+}
+
+/// Delivers an output that the worker took, with the frame of its key.
+pub(crate) fn deliver_turn<R: Wait, I: Held>(
+    rt: &R,
+    lock: &TurnLock<Core<I>>,
+    seat: LockSeat<Core<I>>,
+    worker: &Worker,
+    key: Key,
+    frame: Frame,
+) -> LockSeat<Core<I>>
+    requires lock { seat.lock ≡ lock.now }
+    requires work { AtWork worker.now seat }
+    requires taken { has_number key.n (seat_holdings worker.now seat).outputs ≡ true }
+    requires root { IfSome seat.tag (λ s. key.node ≡ s.fixed.root) }
+    requires got { has_got worker.now.number key seat.own ≡ true }
+    requires shape { frame.shape ≡ shape_at worker.now.plan key.node }
+    requires right { RightFor I.feed I.faults worker.now.plan seat key frame }
+    ensures { Adds (Deliver worker.now.number key.n ∷ []) seat result }
+{
+    let (mut core, turn) = lock.enter(rt, seat);
+    core.account();
+    core.deliver(worker.number(), key.n, frame);
+    lock.leave(turn, core)
+}
