@@ -2,3 +2,10 @@ pub mod TextLemmas
 pub mod PutLemmas
 pub mod WindowLemmas
 pub mod RenderLemmas
+pub mod SerialLemmas
+pub mod GatherLemmas
+pub mod HeldLemmas
+pub mod WorkLemmas
+pub mod CrewLemmas
+pub mod CrewTogether
+pub mod OnceLemmas

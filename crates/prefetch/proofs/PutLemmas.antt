@@ -1,10 +1,12 @@
 -- Pictures, put one after the other.
-use Rattle.std.proofs.Common.{◌≡◌, ◌∙◌, ℕ, zero, suc, ◌+◌, List, [], ◌∷◌, ◌++◌, map, take, drop, slice_get, Option, Some, None, sym, refl, ap, subst, arith}
+use Rattle.std.proofs.Common.{◌≡◌, ◌∙◌, ℕ, zero, suc, ◌+◌, List, [], ◌∷◌, ◌++◌, map, take, drop, slice_get, Option, Some, None, Result, Ok, Err, true, sym, refl, ap, subst, arith}
+use Rattle.std.specs.Result.{is_err}
 use Rattle.std.proofs.lemmas.List.{append_assoc, append-nil, map-append, take-append-drop}
 use Rattle.std.proofs.lemmas.List.Concat.{flat_map-append}
 use Rattle.std.proofs.lemmas.List.FromFn.{map-range_with_len_more}
+use Rattle.fv_io.specs.declared.source.Failed.{Failed}
 use Rattle.fv_io.specs.declared.sink.Sink.{Ghosts}
-use Rattle.fv_io.specs.Sink.{Puts, PutsPrefix}
+use Rattle.fv_io.specs.Sink.{Puts, PutsPrefix, SinkFailed}
 use Rattle.fv_io.specs.Told.{with_piece}
 use Rattle.fv_io.proofs.CallerLemmas.{with_piece_twice, gets_more, gets_after}
 use Rattle.fv_plane.specs.Bytes.{bytes_of}
@@ -13,6 +15,7 @@ use Rattle.y4m_stream.specs.Stream.{frame_text, frames_text}
 use Rattle.clip_graph.specs.Plan.{Application}
 use Rattle.clip_graph.specs.Unfolding.{key_picture}
 use Rattle.serve_events.specs.Keys.{frame_key}
+use Rattle.prefetch.specs.OneWindow.{PutsFrames}
 use Rattle.prefetch.specs.Clips.{pictures_from}
 use Rattle.prefetch.specs.Windows.{given, pictures_text}
 
@@ -57,6 +60,11 @@ module _ {K : Type 0} (sink : Ghosts K) (old here new : K) (frames : List (Optio
       let rest = pictures_text (given (drop (i + 1) frames)) in
       let whole : pictures_text (given frames) ≡ (first ++ text) ++ rest = text_whole frames (i + 1) ∙ ap (λ l. l ++ rest) (text_more frames i frame at) in
       rw whole (gets_more (sink.bytes old) (sink.bytes new) (first ++ text) rest (gets_after (sink.bytes old) (sink.bytes here) (sink.bytes new) first text before cut))
+
+-- the sink failed at some frames
+pub puts_not : {K : Type 0} (sink : Ghosts K) (old new : K) (frames : List (Option Picture)) (r : Result (Unit {0}) Failed) → true ≡ is_err r → PutsFrames sink old new frames r → SinkFailed sink old new × PutsPrefix sink old new (pictures_text (given frames))
+puts_not sink old new frames (Ok u) bad p = absurd (cc)
+puts_not sink old new frames (Err e) failed p = (p.failed, p.cut)
 
 -- PICTURES BY NUMBER
 

@@ -1,4 +1,9 @@
 pub mod Clips
 pub mod Rendered
-pub mod Windows
 pub mod Journal
+pub mod CrewJournal
+pub mod Windows
+pub mod OneWindow
+pub mod SerialWindows
+pub mod Crew
+pub mod NextWindow

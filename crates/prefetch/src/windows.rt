@@ -1,17 +1,19 @@
-// Windows, one after the other.
-ghost use Rattle.std.specs.Prelude.{◌≡◌, ◌+◌, ◌-◌, ◌<◌, ◌≤◌, ◌∷◌, ◌++◌, ℕ, min, [], length, IfOk, IfErr, OnOk, OnErr};
+// Windows by one worker, one after the other.
+ghost use Rattle.std.specs.Prelude.{◌≡◌, ◌+◌, ◌-◌, ◌<◌, ◌≤◌, ℕ, min, [], length, IfOk, IfErr, OnOk, OnErr};
 ghost use Rattle.std.specs.Vec.{vec_capacity, vec_len};
 ghost use Rattle.fv_io.specs.Sink.{IsLater};
 ghost use Rattle.clip_graph.specs.Plan.{IsPlan};
 ghost use Rattle.serve_events.specs.Windows.{windows_of};
 ghost use Rattle.serve_core.specs.Kept.{leases_out};
-ghost use Rattle.prefetch.specs.Windows.{frames_at, Stays, WindowEnds, PutsWindow, WindowShows, RendersAll, RenderStops};
+ghost use Rattle.prefetch.specs.OneWindow.{WindowEnds, PutsWindow, WindowShows};
+ghost use Rattle.prefetch.specs.SerialWindows.{IsSerialWindow, IsCutSerial};
+ghost use Rattle.prefetch.specs.Windows.{frames_at, RendersAll, RenderStops};
 
-use crate::frames::put_frames;
+use crate::finished::put_finished;
 use crate::stops::RenderStop;
-use fv_io::{Failed, Sink};
+use fv_io::Sink;
 use serve_core::{Core, Finished};
-use serve_events::{Record, WindowStop, Windowed};
+use serve_events::Record;
 use serve_worker::{Worker, Works, run_alone};
 use std::alloc::{AllocError, Global};
 use std::sync::Arc;
@@ -23,7 +25,7 @@ fn run_window<I: Works>(
     worker: &mut Worker,
     first: u32,
     count: u32,
-) -> Result<(Finished, Result<(), WindowStop>), AllocError>
+) -> Result<Finished, AllocError>
     requires between { core.old.fixed.count ≡ 0 }
     requires worker { worker.old.plan ≡ core.old.fixed.plan }
     requires plan { IsPlan core.old.fixed.plan }
@@ -32,8 +34,8 @@ fn run_window<I: Works>(
     requires some { 0 < count }
     requires few { count ≤ 32 }
     requires numbers { first + count ≤ frames_at core.old.fixed.plan core.old.fixed.root }
-    ensures ends { IfOk result (λ r. WindowEnds I.holds I.feed I.faults I.ends core.old first count r.0 r.1 core.new) }
-    ensures stays { OnOk result (Stays I.holds core.old core.new) }
+    ensures ends { IfOk result (λ finished. WindowEnds I.holds I.feed I.faults I.ends core.old
+        (IsSerialWindow core.old first count) (IsCutSerial core.old) first count finished finished.stop core.new) }
     ensures err { OnErr result (core.new ≡ core.old) }
     ensures worker { worker.new ≡ worker.old }
 {
@@ -41,8 +43,8 @@ fn run_window<I: Works>(
         Ok(()) => {}
         Err(AllocError) => return Err(AllocError),
     }
-    let ended = run_alone(alloc, worker, core);
-    Ok((core.end_window(), ended))
+    let _ = run_alone(alloc, worker, core);
+    Ok(core.end_window())
 }
 
 // A window, whose events go into the journal and whose frames are put.
@@ -63,37 +65,21 @@ fn render_window<I: Works, K: Sink>(
     requires some { 0 < count }
     requires few { count ≤ 32 }
     requires numbers { first + count ≤ frames_at core.old.fixed.plan core.old.fixed.root }
-    ensures ok { OnOk result (PutsWindow I.holds I.feed I.faults I.ends core.old K.Sink first count
-        (windows_of journal.old) out.old (windows_of journal.new) out.new core.new) }
-    ensures stop { IfErr result (WindowShows I.holds I.feed I.faults I.ends core.old K.Sink first count
-        (windows_of journal.old) out.old (windows_of journal.new) out.new core.new) }
+    ensures ok { OnOk result (PutsWindow I.holds I.feed I.faults I.ends core.old
+        (IsSerialWindow core.old first count) (IsCutSerial core.old) first count
+        (windows_of journal.old) (windows_of journal.new) core.new K.Sink out.old out.new) }
+    ensures stop { IfErr result (WindowShows I.holds I.feed I.faults I.ends core.old
+        (IsSerialWindow core.old first count) (IsCutSerial core.old) first count
+        (windows_of journal.old) (windows_of journal.new) core.new K.Sink out.old out.new) }
     ensures later { IsLater K.Sink out.old out.new }
     ensures worker { worker.new ≡ worker.old }
 {
     let Ok(_) = journal.windows.reserve(1) else {
         return Err(RenderStop::Memory);
     };
-    let (finished, ended) = match run_window(alloc, core, worker, first, count) {
-        Ok(run) => run,
-        Err(AllocError) => return Err(RenderStop::Memory),
-    };
-    let Finished {
-        frames,
-        stop: _,
-        events,
-    } = finished;
-    journal.windows.push_reserved(Windowed {
-        first,
-        count,
-        events,
-    });
-    match ended {
-        Ok(()) => {}
-        Err(stop) => return Err(RenderStop::Stopped(stop)),
-    }
-    match put_frames(out, &frames) {
-        Ok(()) => Ok(()),
-        Err(Failed) => Err(RenderStop::Write),
+    match run_window(alloc, core, worker, first, count) {
+        Ok(finished) => put_finished(first, count, finished, out, journal),
+        Err(AllocError) => Err(RenderStop::Memory),
     }
 }
 

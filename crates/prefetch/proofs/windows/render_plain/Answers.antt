@@ -1,9 +1,12 @@
 -- Window after window.
-use Rattle.std.proofs.Common.{◌≡◌, ◌∙◌, ◌<◌, ◌-◌, min, sym, ap, subst, arith}
+use Rattle.std.proofs.Common.{◌≡◌, ◌∙◌, ◌<◌, ◌-◌, ◌+◌, min, sym, ap, subst, arith}
 use Rattle.serve_events.specs.Windows.{windows_of}
 use Rattle.serve_worker.proofs.Tables.{all_free}
-use Rattle.prefetch.specs.Windows.{frames_at, Rendered}
-use Rattle.prefetch.proofs.RenderLemmas.{stays_at_first, rendered_none, put_none, ends_at_once, rendered_more, put_more, window_stops, renders_all}
+use Rattle.prefetch.specs.Journal.{AreFirst, AreCut}
+use Rattle.prefetch.specs.SerialWindows.{IsSerialWindow, IsCutSerial, AreSerial}
+use Rattle.prefetch.specs.Windows.{frames_at}
+use Rattle.prefetch.proofs.RenderLemmas.{keeps_first, keeps_on, put_none, ends_at_once, put_more, window_stops, renders_all}
+use Rattle.prefetch.proofs.SerialLemmas.{none_serial, first_serial, all_serial, more_serial, first_more, cut_more}
 use Rattle.prefetch.proofs.windows.render_plain.Given.{Over}
 use Rattle.prefetch.proofs.windows.render_plain.Goals as goal
 use Rattle.prefetch.proofs.windows.render_plain.Goals.{After-new-worker}
@@ -14,45 +17,73 @@ total_is g c =
     ap (λ a. a.info.frames) c.node.ensures ∙ (λ i. frames_at (plan i) (c.root-root.ensures.root i))
 
 pub returns-in_default-clause-stop : goal.returns-in_default-clause-stop
-returns-in_default-clause-stop g c = ends_at_once g.I.Held.holds g.I.Held.feed g.I.Held.faults g.I.Works.ends c.args.core.now g.K.Sink c.args.out.now c.args.window c.requires.between c.requires.unclaimed (all_free c.args.core.now.table c.requires.unlent) c.requires.empty (windows_of c.args.journal.now) c.requires.fresh
+returns-in_default-clause-stop g c =
+    let core = c.args.core.now in
+    let kept = keeps_first g.I.Held.holds g.I.Held.feed g.I.Held.faults g.I.Held.ends core c.requires.between c.requires.unclaimed (all_free core.table c.requires.unlent) in
+    let none = subst (λ ws. AreSerial core c.args.window 0 ws core) (sym c.requires.fresh) (none_serial core c.args.window) in
+    ends_at_once g.I.Held.holds g.I.Held.feed g.I.Held.faults g.I.Held.ends core g.K.Sink c.args.out.now (windows_of c.args.journal.now) kept (first_serial core c.args.window 0 (windows_of c.args.journal.now) core none c.requires.empty)
 
 pub loop-first-init : goal.loop-first-init
 loop-first-init g c =
-    let stays = stays_at_first g.I.Held.holds c.args.core.now c.requires.between c.requires.unclaimed (all_free c.args.core.now.table c.requires.unlent) in
+    let core = c.args.core.now in
     record {
       inside = omega arith;
       worker = c.new-worker.ensures.plan ∙ c.in-Ok.ensures ∙ c.graph.ensures.graph;
-      rendered = subst (λ ws. Rendered g.I.Held.holds g.I.Held.feed g.I.Held.faults g.I.Works.ends c.args.core.now c.args.window 0 ws c.args.core.now) (sym c.requires.fresh) (rendered_none g.I.Held.holds g.I.Held.feed g.I.Held.faults g.I.Works.ends c.args.core.now g.K.Sink c.args.out.now c.args.window stays);
-      put = put_none g.I.Held.holds g.I.Held.feed g.I.Held.faults g.I.Works.ends c.args.core.now g.K.Sink c.args.out.now c.args.window;
+      keeps = keeps_first g.I.Held.holds g.I.Held.feed g.I.Held.faults g.I.Held.ends core c.requires.between c.requires.unclaimed (all_free core.table c.requires.unlent);
+      serial = subst (λ ws. AreSerial core c.args.window 0 ws core) (sym c.requires.fresh) (none_serial core c.args.window);
+      put = put_none g.I.Held.holds g.I.Held.feed g.I.Held.faults g.I.Held.ends core g.K.Sink c.args.out.now;
       later = omega arith;
     }
 
 pub returns-in-Err-clause-stop : goal.returns-in-Err-clause-stop
 returns-in-Err-clause-stop g c =
+    let core = c.args.core.now in
     let i = c.loop-first.invariant in
+    let w = c.render_window.new in
+    let n = c.loop-first.first in
+    let count = c.min-count.result in
+    let frames = frames_at core.fixed.plan core.fixed.root in
     let total = total_is g (goal.at.returns-in-Err-clause-stop g c).After-new-worker in
-    window_stops g.I.Held.holds g.I.Held.feed g.I.Held.faults g.I.Works.ends c.args.core.now g.K.Sink c.args.out.now c.args.window c.loop-first.out c.render_window.new.out c.loop-first.core c.render_window.new.core c.loop-first.first c.min-count.result (windows_of c.loop-first.journal) (windows_of c.render_window.new.journal)
-    c.requires.some (omega (arith, total, c.loop-first-test.true)) (c.min-count.ensures ∙ ap (λ n. min c.args.window (n - c.loop-first.first)) total) c.requires.empty i.later i.rendered i.put c.in-Err.stop c.in-Err.ensures.stop
+    let less : n < frames = omega (arith, total, c.loop-first-test.true) in
+    let is : count ≡ min c.args.window (frames - n) = c.min-count.ensures ∙ ap (λ m. min c.args.window (m - n)) total in
+    let log = windows_of c.loop-first.journal in
+    let longer = windows_of w.journal in
+    let before = c.loop-first.core in
+    let same : (before.fixed.plan ≡ core.fixed.plan) × (before.fixed.root ≡ core.fixed.root) × (before.fixed.capacity ≡ core.fixed.capacity) = (i.keeps.stays.plan, i.keeps.stays.root, i.keeps.stays.capacity) in
+    window_stops g.I.Held.holds g.I.Held.feed g.I.Held.faults g.I.Held.ends core g.K.Sink c.args.out.now c.loop-first.out w.out before w.core n count i.keeps (IsSerialWindow before n count) (IsCutSerial before)
+    (AreFirst core.fixed.plan core.fixed.root core.fixed.capacity c.args.window frames) (AreCut core.fixed.plan core.fixed.root core.fixed.capacity c.args.window frames) log longer (omega arith) i.later
+    (first_serial core c.args.window n log before i.serial c.requires.empty)
+    (λ finished a. first_more core c.args.window n log before i.serial count c.requires.some less is same finished.events.items w.core longer a.log_is a.whole c.requires.empty)
+    (λ why a. cut_more core c.args.window n log before i.serial count c.requires.some less is same why a.events longer a.log_is a.cut c.requires.empty) i.put c.in-Err.stop c.in-Err.ensures.stop
 
 pub loop-first-preserved : goal.loop-first-preserved
 loop-first-preserved g c =
+    let core = c.args.core.now in
     let i = c.loop-first.invariant in
+    let w = c.render_window.new in
+    let n = c.loop-first.first in
+    let count = c.min-count.result in
+    let frames = frames_at core.fixed.plan core.fixed.root in
     let total = total_is g (goal.at.loop-first-preserved g c).After-new-worker in
-    let less : c.loop-first.first < frames_at c.args.core.now.fixed.plan c.args.core.now.fixed.root = omega (arith, total, c.loop-first-test.true) in
-    let count : c.min-count.result ≡ min c.args.window (frames_at c.args.core.now.fixed.plan c.args.core.now.fixed.root - c.loop-first.first) = c.min-count.ensures ∙ ap (λ n. min c.args.window (n - c.loop-first.first)) total in
+    let less : n < frames = omega (arith, total, c.loop-first-test.true) in
+    let is : count ≡ min c.args.window (frames - n) = c.min-count.ensures ∙ ap (λ m. min c.args.window (m - n)) total in
+    let one = c.in-Ok-render_window.ensures.ok in
     record {
-      inside = omega (arith, total, less, count);
-      worker = ap (λ w. w.plan) c.in-Ok-render_window.ensures.worker ∙ i.worker;
-      rendered = rendered_more g.I.Held.holds g.I.Held.feed g.I.Held.faults g.I.Works.ends c.args.core.now g.K.Sink c.args.out.now c.args.window c.loop-first.out c.render_window.new.out c.loop-first.core c.render_window.new.core c.loop-first.first c.min-count.result (windows_of c.loop-first.journal) (windows_of c.render_window.new.journal)
-          c.requires.some less count i.rendered i.put c.in-Ok-render_window.ensures.ok;
-      put = put_more g.I.Held.holds g.I.Held.feed g.I.Held.faults g.I.Works.ends c.args.core.now g.K.Sink c.args.out.now c.args.window c.loop-first.out c.render_window.new.out c.loop-first.core c.render_window.new.core c.loop-first.first c.min-count.result (windows_of c.loop-first.journal) (windows_of c.render_window.new.journal)
-          c.requires.some less count i.rendered i.put c.in-Ok-render_window.ensures.ok;
+      inside = omega (arith, total, less, is);
+      worker = ap (λ z. z.plan) c.in-Ok-render_window.ensures.worker ∙ i.worker;
+      keeps = keeps_on g.I.Held.holds g.I.Held.feed g.I.Held.faults g.I.Held.ends core c.loop-first.core w.core i.keeps one.adds.delivered.keeps;
+      serial = subst (λ ws. AreSerial core c.args.window (n + count) ws w.core) (sym one.adds.log_is)
+          (more_serial core c.args.window n (windows_of c.loop-first.journal) c.loop-first.core i.serial count c.requires.some less is (i.keeps.stays.plan, i.keeps.stays.root, i.keeps.stays.capacity) one.finished.events.items w.core one.adds.whole);
+      put = put_more g.I.Held.holds g.I.Held.feed g.I.Held.faults g.I.Held.ends core g.K.Sink c.args.out.now c.loop-first.out w.out c.loop-first.core w.core n count i.keeps one.finished one.adds.delivered i.put one.put;
       later = omega (arith, i.later, c.in-Ok-render_window.ensures.later);
     }
 
 pub returns-clause-ok : goal.returns-clause-ok
 returns-clause-ok g c =
+    let core = c.args.core.now in
     let i = c.loop-first.invariant in
+    let n = c.loop-first.first in
+    let log = windows_of c.loop-first.journal in
     let total = total_is g (goal.at.returns-clause-ok g c).After-new-worker in
-    let all : c.loop-first.first ≡ frames_at c.args.core.now.fixed.plan c.args.core.now.fixed.root = omega (arith, total, i.inside, c.loop-first-test.false) in
-    renders_all g.I.Held.holds g.I.Held.feed g.I.Held.faults g.I.Works.ends c.args.core.now g.K.Sink c.args.out.now c.args.window c.loop-first.out c.loop-first.core c.loop-first.first (windows_of c.loop-first.journal) c.requires.empty all i.rendered i.put
+    let all : n ≡ frames_at core.fixed.plan core.fixed.root = omega (arith, total, i.inside, c.loop-first-test.false) in
+    renders_all g.I.Held.holds g.I.Held.feed g.I.Held.faults g.I.Held.ends core g.K.Sink c.args.out.now c.loop-first.out c.loop-first.core n log all i.keeps i.put (all_serial core c.args.window n log c.loop-first.core i.serial c.requires.empty all)

@@ -2,15 +2,18 @@
 use Rattle.std.proofs.Common.{◌≡◌, ◌-◌, ◌≤◌}
 use Rattle.fv_io.specs.Sink.{IsLater}
 use Rattle.serve_events.specs.Windows.{windows_of}
-use Rattle.prefetch.specs.Windows.{Rendered, PutsFirst}
+use Rattle.prefetch.specs.OneWindow.{Keeps}
+use Rattle.prefetch.specs.SerialWindows.{AreSerial}
+use Rattle.prefetch.specs.Windows.{PutsFirst}
 use Rattle.prefetch.proofs.windows.render_plain.Given as goal
 
 abbrev pub invariant-loop-first : goal.invariant-loop-first
 invariant-loop-first g l = record {
   inside : l.first ≤ l.total;
   worker : l.worker.plan ≡ l.fn.core.fixed.plan;
-  rendered : Rendered g.I.Held.holds g.I.Held.feed g.I.Held.faults g.I.Works.ends l.fn.core l.window l.first (windows_of l.journal) l.core;
-  put : PutsFirst g.I.Held.holds g.I.Held.feed g.I.Held.faults g.I.Works.ends l.fn.core g.K.Sink l.fn.out l.out l.first;
+  keeps : Keeps g.I.Held.holds g.I.Held.feed g.I.Held.faults g.I.Held.ends l.fn.core l.core;
+  serial : AreSerial l.fn.core l.window l.first (windows_of l.journal) l.core;
+  put : PutsFirst g.I.Held.holds g.I.Held.feed g.I.Held.faults g.I.Held.ends l.fn.core g.K.Sink l.fn.out l.out l.first;
   later : IsLater g.K.Sink l.fn.out l.out;
 }
 

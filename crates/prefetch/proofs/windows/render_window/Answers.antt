@@ -1,40 +1,26 @@
--- The window's events are in the journal, whatever came of it.
-use Rattle.std.proofs.Common.{◌∙◌, ℕ, ◌∷◌, ◌++◌, [], refl, ap, subst, map}
-use Rattle.std.proofs.lemmas.List.{map-append}
-use Rattle.serve_events.specs.declared.windows.Windowed.{Windowed}
-use Rattle.serve_events.specs.Windows.{window_of}
-use Rattle.serve_core.specs.declared.answers.Finished.{Finished}
-use Rattle.prefetch.specs.Windows.{WindowEnds}
+-- The window that ended, and what was put of it.
+use Rattle.std.proofs.Common.{◌≡◌, ◌∙◌, ap, map}
+use Rattle.serve_events.specs.Windows.{windows_of, window_of}
+use Rattle.prefetch.specs.OneWindow.{with_window}
+use Rattle.prefetch.specs.SerialWindows.{IsSerialWindow, IsCutSerial}
+use Rattle.prefetch.proofs.RenderLemmas.{window_put, window_not_put}
+use Rattle.prefetch.proofs.windows.render_window.Given.{Over}
 use Rattle.prefetch.proofs.windows.render_window.Goals as goal
+use Rattle.prefetch.proofs.windows.render_window.Goals.{After-put_finished}
 
--- the window as the journal has it
-abbrev windowed : ℕ → ℕ → Finished → Windowed
-windowed first count finished = record { first = first; count = count; events = finished.events }
+log_is : (g : Over) (c : After-put_finished g) → windows_of c.put_finished.new.journal ≡ with_window (windows_of c.args.journal.now) c.args.first c.args.count c.in-Ok-run_window.finished.events.items
+log_is g c = c.put_finished.ensures.log ∙ ap (λ items. with_window (map window_of items) c.args.first c.args.count c.in-Ok-run_window.finished.events.items) c.reserve.ensures.items
 
-pub returns-in-Err-ended-clause-stop : goal.returns-in-Err-ended-clause-stop
-returns-in-Err-ended-clause-stop g c = record {
-  finished = c.in-Ok-run_window.run'.0;
-  stays = c.in-Ok-run_window.ensures.stays;
-  stopped = subst (λ r. WindowEnds g.I.Held.holds g.I.Held.feed g.I.Held.faults g.I.Works.ends c.args.core.now c.args.first c.args.count c.in-Ok-run_window.run'.0 r c.run_window.new.core) c.in-Err-ended.is c.in-Ok-run_window.ensures.ends;
-  log_is = ap (map window_of) (c.push_reserved.ensures.items ∙ ap (λ l. l ++ windowed c.args.first c.args.count c.in-Ok-run_window.run'.0 ∷ []) c.reserve.ensures.items) ∙ map-append window_of c.args.journal.now.windows.items (windowed c.args.first c.args.count c.in-Ok-run_window.run'.0 ∷ []);
-  put = refl;
-}
+pub returns-in-Ok-run_window-clause-ok : goal.returns-in-Ok-run_window-clause-ok
+returns-in-Ok-run_window-clause-ok g c =
+    let core = c.args.core.now in
+    let made = c.in-Ok-run_window in
+    window_put g.I.Held.holds g.I.Held.feed g.I.Held.faults g.I.Held.ends core (IsSerialWindow core c.args.first c.args.count) (IsCutSerial core) c.args.first c.args.count c.run_window.new.core made.finished made.ensures.ends
+    (windows_of c.args.journal.now) (windows_of c.put_finished.new.journal) (log_is g c) g.K.Sink c.args.out.now c.put_finished.new.out c.put_finished.result c.put_finished.ensures.ok
 
-pub returns-in-Ok-put_frames-clause-ok : goal.returns-in-Ok-put_frames-clause-ok
-returns-in-Ok-put_frames-clause-ok g c = record {
-  finished = c.in-Ok-run_window.run'.0;
-  stays = c.in-Ok-run_window.ensures.stays;
-  whole = subst (λ r. WindowEnds g.I.Held.holds g.I.Held.feed g.I.Held.faults g.I.Works.ends c.args.core.now c.args.first c.args.count c.in-Ok-run_window.run'.0 r c.run_window.new.core) c.in-Ok-ended.is c.in-Ok-run_window.ensures.ends;
-  log_is = ap (map window_of) (c.push_reserved.ensures.items ∙ ap (λ l. l ++ windowed c.args.first c.args.count c.in-Ok-run_window.run'.0 ∷ []) c.reserve.ensures.items) ∙ map-append window_of c.args.journal.now.windows.items (windowed c.args.first c.args.count c.in-Ok-run_window.run'.0 ∷ []);
-  put = rw c.deref.ensures.value at c.in-Ok-put_frames.ensures.put;
-}
-
-pub returns-clause-stop : goal.returns-clause-stop
-returns-clause-stop g c = record {
-  finished = c.in-Ok-run_window.run'.0;
-  stays = c.in-Ok-run_window.ensures.stays;
-  whole = subst (λ r. WindowEnds g.I.Held.holds g.I.Held.feed g.I.Held.faults g.I.Works.ends c.args.core.now c.args.first c.args.count c.in-Ok-run_window.run'.0 r c.run_window.new.core) c.in-Ok-ended.is c.in-Ok-run_window.ensures.ends;
-  log_is = ap (map window_of) (c.push_reserved.ensures.items ∙ ap (λ l. l ++ windowed c.args.first c.args.count c.in-Ok-run_window.run'.0 ∷ []) c.reserve.ensures.items) ∙ map-append window_of c.args.journal.now.windows.items (windowed c.args.first c.args.count c.in-Ok-run_window.run'.0 ∷ []);
-  failed = c.in-Err-put_frames.ensures.failed;
-  cut = rw c.deref.ensures.value at c.in-Err-put_frames.ensures.cut;
-}
+pub returns-in-Ok-run_window-clause-stop : goal.returns-in-Ok-run_window-clause-stop
+returns-in-Ok-run_window-clause-stop g c =
+    let core = c.args.core.now in
+    let made = c.in-Ok-run_window in
+    window_not_put g.I.Held.holds g.I.Held.feed g.I.Held.faults g.I.Held.ends core (IsSerialWindow core c.args.first c.args.count) (IsCutSerial core) c.args.first c.args.count c.run_window.new.core made.finished made.ensures.ends
+    (windows_of c.args.journal.now) (windows_of c.put_finished.new.journal) (log_is g c) g.K.Sink c.args.out.now c.put_finished.new.out c.put_finished.result c.put_finished.ensures.stop

@@ -1,0 +1,31 @@
+-- Windows by one worker: their events are those of the serial run.
+use Rattle.std.specs.Prelude.{◌≡◌, ℕ, ◌≤◌, true, List}
+use Rattle.std.specs.Map.{keys_of}
+use Rattle.serve_events.specs.declared.event.Event.{Event}
+use Rattle.serve_events.specs.declared.event.WindowStop.{WindowStop}
+use Rattle.serve_events.specs.Own.{names_source}
+use Rattle.serve_events.specs.SerialRun.{Serial, serial_window, windows_after}
+use Rattle.serve_events.specs.Windows.{WindowEvents}
+use Rattle.serve_events.specs.Work.{FailedWork}
+use Rattle.serve_core.specs.CoreValue.{CoreValue}
+use Rattle.prefetch.specs.Windows.{frames_at}
+
+module _ {I : Type 0} (c : CoreValue I) where
+  -- what the serial run leaves of one window
+  abbrev pub window_of : ℕ → ℕ → Serial
+  window_of first count = serial_window c.fixed.plan c.fixed.root c.fixed.capacity (keys_of c.cache) first count
+
+  pub record IsSerialWindow (first count : ℕ) (events : List Event) (d : CoreValue I) : Type 0 where
+    pub events_are : events ≡ (window_of first count).events
+    pub keys_are : keys_of d.cache ≡ (window_of first count).keys
+
+  pub record IsCutSerial (why : WindowStop) (events : List Event) : Type 0 where
+    pub cut : FailedWork c.fixed.plan c.fixed.root 0 why events
+    pub named : names_source c.fixed.plan why ≡ true
+
+  -- the windows are the first of the serial run, have the first n outputs, and left what is cached in d
+  pub record AreSerial (size n : ℕ) (windows : List WindowEvents) (d : CoreValue I) : Type 0 where
+    pub most : ℕ
+    pub few : most ≤ n
+    pub run : windows_after most c.fixed.plan c.fixed.root c.fixed.capacity size (frames_at c.fixed.plan c.fixed.root)
+        (keys_of c.cache) ≡ record { windows = windows; keys = keys_of d.cache; next = n }
