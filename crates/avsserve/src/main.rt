@@ -1,9 +1,9 @@
-//! The program: `run_plain` over the real files and streams.
+//! The program: `run` over the real files and streams.
 #![tactic(auto)]
 
 use fv_io::{Sink, Text};
 use fv_real::{RealFiles, RealSink};
-use serve_app::run_plain;
+use serve_app::{OpenGate, run};
 use std::alloc::{AllocError, Global};
 use std::env;
 use std::io::ErrorKind;
@@ -40,6 +40,8 @@ fn main(rt: HostRuntime) -> ExitCode {
     };
     let mut files = RealFiles::new(&rt);
     let mut out = RealSink::new(rt.stdout());
-    let ending = run_plain(alloc, &words, &mut files, &mut out, &mut err);
+    let ending = run(
+        &rt, alloc, &words, &mut files, &mut out, &mut err, &OpenGate,
+    );
     ExitCode::from(ending.status)
 }

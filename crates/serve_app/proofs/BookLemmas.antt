@@ -1,5 +1,5 @@
 -- A script means something: the files that its sources read have pictures.
-use Rattle.std.proofs.Common.{◌≡◌, ℕ, zero, suc, arith, List, [], ◌∷◌, ◌++◌, length, get_or, slice_get, Option, Some, Ok, refl, sym, subst}
+use Rattle.std.proofs.Common.{◌≡◌, ℕ, zero, suc, arith, List, [], ◌∷◌, ◌++◌, get_or, slice_get, Some, Ok, refl}
 use Rattle.std.specs.FinMap.{get}
 use Rattle.fv_io.specs.World.{World}
 use Rattle.fv_plane.specs.Picture.{Picture}
@@ -8,7 +8,6 @@ use Rattle.clip_graph.specs.Plan.{Application}
 use Rattle.prefetch.specs.Clips.{clip_at}
 use Rattle.avs_parse.specs.Load.{script_of}
 use Rattle.avs_files.proofs.SourceFiles.{IsFile, AreFiles, HasFiles, has_files}
-use Rattle.avs_meaning.specs.Crews.{Numbers}
 use Rattle.avs_meaning.specs.Meaning as m
 use Rattle.avs_meaning.specs.Outside.{Outside, outside_of, clip_in}
 use Rattle.avs_meaning.specs.declared.state.SourceClip.{SourceClip}

@@ -1,9 +1,8 @@
 mod BookLemmas
-mod CacheLemmas
 mod ClosingLemmas
 mod MeaningLemmas
+mod OptionLemmas
 mod PickLemmas
 mod PlayLemmas
 mod RunLemmas
-mod StreamLemmas
 mod TextLemmas

@@ -1,5 +1,5 @@
 -- A clip that was put, and what a script means.
-use Rattle.std.proofs.Common.{◌≡◌, ◌∙◌, ◌⊎◌, ◌≤◌, ℕ, zero, suc, arith, Bool, true, false, IsTrue, List, [], ◌∷◌, ◌++◌, length, map, get_or, slice_get, Option, Some, None, Result, Ok, Err, IfOk, IfErr, OnOk, refl, inl, inr, sym, ap, ap₂, subst}
+use Rattle.std.proofs.Common.{◌≡◌, ◌∙◌, ◌⊎◌, ◌≤◌, ℕ, zero, suc, arith, Bool, true, false, IsTrue, List, [], ◌∷◌, ◌++◌, length, map, get_or, slice_get, Option, Some, None, Result, Ok, Err, refl, inl, inr, sym, ap, ap₂, subst}
 use Rattle.std.proofs.lemmas.List.{take_all, length-map}
 use Rattle.std.proofs.lemmas.List.FromFn.{length-range_with_len}
 use Rattle.std.specs.List.{range_with_len}
@@ -27,7 +27,6 @@ use Rattle.serve_text.specs.InfoText.{info_text}
 use Rattle.avs_meaning.specs.Crews.{Numbers, workers, window}
 use Rattle.serve_events.specs.declared.windows.Record.{Record}
 use Rattle.serve_events.specs.Keys.{frame_key}
-use Rattle.serve_core.specs.Sources.{with_told}
 use Rattle.prefetch.specs.Clips.{clip_at}
 use Rattle.avs_eval.specs.Evaluates.{Evaluates}
 use Rattle.avs_eval.specs.declared.evaluation.Opened.{Opened}
@@ -45,13 +44,19 @@ use Rattle.serve_text.specs.declared.stop.Stop.TheVariants as of_stop
 use Rattle.serve_text.specs.StopKinds.{stop_of, Names}
 use Rattle.serve_app.specs.Meaning.{meaning_in, HasPictures, IsBookOf, MeansClip}
 use Rattle.serve_app.specs.Info.{IsInfoOf, IsToldInfo, InfoShows}
-use Rattle.serve_app.specs.Clips.{book_told, IsClipOf, SomeFailed, PutsFrames, PutsSome, StreamShows}
+use Rattle.serve_stream.specs.Clips.{book_told, IsClipOf, SomeFailed, PutsFrames, PutsSome, StreamShows}
 use Rattle.serve_app.specs.Closing.{CountsTable}
-use Rattle.serve_app.specs.Journals.{IsSerial, PutsCount, FailsWithin, CutsShort, IsPlanOf, IsScriptSerial, IsRunOf, ScriptCuts}
-use Rattle.serve_app.specs.Playing.{Tells, EndsBefore, PutsClip, PutsInfo, with_graph}
-use Rattle.serve_app.specs.Rendered.{PutsWholeFrames}
+use Rattle.serve_stream.specs.declared.staff.Staff.{Staff}
+use Rattle.serve_stream.specs.declared.stream.Whole.{Whole}
+use Rattle.serve_stream.specs.Staff.{hands}
+use Rattle.serve_stream.specs.Streamed.{IsStreamed}
+use Rattle.serve_stream.specs.Journals.{IsRendered, PutsCount, FailsWithin, CutsShort}
+use Rattle.serve_app.specs.Journals.{IsPlanOf, IsScriptRendered, IsRunOf, ScriptCuts}
+use Rattle.serve_app.specs.Renders.{IsScriptRender}
+use Rattle.serve_app.specs.Playing.{Tells, EndsBefore, PutsClip, PutsInfo}
+use Rattle.serve_stream.specs.Rendered.{PutsWholeFrames}
 use Rattle.serve_app.specs.Stop.{IsOfScript, ScriptHasClip, HasInfo, RenderShows}
-use Rattle.serve_app.specs.Streams.{stop_in, TellsStop, HeadShows}
+use Rattle.serve_stream.specs.Streams.{TellsStop, HeadShows}
 use Rattle.serve_app.proofs.MeaningLemmas.{same_plan, same_root, same_crew}
 
 -- ---- worlds that are told
@@ -106,7 +111,7 @@ module _ {S : Type 0} (of : of_source.Ghosts S) (told : Bool) (world : World) wh
   told_by (x ∷ xs) (y ∷ ys) (z ∷ zs) long count tells each has =
       let first : frames_in of y ≡ Some z = source_told x y z (each zero x y refl refl) tells (has zero x refl) in
       let rest : book_told of ys ≡ Some zs = told_by xs ys zs (omega (arith, long)) (omega (arith, count)) tells (λ k a b here there. each (suc k) a b here there) (λ k a here. has (suc k) a here) in
-      ap₂ with_told first rest
+      rw (first, rest) refl
 
   -- the pictures of the files are those of the sources
   pub to_book : (listed : List SourceClip) (sources : List (FrameSource S)) (book : List (List Picture)) → AreOpened of told world listed sources → IsTrue told
@@ -239,27 +244,33 @@ module _ {S : Type 0} (of : of_source.Ghosts S) (told : Bool) (world : World) (s
     plan_of : IsPlan plan → IsPlanOf (told_of told world) script plan root
     plan_of is = record { is_plan = is; crew = crew; means = in_told told world (λ w. meaning_in w script ≡ m.clip plan root crew) means }
 
-    -- and of the journal
-    script_serial : (capacity : ℕ) (journal : Option Record) → IsPlan plan → IsSerial plan root capacity journal → IsScriptSerial (told_of told world) script capacity journal
-    script_serial capacity journal is serial = record { plan = plan; root = root; is_plan = plan_of is; serial = serial }
+    module _ (capacity : ℕ) (staff : Staff) where
+      -- and of the journal
+      script_rendered : (journal : Option Record) → IsPlan plan → IsRendered plan root capacity (hands staff crew) journal
+          → IsScriptRendered (told_of told world) script capacity staff journal
+      unfolding plan_of
+      script_rendered journal is rendered = record { plan = plan; root = root; is_plan = plan_of is; rendered = rendered }
 
-    -- and of the graph that was kept
-    pub script_run : (capacity : ℕ) (journal : Option Record) → IsPlan plan → IsSerial plan root capacity journal → (kept : List Application) → kept ≡ plan → IsRunOf (told_of told world) script capacity journal kept
-    unfolding script_serial
-    script_run capacity journal is serial kept is_kept = record { run = script_serial capacity journal is serial; plan_is = sym is_kept }
+      -- and of the graph that was kept
+      pub script_run : (journal : Option Record) → IsPlan plan → IsRendered plan root capacity (hands staff crew) journal → (kept : List Application) → kept ≡ plan
+          → IsRunOf (told_of told world) script capacity staff journal kept
+      unfolding script_rendered
+      script_run journal is rendered kept is_kept = record { run = script_rendered journal is rendered; plan_is = sym is_kept }
 
-    count_of : (capacity n : ℕ)
-        → PutsCount plan root capacity sink out put (IsClipOf plan root (book_told of sources)) n ⊎ FailsWithin plan root capacity sink out put (IsClipOf plan root (book_told of sources)) n
-        → PutsCount plan root capacity sink out put (IsOfScript (told_of told world) script) n ⊎ FailsWithin plan root capacity sink out put (IsOfScript (told_of told world) script) n
-    count_of capacity n (inl some) = inl (record { part = some.part; info_is = some.info_is; count = some.count; begins = λ clip is. some.begins clip (of_script clip is); put = some.put })
-    count_of capacity n (inr cut) = inr (record { failed = cut.failed; cut = λ clip is. cut.cut clip (of_script clip is) })
+      count_of : (n : ℕ)
+          → PutsCount plan root capacity (hands staff crew) sink out put (IsClipOf plan root (book_told of sources)) n ⊎ FailsWithin plan root capacity (hands staff crew) sink out put (IsClipOf plan root (book_told of sources)) n
+          → PutsCount plan root capacity (hands staff crew) sink out put (IsOfScript (told_of told world) script) n ⊎ FailsWithin plan root capacity (hands staff crew) sink out put (IsOfScript (told_of told world) script) n
+      count_of n (inl some) = inl (record { part = some.part; info_is = some.info_is; count = some.count; begins = λ clip is. some.begins clip (of_script clip is); put = some.put })
+      count_of n (inr cut) = inr (record { failed = cut.failed; cut = λ clip is. cut.cut clip (of_script clip is) })
 
-    pub script_cuts : (capacity : ℕ) (answer : Option Stop) (journal : Option Record) → IsPlan plan → CutsShort plan root capacity sink out put (IsClipOf plan root (book_told of sources)) (TellsStop answer plan) journal
-        → ScriptCuts (told_of told world) script capacity sink out put (TellsStop answer) journal
-    script_cuts capacity answer None is cut = tt
-    script_cuts capacity answer (Some log) is cut =
-        let short = cut.2 in
-        record { plan = plan; root = root; is_plan = plan_of is; stop = cut.0; ends = cut.1; cut = record { n = short.n; few = short.few; windows = short.windows; put = count_of capacity short.n short.put } }
+      pub script_cuts : (answer : Option Stop) (journal : Option Record) → IsPlan plan
+          → CutsShort plan root capacity (hands staff crew) sink out put (IsClipOf plan root (book_told of sources)) (TellsStop answer plan) journal
+          → ScriptCuts (told_of told world) script capacity staff sink out put (TellsStop answer) journal
+      unfolding plan_of
+      script_cuts answer None is cut = tt
+      script_cuts answer (Some log) is cut =
+          let short = cut.2 in
+          record { plan = plan; root = root; is_plan = plan_of is; stop = cut.0; ends = cut.1; cut = record { n = short.n; few = short.few; windows = short.windows; put = count_of short.n short.put } }
 
     -- the info of the plan is that of the clip
     info_of_clip : (info : Info) → info ≡ (application_at plan root).info → HasInfo (told_of told world) script info
@@ -273,6 +284,26 @@ module _ {S : Type 0} (of : of_source.Ghosts S) (told : Bool) (world : World) (s
     script_head answer None (inl none) = inl none
     script_head answer None (inr (failed, cut)) = inr (failed, record { info = cut.info; is = info_of_clip cut.info cut.is; failed = cut.failed; cut = cut.cut })
     script_head answer (Some log) headed = record { info = headed.info; is = info_of_clip headed.info headed.is; rest = headed.rest; put = headed.put }
+
+    -- all of it
+    pub script_render : {I : Type 0} (faults : I → ℕ) (table : List (Place × Slot I)) (failed : Type 0) → (SomeFailed faults table → failed)
+        → (capacity : ℕ) (staff : Staff) (journal : Option Record) (done : Result Whole Stop) → IsPlan plan
+        → IsStreamed faults plan root capacity (hands staff crew) (book_told of sources) sink out put journal table done
+        → IsScriptRender (told_of told world) script capacity staff failed sink out put journal done
+    script_render faults table failed fails capacity staff journal (Ok all) is streamed = record {
+      whole = all_frames all.frames streamed.frames streamed.put;
+      stop = tt;
+      rendered = script_run capacity staff journal is streamed.rendered all.graph streamed.graph;
+      cut = script_cuts capacity staff None journal is streamed.cut;
+      head = script_head None journal streamed.head;
+    }
+    script_render faults table failed fails capacity staff journal (Err stop) is streamed = record {
+      whole = tt;
+      stop = stream_shown faults table failed fails stop streamed.stop;
+      rendered = tt;
+      cut = script_cuts capacity staff (Some stop) journal is streamed.cut;
+      head = script_head (Some stop) journal streamed.head;
+    }
 
 -- ---- a script without a clip
 
@@ -319,33 +350,7 @@ count_rose faults table before mid now after first counts last failed =
     let counted = counts failed.place failed.instance failed.there in
     omega (arith, first, counted, last, failed.failed)
 
--- two facts of an answer that is Ok
-pub both_of : {T E : Type 0} (P Q R : T → Type 0) (result : Result T E) → IfOk result P → IfOk result Q → ((x : T) → P x → Q x → R x) → IfOk result R
-both_of P Q R (Ok x) p q both = both x p q
-both_of P Q R (Err e) p q both = tt
-
--- the graph changes nothing else of an answer
-pub ok_with : (P : ℕ → Type 0) (put : Result ℕ Stop) (plan : List Application) → IfOk put P → IfOk (with_graph put plan) (λ all. P all.frames)
-ok_with P (Ok frames) plan p = p
-ok_with P (Err stop) plan p = tt
-
-pub each_with : (P : Type 0) (put : Result ℕ Stop) (plan : List Application) → OnOk put P → OnOk (with_graph put plan) P
-each_with P (Ok frames) plan p = p
-each_with P (Err stop) plan p = tt
-
-pub err_with : (P : Stop → Type 0) (put : Result ℕ Stop) (plan : List Application) → IfErr put P → IfErr (with_graph put plan) P
-err_with P (Ok frames) plan p = tt
-err_with P (Err stop) plan p = p
-
-pub graph_with : (put : Result ℕ Stop) (plan kept : List Application) → plan ≡ kept → IfOk (with_graph put plan) (λ all. all.graph ≡ kept)
-graph_with (Ok frames) plan kept is = is
-graph_with (Err stop) plan kept is = tt
-
-pub stop_with : (P : Option Stop → Type 0) (put : Result ℕ Stop) (plan : List Application) → P (stop_in put) → P (stop_in (with_graph put plan))
-stop_with P (Ok frames) plan p = p
-stop_with P (Err stop) plan p = p
-
--- the same, where one of them is the same for each value
-pub with_ok : {T E P : Type 0} (Q R : T → Type 0) (result : Result T E) → OnOk result P → IfOk result Q → ((x : T) → P → Q x → R x) → IfOk result R
-with_ok Q R (Ok x) p q both = both x p q
-with_ok Q R (Err e) p q both = tt
+-- a script that was not evaluated leaves no journal
+pub before_render : {K : Type 0} (told : Bool) (world : World) (script : List ℕ) (sink : Ghosts K) (out : K) (failed : Type 0) (capacity : ℕ) (staff : Staff) (stop : Stop)
+    → RenderShows failed sink (told_of told world) script out out stop → IsScriptRender (told_of told world) script capacity staff failed sink out out None (Err stop)
+before_render told world script sink out failed capacity staff stop shown = record { whole = tt; stop = shown; rendered = tt; cut = tt; head = inl refl }

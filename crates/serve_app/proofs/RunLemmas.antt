@@ -19,15 +19,18 @@ use Rattle.serve_app.specs.Info.{IsInfoOf, IsToldInfo, InfoShows}
 use Rattle.serve_app.specs.Playing.{PutsClip, PutsInfo}
 use Rattle.serve_app.specs.Meaning.{Meaning, a_clip, a_fault, MeansClip, Means, status_of, status_of_fault}
 use Rattle.prefetch.specs.Rendered.{PutsNothing}
-use Rattle.serve_app.specs.Rendered.{PutsWholeFrames, EndsInFrame, PutsHead, PutsNoHead}
+use Rattle.serve_stream.specs.Rendered.{PutsWholeFrames, EndsInFrame, PutsHead, PutsNoHead}
 use Rattle.serve_app.specs.Stop.{IsOfScript, ScriptHasClip, HasInfo, HasFault, HasChanged, IsScriptFault, RenderShows}
-use Rattle.serve_app.specs.Streams.{file_at, stop_in, TellsStop, HeadShows}
+use Rattle.serve_stream.specs.Streams.{file_at, stop_in, TellsStop, HeadShows}
 use Rattle.serve_text.specs.Lines.{Says, stop_line, usage_line, read_line, memory_line}
+use Rattle.serve_stream.specs.declared.staff.Staff.{Staff}
 use Rattle.serve_app.specs.Headline.{EndsByScript, EndsByInput, EndsByChange, EndsBy, WriteFails, Causes, PutsWhole, Quiet, Unwritten, Headline, JournalEnds, InfoEnds, Ends}
-use Rattle.serve_app.specs.Journals.{cache_of, IsScriptSerial, IsRunOf, IsReport, ScriptCuts}
+use Rattle.serve_app.specs.Journals.{cache_of, IsScriptRendered, IsRunOf, IsReport, ScriptCuts}
 use Rattle.serve_text.specs.Reports.{CutsReport, Reports}
 use Rattle.serve_app.specs.SelfTest.{IsLineOf, IsSelfLine, PutsSelfLine, SelfTestShows, SelfTestEnds}
-use Rattle.serve_app.specs.Run.{HasLog, RenderDoes, Does, LeavesNone, Finishes}
+use Rattle.serve_stream.specs.declared.stream.Whole.{Whole}
+use Rattle.serve_app.specs.Renders.{IsScriptRender}
+use Rattle.serve_app.specs.Run.{graph_in, HasLog, RenderDoes, Does, LeavesNone, Finishes}
 use Rattle.clip_graph.specs.Plan.{Application}
 use Rattle.serve_text.specs.Report.{report}
 use Rattle.serve_events.specs.declared.event.WindowStop.{WindowStop}
@@ -194,15 +197,15 @@ module _ {F S K E : Type 0} (files : of_files.Ghosts F S) (sink : Ghosts K) (lin
       let same = clip_of one.clip clip (means_one_thing is.world script (a_clip one.clip) (a_clip clip) one.means is.means) in
       gets_all (sink.bytes out) (sink.bytes new) (stream clip) (rw same at one.put)
 
-  module _ (capacity : ℕ) (journal : Option Record) where
+  module _ (capacity : ℕ) (staff : Staff) (journal : Option Record) where
     abbrev Well : Bool → Type 0
-    Well asked = Quiet files sink lines f g out new err said script capacity journal asked
+    Well asked = Quiet files sink lines f g out new err said script capacity staff journal asked
 
     abbrev Failed : Bool → Type 0
-    Failed asked = Unwritten files sink lines f g out new err said script capacity journal asked
+    Failed asked = Unwritten files sink lines f g out new err said script capacity staff journal asked
 
     abbrev Ended : Bool → ℕ → Type 0
-    Ended asked status = Headline files sink lines f g out new err said script capacity journal asked status
+    Ended asked status = Headline files sink lines f g out new err said script capacity staff journal asked status
 
     -- the whole text was put, and what is on `err` shows the status
     headline_by : (asked : Bool) (status frames : ℕ) → InWorld (files.world f) (λ world. PutsClip sink world script out new frames) → ((status ≡ 0) ⊎ (status ≡ 5))
@@ -219,7 +222,7 @@ module _ {F S K E : Type 0} (files : of_files.Ghosts F S) (sink : Ghosts K) (lin
     headline_of_whole asked frames whole quiet = headline_by asked 0 frames whole (inl refl) (causes_of_whole (Well asked) (Failed asked) quiet (has_clip frames whole))
 
     pub headline_of_cut : (frames : ℕ) → InWorld (files.world f) (λ world. PutsClip sink world script out new frames)
-        → (text : List ℕ) → IsReport (files.world f) script capacity journal text → CutsReport lines err said text → Ended true 5
+        → (text : List ℕ) → IsReport (files.world f) script capacity staff journal text → CutsReport lines err said text → Ended true 5
     headline_of_cut frames whole text is cut =
         headline_by true 5 frames whole (inr refl) (causes_of_cut (Well true) (Failed true) (inr (record { whole = whole_of frames whole; text = text; is = is; cut = cut })))
 
@@ -269,18 +272,18 @@ module _ {F S K E : Type 0} (files : of_files.Ghosts F S) (sink : Ghosts K) (lin
   frames_of Write shown which = absurd (omega (arith, which))
   frames_of Memory shown which = shown
 
-  module _ (capacity : ℕ) (journal : Option Record) where
-    fails_by : (asked : Bool) → Fails → Failed capacity journal asked
+  module _ (capacity : ℕ) (staff : Staff) (journal : Option Record) where
+    fails_by : (asked : Bool) → Fails → Failed capacity staff journal asked
     fails_by true failed = inl failed
     fails_by false failed = failed
 
-    pub headline_of_stop : (asked : Bool) (stop : Stop) → Shown stop → Says lines err said (stop_line stop) → Ended capacity journal asked (status_of_stop stop)
+    pub headline_of_stop : (asked : Bool) (stop : Stop) → Shown stop → Says lines err said (stop_line stop) → Ended capacity staff journal asked (status_of_stop stop)
     headline_of_stop asked stop shown says = record {
       whole = λ zero. absurd (never_zero stop zero);
       prefix = prefix_of stop shown;
       nothing = nothing_of stop shown;
       whole_frames = frames_of stop shown;
-      causes = causes_of (Well capacity journal asked) (Failed capacity journal asked) (fails_by asked) stop (cause_of stop shown) says;
+      causes = causes_of (Well capacity staff journal asked) (Failed capacity staff journal asked) (fails_by asked) stop (cause_of stop shown) says;
     }
 
   -- ---- what is known of the clip
@@ -433,9 +436,9 @@ self_line sink world script out new frames bytes line puts none all is =
     let same : bytes ≡ stream puts.clip = cc in
     record { clip = puts.clip; means = puts.means; line_is = is ∙ ap (λ n. digest_line n bytes) puts.frames_are ∙ ap (digest_line (let clip = puts.clip in clip.info.frames)) same }
 
-module _ {F S K E : Type 0} (files : of_files.Ghosts F S) (sink : Ghosts K) (lines : Ghosts E) (f g : F) (out new : K) (err said : E) (script : List ℕ) (capacity : ℕ) (journal : Option Record) where
+module _ {F S K E : Type 0} (files : of_files.Ghosts F S) (sink : Ghosts K) (lines : Ghosts E) (f g : F) (out new : K) (err said : E) (script : List ℕ) (capacity : ℕ) (staff : Staff) (journal : Option Record) where
   abbrev Left : ℕ → Type 0
-  Left status = JournalEnds files sink lines f g out new err said script capacity journal status
+  Left status = JournalEnds files sink lines f g out new err said script capacity staff journal status
 
   abbrev Ending : ℕ → List Application → Option WindowStop → Type 0
   Ending status = EndsBy files sink lines f g out new err said script status
@@ -461,19 +464,19 @@ module _ {F S K E : Type 0} (files : of_files.Ghosts F S) (sink : Ghosts K) (lin
   ends_whole plan (Some worker.Memory) status five is = absurd (cc)
 
   cuts_by : (One Other : List Application → Option WindowStop → Type 0) → ((plan : List Application) (stop : Option WindowStop) → One plan stop → Other plan stop) → (log : Option Record)
-      → ScriptCuts (files.world f) script capacity sink out new One log → ScriptCuts (files.world f) script capacity sink out new Other log
+      → ScriptCuts (files.world f) script capacity staff sink out new One log → ScriptCuts (files.world f) script capacity staff sink out new Other log
   cuts_by One Other so None cut = tt
   cuts_by One Other so (Some log) cut = record { plan = cut.plan; root = cut.root; is_plan = cut.is_plan; stop = cut.stop; ends = so cut.plan cut.stop cut.ends; cut = cut.cut }
 
   -- the journal of a whole render, and of one that stopped
-  journal_of_whole : (status : ℕ) → (status ≡ 0) ⊎ (status ≡ 5) → IsScriptSerial (files.world f) script capacity journal → ScriptCuts (files.world f) script capacity sink out new (TellsStop None) journal → Left status
-  journal_of_whole status (inl zero) serial cut = record { serial = λ is. serial; cut = λ more. absurd (more zero) }
-  journal_of_whole status (inr five) serial cut = record { serial = λ is. serial; cut = λ more. cuts_by (TellsStop None) (Ending status) (λ plan stop. ends_whole plan stop status five) journal cut }
+  journal_of_whole : (status : ℕ) → (status ≡ 0) ⊎ (status ≡ 5) → IsScriptRendered (files.world f) script capacity staff journal → ScriptCuts (files.world f) script capacity staff sink out new (TellsStop None) journal → Left status
+  journal_of_whole status (inl zero) serial cut = record { rendered = λ is. serial; cut = λ more. absurd (more zero) }
+  journal_of_whole status (inr five) serial cut = record { rendered = λ is. serial; cut = λ more. cuts_by (TellsStop None) (Ending status) (λ plan stop. ends_whole plan stop status five) journal cut }
 
-  journal_of_stop : (stop : Stop) (status : ℕ) → status ≡ status_of_stop stop → Says lines err said (stop_line stop) → ScriptCuts (files.world f) script capacity sink out new (TellsStop (Some stop)) journal → Left status
+  journal_of_stop : (stop : Stop) (status : ℕ) → status ≡ status_of_stop stop → Says lines err said (stop_line stop) → ScriptCuts (files.world f) script capacity staff sink out new (TellsStop (Some stop)) journal → Left status
   journal_of_stop stop status is says cut = record {
-    serial = λ zero. absurd (never_zero stop (sym is ∙ zero));
-    cut = λ more. subst (λ s. ScriptCuts (files.world f) script capacity sink out new (Ending s) journal) (sym is) (cuts_by (TellsStop (Some stop)) (Ending (status_of_stop stop)) (λ plan cut_by. ends_by stop plan cut_by says) journal cut);
+    rendered = λ zero. absurd (never_zero stop (sym is ∙ zero));
+    cut = λ more. subst (λ s. ScriptCuts (files.world f) script capacity staff sink out new (Ending s) journal) (sym is) (cuts_by (TellsStop (Some stop)) (Ending (status_of_stop stop)) (λ plan cut_by. ends_by stop plan cut_by says) journal cut);
   }
 
 -- a head that was not put whole, and one that was
@@ -497,7 +500,7 @@ wrote_of stop status is told = let same : stop ≡ Write = cc in is ∙ ap statu
 
 -- ---- all commands
 
-module _ {F S K E : Type 0} (files : of_files.Ghosts F S) (sink : Ghosts K) (lines : Ghosts E) (f g : F) (out new : K) (err said : E) (words : List (List ℕ)) (journal : Option Record) where
+module _ {F S K E : Type 0} (files : of_files.Ghosts F S) (sink : Ghosts K) (lines : Ghosts E) (f g : F) (out new : K) (err said : E) (by : RenderOptions → Staff) (words : List (List ℕ)) (journal : Option Record) where
   -- what every run leaves
   abbrev Leaves : Type 0
   Leaves = KeepsFiles files f g × IsLater sink out new × IsLater lines err said
@@ -507,23 +510,23 @@ module _ {F S K E : Type 0} (files : of_files.Ghosts F S) (sink : Ghosts K) (lin
   not_one status (inr more) one = omega (arith, more, one)
 
   ends_of_render : (script : List ℕ) (options : RenderOptions) (status : ℕ) → command_in words ≡ Some (c.Render script options)
-      → Headline files sink lines f g out new err said script (cache_of options.cache) journal options.report status
-      → JournalEnds files sink lines f g out new err said script (cache_of options.cache) journal status
+      → Headline files sink lines f g out new err said script (cache_of options.cache) (by options) journal options.report status
+      → JournalEnds files sink lines f g out new err said script (cache_of options.cache) (by options) journal status
       → (journal ≡ None → PutsNoHead sink out new (HasInfo (files.world f) script) (status ≡ 5)) → ((log : Record) → journal ≡ Some log → PutsHead sink out new (HasInfo (files.world f) script)) → Leaves
-      → Ends files sink lines f g out new err said words status journal
+      → Ends files sink lines f g out new err said by words status journal
   ends_of_render script options status asked ends ended no_head headed leaves = record {
     render = λ other others is.
         (let both : Some (c.Render script options) ≡ Some (c.Render other others) = sym asked ∙ is in
         let same : script ≡ other = cc in
         let alike : options ≡ others = cc in
-        subst (λ (o : RenderOptions). Headline files sink lines f g out new err said other (cache_of o.cache) journal o.report status) alike
-        (subst (λ s. Headline files sink lines f g out new err said s (cache_of options.cache) journal options.report status) same ends));
+        subst (λ (o : RenderOptions). Headline files sink lines f g out new err said other (cache_of o.cache) (by o) journal o.report status) alike
+        (subst (λ s. Headline files sink lines f g out new err said s (cache_of options.cache) (by options) journal options.report status) same ends));
     journal_of = λ other others is.
         (let both : Some (c.Render script options) ≡ Some (c.Render other others) = sym asked ∙ is in
         let same : script ≡ other = cc in
         let alike : options ≡ others = cc in
-        subst (λ (o : RenderOptions). JournalEnds files sink lines f g out new err said other (cache_of o.cache) journal status) alike
-        (subst (λ s. JournalEnds files sink lines f g out new err said s (cache_of options.cache) journal status) same ended));
+        subst (λ (o : RenderOptions). JournalEnds files sink lines f g out new err said other (cache_of o.cache) (by o) journal status) alike
+        (subst (λ s. JournalEnds files sink lines f g out new err said s (cache_of options.cache) (by options) journal status) same ended));
     info = λ other is. (let both : Some (c.Render script options) ≡ Some (c.Info other) = sym asked ∙ is in absurd (cc));
     self_test = λ number is. (let both : Some (c.Render script options) ≡ Some (c.SelfTest number) = sym asked ∙ is in absurd (cc));
     refused = λ none. (let both : Some (c.Render script options) ≡ None = sym asked ∙ none in absurd (cc));
@@ -539,7 +542,7 @@ module _ {F S K E : Type 0} (files : of_files.Ghosts F S) (sink : Ghosts K) (lin
   }
 
   ends_of_info : (script : List ℕ) (status : ℕ) → command_in words ≡ Some (c.Info script) → InfoEnds files sink lines f g out new err said script status → journal ≡ None → Leaves
-      → Ends files sink lines f g out new err said words status journal
+      → Ends files sink lines f g out new err said by words status journal
   ends_of_info script status asked ends empty leaves = record {
     render = λ other others is. (let both : Some (c.Info script) ≡ Some (c.Render other others) = sym asked ∙ is in absurd (cc));
     journal_of = λ other others is. (let both : Some (c.Info script) ≡ Some (c.Render other others) = sym asked ∙ is in absurd (cc));
@@ -561,7 +564,7 @@ module _ {F S K E : Type 0} (files : of_files.Ghosts F S) (sink : Ghosts K) (lin
   self_not_one status (inr (inr six)) one = omega (arith, six, one)
 
   ends_of_self_test : (number status : ℕ) → command_in words ≡ Some (c.SelfTest number) → SelfTestEnds sink lines out new err said number status → g ≡ f → journal ≡ None → Leaves
-      → Ends files sink lines f g out new err said words status journal
+      → Ends files sink lines f g out new err said by words status journal
   ends_of_self_test number status asked ends stay empty leaves = record {
     render = λ other others is. (let both : Some (c.SelfTest number) ≡ Some (c.Render other others) = sym asked ∙ is in absurd (cc));
     journal_of = λ other others is. (let both : Some (c.SelfTest number) ≡ Some (c.Render other others) = sym asked ∙ is in absurd (cc));
@@ -580,53 +583,53 @@ module _ {F S K E : Type 0} (files : of_files.Ghosts F S) (sink : Ghosts K) (lin
   -- a render by what was done and what was said of it
   module _ (script : List ℕ) (options : RenderOptions) where
     abbrev Rendered : ℕ → Type 0
-    Rendered status = Headline files sink lines f g out new err said script (cache_of options.cache) journal options.report status
+    Rendered status = Headline files sink lines f g out new err said script (cache_of options.cache) (by options) journal options.report status
 
     quietly : (frames status : ℕ) → InWorld (files.world f) (λ world. PutsClip sink world script out new frames) → options.report ≡ false → status ≡ 0 → said ≡ err → Rendered status
     quietly frames status whole unasked zero quiet =
-        subst Rendered (sym zero) (headline_of_whole files sink lines f g out new err said script (cache_of options.cache) journal options.report frames whole
-        (subst (Quiet files sink lines f g out new err said script (cache_of options.cache) journal) (sym unasked) quiet))
+        subst Rendered (sym zero) (headline_of_whole files sink lines f g out new err said script (cache_of options.cache) (by options) journal options.report frames whole
+        (subst (Quiet files sink lines f g out new err said script (cache_of options.cache) (by options) journal) (sym unasked) quiet))
 
     reported : (frames status : ℕ) (text : List ℕ) → InWorld (files.world f) (λ world. PutsClip sink world script out new frames) → options.report ≡ true
-        → IsReport (files.world f) script (cache_of options.cache) journal text → ((status ≡ 0) × Puts lines err said text) ⊎ ((status ≡ 5) × CutsReport lines err said text) → Rendered status
+        → IsReport (files.world f) script (cache_of options.cache) (by options) journal text → ((status ≡ 0) × Puts lines err said text) ⊎ ((status ≡ 5) × CutsReport lines err said text) → Rendered status
     reported frames status text whole asked is (inl put) =
-        subst Rendered (sym put.0) (headline_of_whole files sink lines f g out new err said script (cache_of options.cache) journal options.report frames whole
-        (subst (Quiet files sink lines f g out new err said script (cache_of options.cache) journal) (sym asked) (record { text = text; is = is; put = put.1 })))
+        subst Rendered (sym put.0) (headline_of_whole files sink lines f g out new err said script (cache_of options.cache) (by options) journal options.report frames whole
+        (subst (Quiet files sink lines f g out new err said script (cache_of options.cache) (by options) journal) (sym asked) (record { text = text; is = is; put = put.1 })))
     reported frames status text whole asked is (inr cut) =
-        subst Rendered (sym cut.0) (subst (λ b. Headline files sink lines f g out new err said script (cache_of options.cache) journal b 5) (sym asked)
-        (headline_of_cut files sink lines f g out new err said script (cache_of options.cache) journal frames whole text is cut.1))
+        subst Rendered (sym cut.0) (subst (λ b. Headline files sink lines f g out new err said script (cache_of options.cache) (by options) journal b 5) (sym asked)
+        (headline_of_cut files sink lines f g out new err said script (cache_of options.cache) (by options) journal frames whole text is cut.1))
 
     -- the report is that of the journal
-    report_is : (log : Record) (plan : List Application) → journal ≡ Some log → IsRunOf (files.world f) script (cache_of options.cache) journal plan
-        → IsReport (files.world f) script (cache_of options.cache) journal (report plan (windows_of log))
+    report_is : (log : Record) (plan : List Application) → journal ≡ Some log → IsRunOf (files.world f) script (cache_of options.cache) (by options) journal plan
+        → IsReport (files.world f) script (cache_of options.cache) (by options) journal (report plan (windows_of log))
     report_is log plan there is =
         let run = is.run in
-        let serial = run.serial in
+        let serial = run.rendered in
         let both : Some log ≡ Some serial.log = sym there ∙ serial.there in
         let same : log ≡ serial.log = cc in
         record { run = run; text_is = ap₂ (λ (p : List Application) (l : Record). report p (windows_of l)) (sym is.plan_is) same }
 
   ends_of_done : (script : List ℕ) (options : RenderOptions) (done : Result (Option (List Application)) Stop) (log : Option Record) (status : ℕ) → journal ≡ log → command_in words ≡ Some (c.Render script options)
-      → RenderDoes files sink f g out new journal script options done → ScriptCuts (files.world f) script (cache_of options.cache) sink out new (TellsStop (stop_in done)) journal
+      → RenderDoes files sink f g out new journal script options (by options) done → ScriptCuts (files.world f) script (cache_of options.cache) (by options) sink out new (TellsStop (stop_in done)) journal
       → HeadShows sink out new (HasInfo (files.world f) script) (stop_in done) journal
-      → Finishes lines err said done log status → Leaves → Ends files sink lines f g out new err said words status journal
+      → Finishes lines err said done log status → Leaves → Ends files sink lines f g out new err said by words status journal
   ends_of_done script options (Ok None) log status there asked (unasked, whole, serial) cut head (none, quiet) leaves =
       ends_of_render script options status asked (quietly script options whole.0 status whole.1 unasked none quiet)
-      (journal_of_whole files sink lines f g out new err said script (cache_of options.cache) journal status (inl none) serial cut)
+      (journal_of_whole files sink lines f g out new err said script (cache_of options.cache) (by options) journal status (inl none) serial cut)
       (unheaded sink out new _ None journal status head (λ bad. absurd (cc))) (headed_of sink out new _ None journal head) leaves
   ends_of_done script options (Ok (Some plan)) None status there asked done cut head said_so leaves = absurd said_so
   ends_of_done script options (Ok (Some plan)) (Some log) status there asked (with_report, whole, is) cut head said_so leaves =
       ends_of_render script options status asked (reported script options whole.0 status (report plan (windows_of log)) whole.1 with_report (report_is script options log plan there is) said_so.ends)
-      (journal_of_whole files sink lines f g out new err said script (cache_of options.cache) journal status (zero_or_five status _ _ said_so.ends) is.run cut)
+      (journal_of_whole files sink lines f g out new err said script (cache_of options.cache) (by options) journal status (zero_or_five status _ _ said_so.ends) is.run cut)
       (unheaded sink out new _ None journal status head (λ bad. absurd (cc))) (headed_of sink out new _ None journal head) leaves
   ends_of_done script options (Err stop) log status there asked shown cut head (is, says) leaves =
-      ends_of_render script options status asked (subst (Rendered script options) (sym is) (headline_of_stop files sink lines f g out new err said script (cache_of options.cache) journal options.report stop shown says))
-      (journal_of_stop files sink lines f g out new err said script (cache_of options.cache) journal stop status is says cut)
+      ends_of_render script options status asked (subst (Rendered script options) (sym is) (headline_of_stop files sink lines f g out new err said script (cache_of options.cache) (by options) journal options.report stop shown says))
+      (journal_of_stop files sink lines f g out new err said script (cache_of options.cache) (by options) journal stop status is says cut)
       (unheaded sink out new _ (Some stop) journal status head (wrote_of stop status is)) (headed_of sink out new _ (Some stop) journal head) leaves
 
   -- by what was done and what was said of it
-  pub ends_of : (command : Command) (done : Result (Option (List Application)) Stop) (status : ℕ) → command_in words ≡ Some command → Does files sink f g out new journal command done → LeavesNone command journal
-      → Finishes lines err said done journal status → Leaves → Ends files sink lines f g out new err said words status journal
+  pub ends_of : (command : Command) (done : Result (Option (List Application)) Stop) (status : ℕ) → command_in words ≡ Some command → Does files sink f g out new journal by command done → LeavesNone command journal
+      → Finishes lines err said done journal status → Leaves → Ends files sink lines f g out new err said by words status journal
   ends_of (c.Render script options) done status asked (does, cut, head) empty said_so leaves = ends_of_done script options done journal status refl asked does cut head said_so leaves
   ends_of (c.Info script) (Ok None) status asked done empty said_so leaves =
       ends_of_info script status asked (subst (λ n. InfoEnds files sink lines f g out new err said script n) (sym said_so.0)
@@ -643,22 +646,48 @@ module _ {F S K E : Type 0} (files : of_files.Ghosts F S) (sink : Ghosts K) (lin
       ends_of_self_test number status asked (subst (λ n. SelfTestEnds sink lines out new err said number n) (sym said_so.0)
       (self_test_of_stop sink lines out new err said number stop done.0 said_so.1)) done.1 empty leaves
 
+-- what a render leaves is what the command shows
+module _ {F S K : Type 0} (files : of_files.Ghosts F S) (sink : Ghosts K) (f g : F) (out new : K) (journal : Option Record) (by : RenderOptions → Staff) where
+  by_report : (script : List ℕ) (options : RenderOptions) (report : Bool) (done : Result Whole Stop) → options.report ≡ report
+      → IsScriptRender (files.world f) script (cache_of options.cache) (by options) (FilesFailed files f g) sink out new journal done
+      → RenderDoes files sink f g out new journal script options (by options) (graph_in report done)
+  by_report script options true (Ok all) asked is = (asked, (all.frames, is.whole), is.rendered)
+  by_report script options false (Ok all) asked is = (asked, (all.frames, is.whole), (let of = is.rendered in of.run))
+  by_report script options true (Err stop) asked is = is.stop
+  by_report script options false (Err stop) asked is = is.stop
+
+  same_stop : (report : Bool) (done : Result Whole Stop) → stop_in done ≡ stop_in (graph_in report done)
+  same_stop true (Ok all) = refl
+  same_stop false (Ok all) = refl
+  same_stop true (Err stop) = refl
+  same_stop false (Err stop) = refl
+
+  pub render_does : (script : List ℕ) (options : RenderOptions) (done : Result Whole Stop)
+      → IsScriptRender (files.world f) script (cache_of options.cache) (by options) (FilesFailed files f g) sink out new journal done
+      → Does files sink f g out new journal by (c.Render script options) (graph_in options.report done)
+  render_does script options done is =
+      let same = same_stop options.report done in (
+        by_report script options options.report done refl is,
+        rw same at is.cut,
+        rw same at is.head,
+      )
+
 -- a report is asked for only of a journal that is there
-module _ {F S K : Type 0} (files : of_files.Ghosts F S) (sink : Ghosts K) (f g : F) (out new : K) (journal : Option Record) where
-  pub has_log : (command : Command) (done : Result (Option (List Application)) Stop) → Does files sink f g out new journal command done → HasLog done journal
+module _ {F S K : Type 0} (files : of_files.Ghosts F S) (sink : Ghosts K) (f g : F) (out new : K) (journal : Option Record) (by : RenderOptions → Staff) where
+  pub has_log : (command : Command) (done : Result (Option (List Application)) Stop) → Does files sink f g out new journal by command done → HasLog done journal
   has_log command (Ok None) does = tt
   has_log command (Err stop) does = tt
-  has_log (c.Render script options) (Ok (Some plan)) does = let is = does.0.2 in let run = is.run in let serial = run.serial in subst (HasLog (Ok (Some plan))) (sym serial.there) tt
+  has_log (c.Render script options) (Ok (Some plan)) does = let is = does.0.2 in let run = is.run in let serial = run.rendered in subst (HasLog (Ok (Some plan))) (sym serial.there) tt
   has_log (c.Info script) (Ok (Some plan)) does = absurd does
   has_log (c.SelfTest number) (Ok (Some plan)) does = absurd does
 
-module _ {F S K E : Type 0} (files : of_files.Ghosts F S) (sink : Ghosts K) (lines : Ghosts E) (f : F) (out : K) (err said : E) (words : List (List ℕ)) where
+module _ {F S K E : Type 0} (files : of_files.Ghosts F S) (sink : Ghosts K) (lines : Ghosts E) (f : F) (out : K) (err said : E) (by : RenderOptions → Staff) (words : List (List ℕ)) where
   -- what is left untouched
   untouched : KeepsFiles files f f
   untouched = record { world = refl; given = refl; later = omega arith }
 
   -- memory ran out before anything was done
-  memory_done : (command : Command) → Does files sink f f out out None command (Err Memory)
+  memory_done : (command : Command) → Does files sink f f out out None by command (Err Memory)
   memory_done (c.Render script options) = (inl refl, tt, inl refl)
   memory_done (c.Info script) = refl
   memory_done (c.SelfTest number) = (refl, refl)
@@ -669,7 +698,7 @@ module _ {F S K E : Type 0} (files : of_files.Ghosts F S) (sink : Ghosts K) (lin
   none_left (c.SelfTest number) = refl
 
   pub ends_of_memory : (command : Option Command) → command_in words ≡ command → (status : ℕ) → Finishes lines err said (Err Memory) None status
-      → Ends files sink lines f f out out err said words status None
+      → Ends files sink lines f f out out err said by words status None
   ends_of_memory None none status said_so = record {
     render = λ other others is. (let both : None ≡ Some (c.Render other others) = sym none ∙ is in absurd (cc));
     journal_of = λ other others is. (let both : None ≡ Some (c.Render other others) = sym none ∙ is in absurd (cc));
@@ -684,10 +713,10 @@ module _ {F S K E : Type 0} (files : of_files.Ghosts F S) (sink : Ghosts K) (lin
     later_lines = (let says = said_so.1 in says.later);
   }
   ends_of_memory (Some command) asked status said_so =
-      ends_of files sink lines f f out out err said words None command (Err Memory) status asked (memory_done command) (none_left command) said_so
+      ends_of files sink lines f f out out err said by words None command (Err Memory) status asked (memory_done command) (none_left command) said_so
       (untouched, omega arith, (let says = said_so.1 in says.later))
 
-  pub ends_of_usage : command_in words ≡ None → Says lines err said usage_line → Ends files sink lines f f out out err said words 1 None
+  pub ends_of_usage : command_in words ≡ None → Says lines err said usage_line → Ends files sink lines f f out out err said by words 1 None
   ends_of_usage none says = record {
     render = λ other others is. (let both : None ≡ Some (c.Render other others) = sym none ∙ is in absurd (cc));
     journal_of = λ other others is. (let both : None ≡ Some (c.Render other others) = sym none ∙ is in absurd (cc));

@@ -18,16 +18,17 @@ use Rattle.clip_graph.specs.Plan.{Application}
 use Rattle.serve_events.specs.declared.event.WindowStop.{WindowStop}
 use Rattle.serve_events.specs.declared.event.WindowStop.TheVariants.{Read, Changed, Memory}
 use Rattle.serve_events.specs.declared.windows.Record.{Record}
+use Rattle.serve_stream.specs.declared.staff.Staff.{Staff}
 use Rattle.serve_app.specs.Words.{IsRender, IsInfo, IsSelfTest}
 use Rattle.serve_app.specs.Meaning.{Meaning, MeansClip, Means, status_of}
 use Rattle.serve_app.specs.Info.{IsInfoOf, IsToldInfo}
-use Rattle.serve_app.specs.Journals.{cache_of, IsScriptSerial, IsReport, ScriptCuts}
+use Rattle.serve_app.specs.Journals.{cache_of, IsScriptRendered, IsReport, ScriptCuts}
 use Rattle.serve_text.specs.Reports.{CutsReport}
 use Rattle.serve_app.specs.SelfTest.{SelfTestEnds}
 use Rattle.prefetch.specs.Rendered.{PutsNothing}
-use Rattle.serve_app.specs.Rendered.{PutsWholeFrames, EndsInFrame, PutsHead, PutsNoHead}
+use Rattle.serve_stream.specs.Rendered.{PutsWholeFrames, EndsInFrame, PutsHead, PutsNoHead}
 use Rattle.serve_app.specs.Stop.{IsOfScript, ScriptHasClip, HasInfo, HasFault, HasChanged, IsScriptFault}
-use Rattle.serve_app.specs.Streams.{file_at}
+use Rattle.serve_stream.specs.Streams.{file_at}
 use Rattle.serve_text.specs.Lines.{Says, usage_line, read_line, write_line, memory_line, script_line, input_line, file_line, changed_kind}
 
 module _ {F S K E : Type 0} (files : of_files.Ghosts F S) (sink : Ghosts K) (lines : Ghosts E)
@@ -93,19 +94,19 @@ module _ {F S K E : Type 0} (files : of_files.Ghosts F S) (sink : Ghosts K) (lin
     PutsWhole = InWorld (files.world f) (λ world.
         (clip : Clip) × MeansClip world script clip × Puts sink out new (stream clip))
 
-    -- a render of the script, with a cache of so many frames, that leaves this journal
-    module _ (capacity : ℕ) (journal : Option Record) where
+    -- a render of the script, with a cache of so many frames and this staff, that leaves this journal
+    module _ (capacity : ℕ) (staff : Staff) (journal : Option Record) where
       -- the report of the journal was put
       pub record PutsReport : Type 0 where
         pub text : List ℕ
-        pub is : IsReport (files.world f) script capacity journal text
+        pub is : IsReport (files.world f) script capacity staff journal text
         pub put : Puts lines err said text
 
       -- the whole text was put, and then the report was cut short
       pub record EndsInReport : Type 0 where
         pub whole : PutsWhole
         pub text : List ℕ
-        pub is : IsReport (files.world f) script capacity journal text
+        pub is : IsReport (files.world f) script capacity staff journal text
         pub cut : CutsReport lines err said text
 
       -- what is on `err` where all went well, by whether a report is asked for
@@ -128,10 +129,10 @@ module _ {F S K E : Type 0} (files : of_files.Ghosts F S) (sink : Ghosts K) (lin
             → PutsWholeFrames sink out new (IsOfScript (files.world f) script) (ScriptHasClip (files.world f) script)
         pub causes : Causes (Quiet report) (Unwritten report) status
 
-      -- the journal: the serial run, or the beginning of it up to a stop, which the status and the line tell
+      -- the journal: that of the whole render, or the beginning of it up to a stop, which the status and the line tell
       pub record JournalEnds (status : ℕ) : Type 0 where
-        pub serial : status ≡ 0 → IsScriptSerial (files.world f) script capacity journal
-        pub cut : (status ≡ 0 → ⊥) → ScriptCuts (files.world f) script capacity sink out new (EndsBy status) journal
+        pub rendered : status ≡ 0 → IsScriptRendered (files.world f) script capacity staff journal
+        pub cut : (status ≡ 0 → ⊥) → ScriptCuts (files.world f) script capacity staff sink out new (EndsBy status) journal
 
     -- what is known of the script's clip
     pub record InfoEnds (status : ℕ) : Type 0 where
@@ -152,12 +153,12 @@ module _ {F S K E : Type 0} (files : of_files.Ghosts F S) (sink : Ghosts K) (lin
     pub files_stay : g ≡ f
     pub out_stays : new ≡ out
 
-  -- what a run leaves, by what the words ask for
-  pub record Ends (words : List (List ℕ)) (status : ℕ) (journal : Option Record) : Type 0 where
+  -- what a run leaves, by what the words ask for, and by who decides how many workers a render has
+  pub record Ends (staff : RenderOptions → Staff) (words : List (List ℕ)) (status : ℕ) (journal : Option Record) : Type 0 where
     pub render : (script : List ℕ) (options : RenderOptions) → IsRender words script options
-        → Headline script (cache_of options.cache) journal options.report status
+        → Headline script (cache_of options.cache) (staff options) journal options.report status
     pub journal_of : (script : List ℕ) (options : RenderOptions) → IsRender words script options
-        → JournalEnds script (cache_of options.cache) journal status
+        → JournalEnds script (cache_of options.cache) (staff options) journal status
     pub info : (script : List ℕ) → IsInfo words script → InfoEnds script status
     pub self_test : (number : ℕ) → IsSelfTest words number → SelfTestEnds sink lines out new err said number status × (g ≡ f)
     pub refused : command_in words ≡ None → IsRefused status

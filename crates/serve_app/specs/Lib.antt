@@ -1,11 +1,9 @@
 pub mod Words
 pub mod Meaning
-pub mod Rendered
 pub mod Stop
-pub mod Clips
 pub mod Closing
 pub mod Journals
-pub mod Streams
+pub mod Renders
 pub mod Playing
 pub mod Info
 pub mod SelfTest

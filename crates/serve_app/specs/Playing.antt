@@ -9,8 +9,6 @@ use Rattle.y4m_stream.specs.Stream.{stream}
 use Rattle.avs_meaning.specs.Faults.{Fault, input}
 use Rattle.avs_meaning.specs.Meaning as m
 use Rattle.avs_eval.specs.declared.evaluation.Opened.{Opened}
-use Rattle.clip_graph.specs.Plan.{Application}
-use Rattle.serve_app.specs.declared.play.Whole.{Whole}
 use Rattle.serve_app.specs.Info.{IsInfoOf}
 use Rattle.serve_app.specs.Meaning.{MeansClip}
 use Rattle.serve_text.specs.StopKinds.{Names}
@@ -37,11 +35,6 @@ EndsBefore before now (Err (of_stop.Changed name frame want got)) = ⊥
 EndsBefore before now _ = Unit {0}
 
 -- ---- what was put
-
--- the answer of a render, with its plan where all frames were put
-abbrev pub with_graph : Result ℕ Stop → List Application → Result Whole Stop
-with_graph (Ok frames) plan = Ok (record { frames = frames; graph = plan })
-with_graph (Err stop) plan = Err stop
 
 -- the stream of the clip that the script means in this world, of so many frames, was put
 pub record PutsClip {K : Type 0} (sink : Ghosts K) (world : World) (script : List ℕ) (old new : K) (frames : ℕ) : Type 0 where

@@ -1,5 +1,5 @@
 -- What a command does, and what is said of it.
-use Rattle.std.specs.Prelude.{◌≡◌, ℕ, ◌<◌, true, false, List, Option, Some, None, Result, Ok, Err}
+use Rattle.std.specs.Prelude.{◌≡◌, ℕ, ◌<◌, Bool, true, false, if◌then◌else◌, List, Option, Some, None, Result, Ok, Err}
 use Rattle.fv_io.specs.declared.files.Files as of_files
 use Rattle.fv_io.specs.declared.sink.Sink.{Ghosts}
 use Rattle.fv_io.specs.Files.{FilesFailed}
@@ -13,20 +13,40 @@ use Rattle.serve_text.specs.declared.stop.Stop.{Stop}
 use Rattle.serve_text.specs.StopKinds.{status_of_stop}
 use Rattle.serve_events.specs.declared.windows.Record.{Record}
 use Rattle.serve_events.specs.Windows.{windows_of}
+use Rattle.serve_stream.specs.declared.staff.Staff.{Staff}
+use Rattle.serve_stream.specs.declared.staff.Staff.TheVariants.{One, Asked}
+use Rattle.serve_stream.specs.declared.stream.Whole.{Whole}
+use Rattle.serve_stream.specs.Staff.{AreThreads}
 use Rattle.serve_app.specs.Info.{InfoShows}
-use Rattle.serve_app.specs.Journals.{cache_of, IsScriptSerial, IsRunOf, ScriptCuts}
+use Rattle.serve_app.specs.Journals.{cache_of, IsScriptRendered, IsRunOf, ScriptCuts}
 use Rattle.serve_text.specs.Lines.{Says, stop_line}
 use Rattle.serve_app.specs.Playing.{PutsClip, PutsInfo}
 use Rattle.serve_text.specs.Reports.{Reports}
 use Rattle.serve_app.specs.SelfTest.{PutsSelfLine, SelfTestShows}
 use Rattle.serve_app.specs.Stop.{RenderShows, ScriptHasClip, HasInfo}
-use Rattle.serve_app.specs.Streams.{stop_in, TellsStop, HeadShows}
+use Rattle.serve_stream.specs.Streams.{stop_in, TellsStop, HeadShows}
 
--- the cache of a render, where its size was given, holds a frame
-abbrev pub HasCache : Command → Type 0
-HasCache (Render script options) = 0 < cache_of options.cache
-HasCache (Info script) = Unit {0}
-HasCache (SelfTest number) = Unit {0}
+-- the options of a render are in their ranges: the cache holds a frame, and 1 to 16 threads are asked for, if any
+abbrev pub AreFit : RenderOptions → Type 0
+AreFit options = (0 < cache_of options.cache) × AreThreads options.threads
+
+abbrev pub IsFit : Command → Type 0
+IsFit (Render script options) = AreFit options
+IsFit (Info script) = Unit {0}
+IsFit (SelfTest number) = Unit {0}
+
+-- who decides how many workers a render has: nobody where one renders alone, and else the words or the script
+abbrev pub plain_staff : RenderOptions → Staff
+plain_staff options = One
+
+abbrev pub staff_by : RenderOptions → Staff
+staff_by options = if options.plain then One else Asked options.threads
+
+-- the graph of a render, where its report is asked for
+abbrev pub graph_in : Bool → Result Whole Stop → Result (Option (List Application)) Stop
+graph_in true (Ok all) = Ok (Some all.graph)
+graph_in false (Ok all) = Ok None
+graph_in report (Err stop) = Err stop
 
 -- what each command shows at its end. Where a report is asked for, it answers the plan of the journal
 module _ {F S K : Type 0} (files : of_files.Ghosts F S) (sink : Ghosts K) (f g : F) (out new : K) (journal : Option Record) where
@@ -34,24 +54,24 @@ module _ {F S K : Type 0} (files : of_files.Ghosts F S) (sink : Ghosts K) (f g :
   abbrev pub PutsAll : List ℕ → Type 0
   PutsAll script = (frames : ℕ) × InWorld (files.world f) (λ world. PutsClip sink world script out new frames)
 
-  abbrev pub RenderDoes : List ℕ → RenderOptions → Result (Option (List Application)) Stop → Type 0
-  RenderDoes script options (Ok None) = (options.report ≡ false) × PutsAll script
-      × IsScriptSerial (files.world f) script (cache_of options.cache) journal
-  RenderDoes script options (Ok (Some plan)) = (options.report ≡ true) × PutsAll script
-      × IsRunOf (files.world f) script (cache_of options.cache) journal plan
-  RenderDoes script options (Err stop) = RenderShows (FilesFailed files f g) sink (files.world f) script out new stop
+  abbrev pub RenderDoes : List ℕ → RenderOptions → Staff → Result (Option (List Application)) Stop → Type 0
+  RenderDoes script options staff (Ok None) = (options.report ≡ false) × PutsAll script
+      × IsScriptRendered (files.world f) script (cache_of options.cache) staff journal
+  RenderDoes script options staff (Ok (Some plan)) = (options.report ≡ true) × PutsAll script
+      × IsRunOf (files.world f) script (cache_of options.cache) staff journal plan
+  RenderDoes script options staff (Err stop) = RenderShows (FilesFailed files f g) sink (files.world f) script out new stop
 
-  abbrev pub Does : Command → Result (Option (List Application)) Stop → Type 0
-  Does (Render script options) done = RenderDoes script options done
-      × ScriptCuts (files.world f) script (cache_of options.cache) sink out new (TellsStop (stop_in done)) journal
-      × HeadShows sink out new (HasInfo (files.world f) script) (stop_in done) journal
-  Does (Info script) (Ok None) =
+  abbrev pub Does : (RenderOptions → Staff) → Command → Result (Option (List Application)) Stop → Type 0
+  Does staff (Render script options) done = RenderDoes script options (staff options) done
+      × ScriptCuts (files.world f) script (cache_of options.cache) (staff options) sink out new
+      (TellsStop (stop_in done)) journal × HeadShows sink out new (HasInfo (files.world f) script) (stop_in done) journal
+  Does staff (Info script) (Ok None) =
       InWorld (files.world f) (λ world. PutsInfo sink world script out new) × ScriptHasClip (files.world f) script
-  Does (Info script) (Ok (Some plan)) = ⊥
-  Does (Info script) (Err stop) = InfoShows (FilesFailed files f g) sink (files.world f) script out new stop
-  Does (SelfTest number) (Ok None) = PutsSelfLine sink out new number × (g ≡ f)
-  Does (SelfTest number) (Ok (Some plan)) = ⊥
-  Does (SelfTest number) (Err stop) = SelfTestShows sink out new number stop × (g ≡ f)
+  Does staff (Info script) (Ok (Some plan)) = ⊥
+  Does staff (Info script) (Err stop) = InfoShows (FilesFailed files f g) sink (files.world f) script out new stop
+  Does staff (SelfTest number) (Ok None) = PutsSelfLine sink out new number × (g ≡ f)
+  Does staff (SelfTest number) (Ok (Some plan)) = ⊥
+  Does staff (SelfTest number) (Err stop) = SelfTestShows sink out new number stop × (g ≡ f)
 
 -- a journal is left only by a render
 abbrev pub LeavesNone : Command → Option Record → Type 0

@@ -1,18 +1,18 @@
-//! The program as a function over files and sinks: `run_plain` does what the words ask for.
+//! The program as a function over files and sinks: `run` does what the words ask for, and `run_plain` does it by one worker
+//! alone.
 //!
-//! Its contract says what each status means: what was written, and why. For a render that is the headline.
+//! Their contract says what each status means: what was written, and why. For a render that is the headline.
 #![tactic(auto)]
 
 mod closing;
+mod entry;
 mod info;
 pub mod laws;
 mod play;
 mod render;
-mod run;
-mod shared;
-mod stream;
 mod test_run;
 
-pub use run::{Ending, run_plain};
+pub use entry::{Ending, run, run_plain};
 pub use self_test::workload;
 pub use serve_events::{Event, Record, Windowed};
+pub use serve_stream::{Gate, GatePoint, OpenGate};

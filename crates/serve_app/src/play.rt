@@ -1,43 +1,25 @@
-// A script, evaluated over a host, and its clip, put.
+// A script, evaluated over a host, and what is known of its clip.
 ghost use Rattle.std.specs.Prelude.{◌≡◌, ◌+◌, ◌≤◌, ◌<◌, [], length, None, IsTrue, IfOk, IfErr, OnOk, OnErr};
 ghost use Rattle.fv_io.specs.Sink.{IsLater};
 ghost use Rattle.fv_io.specs.Faults.{HasRisen};
 ghost use Rattle.fv_io.specs.World.{InWorld};
-ghost use Rattle.clip_frames.specs.Sources.{AreSources};
-ghost use Rattle.clip_graph.specs.Plan.{application_at};
-ghost use Rattle.serve_worker.specs.Alone.{AllFree};
-ghost use Rattle.serve_worker.specs.Furnishing.{sources_in};
-ghost use Rattle.serve_worker.specs.Instances.{faults_of};
-ghost use Rattle.prefetch.specs.Windows.{frames_at};
 ghost use Rattle.avs_meaning.specs.Crews.{window, workers};
 ghost use Rattle.avs_meaning.specs.Meaning.{meaning};
 ghost use Rattle.serve_text.specs.InfoText as t;
 ghost use Rattle.avs_eval.specs.OutsideBy.{outside_by};
 ghost use Rattle.avs_eval.specs.Evaluates.{Opens};
 ghost use Rattle.avs_files.specs.Opened.{told_of};
-ghost use Rattle.serve_app.specs.Clips.{book_told, IsClipOf, PutsFrames, StreamShows};
 ghost use Rattle.serve_app.specs.Info.{InfoShows};
-ghost use Rattle.serve_app.specs.Journals.{IsSerial, CutsShort};
-ghost use Rattle.serve_app.specs.Playing.{Tells, EndsBefore, PutsInfo, with_graph};
+ghost use Rattle.serve_app.specs.Playing.{Tells, EndsBefore, PutsInfo};
 ghost use Rattle.serve_app.specs.Stop.{ScriptHasClip};
-ghost use Rattle.serve_app.specs.Streams.{stop_in, TellsStop, HeadShows};
 
-use crate::shared::Shared;
-use crate::stream::put_clip;
 use avs_eval::{Opened, eval};
 use avs_files::{FileHost, HeldFiles, Known};
 use avs_meaning::{Crew, ScriptKind};
 use avs_state::{Host, HostFault};
-use frame_cache::FrameCache;
-use fv_io::{Failed, Sink, Source, Text};
-use inst_table::InstTable;
-use seq_source::SeqSource;
-use serve_core::Core;
-use serve_events::Record;
+use fv_io::{Failed, Sink, Text};
 use serve_text::{Stop, info_text};
-use serve_worker::{Instance, furnish};
 use std::alloc::{AllocError, Global};
-use std::sync::Arc;
 
 /// The script of this name, evaluated over a host that has opened nothing.
 pub(crate) fn evaluate<H: Host>(alloc: Global, host: &mut H, script: &Text) -> Result<Opened, Stop>
@@ -67,78 +49,6 @@ pub(crate) fn evaluate<H: Host>(alloc: Global, host: &mut H, script: &Text) -> R
     };
     let opened = eval(alloc, host, script, &text)?;
     Ok(opened)
-}
-
-/// A clip whose frames were all put: how many there are, and its graph, which the core shared.
-#[derive(Drop)]
-pub(crate) struct Whole {
-    pub(crate) frames: u32,
-    pub(crate) graph: Shared,
-}
-
-// The same answer, with the graph where all frames were put.
-fn with_graph(put: Result<u32, Stop>, graph: Shared) -> Result<Whole, Stop>
-    ensures { result ≡ with_graph put graph }
-{
-    match put {
-        Ok(frames) => Ok(Whole { frames, graph }),
-        Err(stop) => Err(stop),
-    }
-}
-
-/// The stream of the clip that a script opened, put from a core over its sources, and the instances after it. The sources
-/// that no instance keeps are left.
-pub(crate) fn put_opened<S: Source, K: Sink>(
-    alloc: Global,
-    opened: Opened,
-    sources: &mut Vec<SeqSource<S>>,
-    cache: u32,
-    out: &mut K,
-    journal: &mut Option<Record>,
-) -> (InstTable<Instance<S>>, Result<Whole, Stop>)
-    requires root { opened.root < length opened.graph }
-    requires sources { AreSources opened.graph sources.old.items }
-    requires cache { 0 < cache }
-    requires none { journal.old ≡ None }
-    ensures put { IfOk result.1 (λ all. PutsFrames K.Sink opened.graph opened.root
-        (book_told S.Source sources.old.items) out.old out.new all.frames) }
-    ensures frames { IfOk result.1 (λ all. all.frames ≡ frames_at opened.graph opened.root) }
-    ensures graph { IfOk result.1 (λ all. all.graph ≡ opened.graph) }
-    ensures stop { IfErr result.1 (StreamShows K.Sink opened.graph opened.root (book_told S.Source sources.old.items)
-        out.old out.new (faults_of S.Source) result.0) }
-    ensures serial { OnOk result.1 (IsSerial opened.graph opened.root cache journal.new) }
-    ensures cut { CutsShort opened.graph opened.root cache K.Sink out.old out.new
-        (IsClipOf opened.graph opened.root (book_told S.Source sources.old.items))
-        (TellsStop (stop_in result.1) opened.graph) journal.new }
-    ensures head { HeadShows K.Sink out.old out.new (λ info. info ≡ (application_at opened.graph opened.root).info)
-        (stop_in result.1) journal.new }
-    ensures free { AllFree result.0 }
-    ensures all { length sources.old.items ≡ length sources.new.items + length (sources_in result.0) }
-    ensures later { IsLater K.Sink out.old out.new }
-{
-    let Opened {
-        graph,
-        root,
-        prefetch: _,
-    } = opened;
-    graph.len();
-    let mut table = InstTable::new(alloc);
-    let Ok(_) = furnish(alloc, &mut table, &graph, sources, 1) else {
-        return (table, Err(Stop::Memory));
-    };
-    let Ok(frames) = FrameCache::new(alloc, cache) else {
-        return (table, Err(Stop::Memory));
-    };
-    let Ok(graph) = Arc::new(alloc, graph) else {
-        return (table, Err(Stop::Memory));
-    };
-    let Ok(kept) = Arc::try_clone(&graph) else {
-        return (table, Err(Stop::Memory));
-    };
-    let mut core = Core::new(alloc, graph, root, frames, 1, table);
-    let put = put_clip(alloc, &mut core, out, journal);
-    let whole = with_graph(put, Shared::from(kept));
-    (core.into_table(), whole)
 }
 
 // The workers that a script asks for, and the frames of a window.

@@ -3,7 +3,7 @@ ghost use Rattle.std.specs.Prelude.{IfOk, OnOk, IfErr, string_bytes};
 ghost use Rattle.fv_io.specs.Sink.{IsLater};
 ghost use Rattle.serve_app.specs.SelfTest.{IsSelfLine, PutsSelfLine, SelfTestShows};
 
-use crate::render::render;
+use crate::render::render_alone;
 use fv_io::{Failed, Sink, Text};
 use self_test::{DigestSink, workload};
 use serve_text::Stop;
@@ -20,7 +20,7 @@ fn line_of(alloc: Global, number: u32) -> Result<String, AllocError>
     let script = Text::from_str(alloc, "self.avs")?;
     let mut sink = DigestSink::new();
     let mut journal = None;
-    match render(alloc, &mut files, &mut sink, &script, CACHE, &mut journal) {
+    match render_alone(alloc, &mut files, &mut sink, &script, CACHE, &mut journal) {
         Ok(all) => sink.line(alloc, all.frames),
         Err(_) => Err(AllocError),
     }

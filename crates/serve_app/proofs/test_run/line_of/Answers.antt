@@ -7,5 +7,5 @@ use Rattle.serve_app.proofs.test_run.line_of.Goals as goal
 
 pub returns-in-Ok : goal.returns-in-Ok
 returns-in-Ok c =
-    let puts = rw c.in_ok-script.ensures at c.in-Ok.ensures.whole (self_world c.args.number) c.in_ok-files.ensures.world in
+    let puts = let is = rw c.in_ok-script.ensures at c.in-Ok.ensures.render in is.whole (self_world c.args.number) c.in_ok-files.ensures.world in
     IfOk-weaker c.line.result _ _ (λ line is. self_line _ _ _ _ _ c.in-Ok.all.frames _ (string_bytes line) puts (ap (λ s. Some s.bytes) c.new-sink.ensures) refl is) c.line.ensures

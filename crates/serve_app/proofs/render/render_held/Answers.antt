@@ -1,6 +1,0 @@
--- What is known of the files is what they tell.
-use Rattle.serve_app.proofs.PickLemmas.{picked}
-use Rattle.serve_app.proofs.render.render_held.Goals as goal
-
-pub returns-clause-stop : goal.returns-clause-stop
-returns-clause-stop g c = rw (picked (g.H.HeldFiles.world c.args.files)) c.render_in.ensures.stop

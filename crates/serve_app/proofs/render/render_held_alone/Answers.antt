@@ -1,0 +1,6 @@
+-- What is known of the files is what they tell.
+use Rattle.serve_app.proofs.PickLemmas.{picked}
+use Rattle.serve_app.proofs.render.render_held_alone.Goals as goal
+
+pub returns-clause-render : goal.returns-clause-render
+returns-clause-render g c = rw (picked (g.H.HeldFiles.world c.args.files)) c.render_in_alone.ensures.render

@@ -1,0 +1,20 @@
+-- What is put is the clip that the script means.
+use Rattle.serve_worker.specs.Instances.{faults_of}
+use Rattle.serve_stream.specs.declared.staff.Staff.TheVariants.{One}
+use Rattle.serve_app.proofs.PlayLemmas.{fit, script_render, count_rose}
+use Rattle.serve_app.proofs.render.render_in_alone.Goals as goal
+
+pub put_graph_alone-table-requires-clause-sources : goal.put_graph_alone-table-requires-clause-sources
+put_graph_alone-table-requires-clause-sources g c =
+    let was = c.evaluate.new.host in
+    fit g.H.Src.Source g.W.Known.told g.W.Known.world c.in-Ok.opened.graph was.listed.items was.sources.items c.in-Ok.ensures.opened.sources was.opened
+
+pub returns-clause-render : goal.returns-clause-render
+returns-clause-render g c =
+    let was = c.evaluate.new.host in
+    let first = rw c.new-host.ensures.files at c.evaluate.ensures.later in
+    let streamed = rw c.hands-hands.ensures.hands at c.put_graph_alone-table.ensures.streamed in
+    script_render g.H.Src.Source g.W.Known.told g.W.Known.world c.args.script.now c.in-Ok.opened.graph c.in-Ok.opened.root c.in-Ok.opened.prefetch was.listed.items was.sources.items
+    c.in-Ok.ensures.opened.sources was.opened c.in-Ok.ensures.told g.K.Sink c.args.out.now c.put_graph_alone-table.new.out (faults_of g.H.Src.Source) c.put_graph_alone-table.result.0 _
+    (count_rose (faults_of g.H.Src.Source) c.put_graph_alone-table.result.0 _ _ _ _ first c.close_table.ensures.faults c.close_all.ensures.later)
+    c.args.cache One c.put_graph_alone-table.new.journal c.put_graph_alone-table.result.1 c.in-Ok.ensures.opened.plan streamed

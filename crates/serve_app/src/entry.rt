@@ -1,0 +1,214 @@
+// The top call.
+ghost use Rattle.std.specs.Prelude.{◌≡◌, None};
+ghost use Rattle.fv_io.specs.Files.{KeepsFiles};
+ghost use Rattle.fv_io.specs.Sink.{IsLater};
+ghost use Rattle.serve_app.specs.Headline.{Ends};
+ghost use Rattle.serve_app.specs.Run.{plain_staff, staff_by, graph_in, IsFit, HasLog, Does, LeavesNone, Finishes};
+
+use crate::info::put_info;
+use crate::render::{render_alone, render_together};
+use crate::test_run::put_self_test;
+use command_line::{Command, RenderOptions, command_of};
+use fv_io::{Files, Sink, Text};
+use serve_events::Record;
+use serve_stream::{Gate, Shared, Staff, Whole};
+use serve_text::{Stop, put_report_of, say_stop, say_usage};
+use std::alloc::{AllocError, Global};
+use std::sync::Wait;
+use std::thread::Threads;
+
+// How many frames the cache holds where the words don't say it.
+const CACHE: u32 = 64;
+
+/// How a run ended.
+#[derive(Drop)]
+pub struct Ending {
+    /// The program's exit status, 0 to 6.
+    pub status: u8,
+    /// The events of a render, window by window. There is none where its head was not put whole, and where the words
+    /// ask for something else.
+    pub journal: Option<Record>,
+}
+
+// The workers that the words of a render ask for.
+fn staff_of(options: RenderOptions) -> Staff
+    ensures { result ≡ staff_by options }
+{
+    if options.plain {
+        Staff::One
+    } else {
+        Staff::Asked {
+            threads: options.threads,
+        }
+    }
+}
+
+// The graph of a render, where its report is asked for.
+fn graph_of(done: Result<Whole, Stop>, report: bool) -> Result<Option<Shared>, Stop>
+    ensures { result ≡ graph_in report done }
+{
+    let Whole { frames: _, graph } = done?;
+    if report { Ok(Some(graph)) } else { Ok(None) }
+}
+
+// Does what a command asks for, by one worker. It answers the graph of a render whose report is asked for.
+fn run_command_alone<F: Files, K: Sink>(
+    alloc: Global,
+    command: Command,
+    files: &mut F,
+    out: &mut K,
+    journal: &mut Option<Record>,
+) -> Result<Option<Shared>, Stop>
+    requires fits { IsFit command }
+    requires none { journal.old ≡ None }
+    ensures does { Does F.Files K.Sink files.old files.new out.old out.new journal.new plain_staff command result }
+    ensures leaves { LeavesNone command journal.new }
+    ensures keeps { KeepsFiles F.Files files.old files.new }
+    ensures later { IsLater K.Sink out.old out.new }
+{
+    match command {
+        Command::Render { script, options } => {
+            let cache = options.cache.unwrap_or(CACHE);
+            let done = render_alone(alloc, files, out, &script, cache, journal);
+            graph_of(done, options.report)
+        }
+        Command::Info { script } => match put_info(alloc, files, out, &script) {
+            Ok(()) => Ok(None),
+            Err(stop) => Err(stop),
+        },
+        Command::SelfTest { number } => match put_self_test(alloc, out, number) {
+            Ok(()) => Ok(None),
+            Err(stop) => Err(stop),
+        },
+    }
+}
+
+// Does what a command asks for, by as many workers as are asked for.
+fn run_command_together<R: Threads + Wait + Sync, G: Gate, F: Files, K: Sink>(
+    rt: &R,
+    gate: &G,
+    alloc: Global,
+    command: Command,
+    files: &mut F,
+    out: &mut K,
+    journal: &mut Option<Record>,
+) -> Result<Option<Shared>, Stop>
+    requires fits { IsFit command }
+    requires none { journal.old ≡ None }
+    ensures does { Does F.Files K.Sink files.old files.new out.old out.new journal.new staff_by command result }
+    ensures leaves { LeavesNone command journal.new }
+    ensures keeps { KeepsFiles F.Files files.old files.new }
+    ensures later { IsLater K.Sink out.old out.new }
+{
+    match command {
+        Command::Render { script, options } => {
+            let cache = options.cache.unwrap_or(CACHE);
+            let done = render_together(
+                rt,
+                gate,
+                alloc,
+                files,
+                out,
+                &script,
+                cache,
+                staff_of(options),
+                journal,
+            );
+            graph_of(done, options.report)
+        }
+        Command::Info { script } => match put_info(alloc, files, out, &script) {
+            Ok(()) => Ok(None),
+            Err(stop) => Err(stop),
+        },
+        Command::SelfTest { number } => match put_self_test(alloc, out, number) {
+            Ok(()) => Ok(None),
+            Err(stop) => Err(stop),
+        },
+    }
+}
+
+// Puts the report that is asked for, or says why a command stopped, where it did, and answers the status.
+fn finish<E: Sink>(err: &mut E, done: Result<Option<Shared>, Stop>, journal: &Option<Record>) -> u8
+    requires { HasLog done journal.now }
+    ensures { Finishes E.Sink err.old err.new done journal.now result }
+{
+    match done {
+        Ok(None) => 0,
+        Ok(Some(shared)) => match journal {
+            Some(journal) => put_report_of(err, shared.graph(), journal),
+            None => unreachable!(),
+        },
+        Err(stop) => {
+            say_stop(err, &stop);
+            stop.status()
+        }
+    }
+}
+
+/// Does what the words after the program's name ask for: the render of a script's clip, what is known of that clip, or the
+/// self test. Where they break the rules on words the status is 1.
+///
+/// A render has as many workers as the words or the script ask for, each in a thread of its own; one worker is the
+/// caller's thread. The workers pass the gate, which may hold them for a test.
+///
+/// The status is 0 where the whole text was written; 1 where the words break the rules; 2 for a fault of the script; 3 for
+/// a fault of an input; 4 where a read failed; 5 where a write failed; 6 where it is out of memory. Each status but 0 puts
+/// one line on `err`. A fault of `err` changes no status, but for that of a render whose report can't be put: that is 5.
+pub fn run<R: Threads + Wait + Sync, F: Files, K: Sink, E: Sink, G: Gate>(
+    rt: &R,
+    alloc: Global,
+    words: &[Text],
+    files: &mut F,
+    out: &mut K,
+    err: &mut E,
+    gate: &G,
+) -> Ending
+    ensures { Ends F.Files K.Sink E.Sink files.old files.new out.old out.new err.old err.new
+        staff_by words.now result.status result.journal }
+{
+    let mut journal = None;
+    match command_of(alloc, words) {
+        Ok(Some(command)) => {
+            let done = run_command_together(rt, gate, alloc, command, files, out, &mut journal);
+            let status = finish(err, done, &journal);
+            Ending { status, journal }
+        }
+        Ok(None) => {
+            say_usage(err);
+            Ending { status: 1, journal }
+        }
+        Err(AllocError) => {
+            let status = finish(err, Err(Stop::Memory), &journal);
+            Ending { status, journal }
+        }
+    }
+}
+
+/// The same by one worker alone, whatever the words and the script ask for, in windows of one frame. It waits for nobody.
+pub fn run_plain<F: Files, K: Sink, E: Sink>(
+    alloc: Global,
+    words: &[Text],
+    files: &mut F,
+    out: &mut K,
+    err: &mut E,
+) -> Ending
+    ensures { Ends F.Files K.Sink E.Sink files.old files.new out.old out.new err.old err.new
+        plain_staff words.now result.status result.journal }
+{
+    let mut journal = None;
+    match command_of(alloc, words) {
+        Ok(Some(command)) => {
+            let done = run_command_alone(alloc, command, files, out, &mut journal);
+            let status = finish(err, done, &journal);
+            Ending { status, journal }
+        }
+        Ok(None) => {
+            say_usage(err);
+            Ending { status: 1, journal }
+        }
+        Err(AllocError) => {
+            let status = finish(err, Err(Stop::Memory), &journal);
+            Ending { status, journal }
+        }
+    }
+}

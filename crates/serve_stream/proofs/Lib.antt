@@ -1,0 +1,3 @@
+pub mod RenderLemmas
+pub mod StreamLemmas
+pub mod CoreLemmas

@@ -1,0 +1,9 @@
+pub mod Staff
+pub mod ByWorkers
+pub mod Rendered
+pub mod Clips
+pub mod Streams
+pub mod Journals
+pub mod Renders
+pub mod Cores
+pub mod Streamed

@@ -1,0 +1,77 @@
+// Scripts and a clip in memory, and runs over them by several workers.
+use fv_io::{Files, MemFiles, MemSink, Text, Trip};
+use serve_app::{Gate, run, run_plain};
+use std::alloc::{AllocError, Global};
+use std::sync::Wait;
+use std::thread::Threads;
+
+// Four frames of one sample. The head ends at 36, and the frames at 43, 50, 57 and 64.
+pub const CLIP: &[u8] =
+    b"YUV4MPEG2 W1 H1 F25:1 Ip A1:1 Cmono\nFRAME\n\x00FRAME\n\x01FRAME\n\x02FRAME\n\x03";
+
+// A clip and its reverse, frame by frame.
+pub const BOTH: &[u8] =
+    b"a = Y4MSource(\"m4.y4m\")\nb = Y4MSource(\"m4.y4m\").Reverse\nInterleave(a, b).Prefetch(4)";
+
+// The script as `s.avs` and the clip as `m4.y4m`, whose reads and rewinds fail at these places.
+pub fn files_of(alloc: Global, script: &[u8], trips: &[Trip]) -> Result<MemFiles, AllocError> {
+    let mut files = MemFiles::new(alloc);
+    for (name, bytes, trips) in [("s.avs", script, &[]), ("m4.y4m", CLIP, trips)] as [(
+        &str,
+        &[u8],
+        &[Trip],
+    ); 2]
+    {
+        let name = Text::from_str(alloc, name)?;
+        files.add(name, bytes.to_vec(alloc)?, 5, trips.to_vec(alloc)?)?;
+    }
+    Ok(files)
+}
+
+// What a run leaves: its status, and what is on both outputs.
+#[derive(Drop)]
+pub struct Left {
+    pub status: u8,
+    pub out: MemSink,
+    pub err: MemSink,
+}
+
+fn words_of(alloc: Global, words: &[&str]) -> Result<Vec<Text>, AllocError> {
+    let mut texts = Vec::new(alloc);
+    for word in words {
+        texts.push(Text::from_str(alloc, word)?)?;
+    }
+    Ok(texts)
+}
+
+// A run by as many workers as the words and the script ask for.
+pub fn run_together<R: Threads + Wait + Sync, F: Files, G: Gate>(
+    rt: &R,
+    alloc: Global,
+    words: &[&str],
+    files: &mut F,
+    room: usize,
+    gate: &G,
+) -> Result<Left, AllocError> {
+    let texts = words_of(alloc, words)?;
+    let mut out = MemSink::new(alloc, room)?;
+    let mut err = MemSink::new(alloc, 999)?;
+    let ending = run(rt, alloc, &texts, files, &mut out, &mut err, gate);
+    let status = ending.status;
+    Ok(Left { status, out, err })
+}
+
+// A run by one worker.
+pub fn run_one<F: Files>(
+    alloc: Global,
+    words: &[&str],
+    files: &mut F,
+    room: usize,
+) -> Result<Left, AllocError> {
+    let texts = words_of(alloc, words)?;
+    let mut out = MemSink::new(alloc, room)?;
+    let mut err = MemSink::new(alloc, 999)?;
+    let ending = run_plain(alloc, &texts, files, &mut out, &mut err);
+    let status = ending.status;
+    Ok(Left { status, out, err })
+}
