@@ -8,8 +8,8 @@ use Rattle.fv_io.specs.Told.{Reads}
 abbrev pub put_from : ℕ → ℕ → List ℕ → List ℕ → List ℕ
 put_from at size buf piece = take at buf ++ (piece ++ drop size (drop at buf))
 
-module _ (told buf piece : List ℕ) (start mid now have count : ℕ) (fits : have ≤ length buf) (size : length piece ≡ length buf - have) (given : take have buf ≡ take have (drop start told)) (here : mid ≡ start + have) (few : count ≤ length piece)
-    (read : Reads told mid now count piece) where
+module _ (told buf piece : List ℕ) (start mid have count : ℕ) (fits : have ≤ length buf) (size : length piece ≡ length buf - have) (given : take have buf ≡ take have (drop start told)) (here : mid ≡ start + have) (few : count ≤ length piece)
+    (read : Reads told mid count piece) where
   pub more_given : take (have + count) (put_from have (length buf - have) buf piece) ≡ take (have + count) (drop start told)
   more_given =
       take-add have count (put_from have (length buf - have) buf piece)

@@ -1,11 +1,11 @@
 -- Files in memory.
-use Rattle.std.specs.Prelude.{◌≡◌, ℕ, ◌+◌, ◌-◌, ◌^◌, ◌==◌, List, ◌∷◌, map, find, min, Option, Some, None, Bool, false, ◌||◌, is_none, if◌then◌else◌}
+use Rattle.std.specs.Prelude.{◌≡◌, ℕ, ◌+◌, ◌-◌, ◌^◌, ◌==◌, List, ◌∷◌, map, find, Option, Some, None, Bool, false, ◌||◌, is_none, if◌then◌else◌}
 use Rattle.std.specs.List.{list_any, list_all}
 use Rattle.std.specs.Option.{option_map}
 use Rattle.std.specs.FinMap.{from_entries}
 use Rattle.std.specs.Str.{bytes_eq}
 use Rattle.fv_io.specs.declared.memory.trip.Trip.{Trip}
-use Rattle.fv_io.specs.Faults.{risen}
+use Rattle.fv_io.specs.Faults.{risen, with_faults}
 use Rattle.fv_io.specs.SourceState.{SourceState, at_start}
 use Rattle.fv_io.specs.World.{World}
 
@@ -24,7 +24,8 @@ pub record FilesState : Type 0 where
   pub stops : List ℕ
   -- how many fetches there were
   pub calls : ℕ
-  -- how many sources were fetched and not closed
+  -- how many sources were fetched, and how many of them were not closed
+  pub sources : ℕ
   pub given : ℕ
   pub faults : ℕ
 
@@ -69,11 +70,11 @@ called state = record state { calls = state.calls + 1 }
 
 -- a source was fetched
 abbrev pub fetched : FilesState → FilesState
-fetched state = record state { calls = state.calls + 1; given = state.given + 1 }
+fetched state = record state { calls = state.calls + 1; sources = state.sources + 1; given = state.given + 1 }
 
 -- a source with this number of faults is closed
 abbrev pub closed : FilesState → ℕ → FilesState
-closed state faults = record state { given = state.given - 1; faults = min (state.faults + faults) (2 ^ 64 - 1) }
+closed state faults = record state { given = state.given - 1; faults = with_faults state.faults faults }
 
 -- the file of this name is fetched from the old state as this source
 pub record Fetches (old new : FilesState) (name : List ℕ) (source : SourceState) : Type 0 where

@@ -1,7 +1,7 @@
 // Files by name.
-ghost use Rattle.std.specs.Prelude.{◌≡◌, ◌≤◌, ◌+◌, ◌-◌, ◌^◌, min, ℕ, Option, None, IfOk, OnOk, OnErr, IsErrOf};
+ghost use Rattle.std.specs.Prelude.{◌≡◌, ◌≤◌, ◌+◌, ◌-◌, ℕ, Option, None, IfOk, OnOk, OnErr, IsErrOf};
 ghost use Rattle.std.specs.FinMap.{get};
-ghost use Rattle.fv_io.specs.Faults.{HasRisen};
+ghost use Rattle.fv_io.specs.Faults.{with_faults, HasRisen};
 ghost use Rattle.fv_io.specs.World.{World, InWorld};
 
 use crate::{Source, Text};
@@ -27,6 +27,9 @@ pub trait Files {
     /// How often they failed, with the faults of the sources that were closed.
     ghost faults: { Self → ℕ };
 
+    /// How many sources were ever fetched.
+    ghost fetched: { Self → ℕ };
+
     /// How many sources were fetched and not closed yet.
     ghost given: { Self → ℕ };
 
@@ -35,6 +38,8 @@ pub trait Files {
     fn fetch(&mut self, name: &Text) -> Result<Self::Src, FetchFault>
         ensures given { OnOk result (given self.new ≡ given self.old + 1) }
         ensures not_given { OnErr result (given self.new ≡ given self.old) }
+        ensures fetched { OnOk result (fetched self.new ≡ fetched self.old + 1) }
+        ensures not_fetched { OnErr result (fetched self.new ≡ fetched self.old) }
         ensures start { IfOk result (λ source. Self.Src.place source ≡ 0) }
         ensures fresh { IfOk result (λ source. Self.Src.faults source ≡ 0) }
         ensures told { IfOk result (λ source. InWorld (world self.old) (λ told.
@@ -44,12 +49,13 @@ pub trait Files {
             InWorld (world self.old) (λ told. get told name.now ≡ None) }
         ensures failed { IsErrOf result FetchFault.Failed → HasRisen (faults self.old) (faults self.new) }
         ensures later { faults self.old ≤ faults self.new }
+        ensures steady { (IsErrOf result FetchFault.Failed → ⊥) → faults self.new ≡ faults self.old }
         ensures world { world self.new ≡ world self.old };
 
     /// Closes a source. Its faults count among those of the files from then on.
     fn close(&mut self, source: Self::Src)
         ensures given { given self.new ≡ given self.old - 1 }
-        ensures faults { min (faults self.old + Self.Src.faults source) (2 ^ 64 - 1) ≤ faults self.new }
-        ensures later { faults self.old ≤ faults self.new }
+        ensures fetched { fetched self.new ≡ fetched self.old }
+        ensures faults { faults self.new ≡ with_faults (faults self.old) (Self.Src.faults source) }
         ensures world { world self.new ≡ world self.old };
 }

@@ -31,10 +31,12 @@ pub trait Source {
     fn read(&mut self, buf: &mut [u8]) -> Result<usize, Failed>
         ensures bound { IfOk result (λ count. count ≤ length buf.new) }
         ensures told { IfOk result (λ count. ForSome (bytes self.old) (λ told.
-            Reads told (place self.old) (place self.new) count buf.new)) }
+            Reads told (place self.old) count buf.new)) }
+        ensures moved { IfOk result (λ count. place self.new ≡ place self.old + count) }
         ensures bytes { bytes self.new ≡ bytes self.old }
         ensures rewinds { rewinds self.new ≡ rewinds self.old }
         ensures later { faults self.old ≤ faults self.new }
+        ensures steady { OnOk result (faults self.new ≡ faults self.old) }
         ensures failed { OnErr result (HasRisen (faults self.old) (faults self.new)) };
 
     /// Goes back to the first byte.
@@ -44,6 +46,7 @@ pub trait Source {
         ensures not_counted { OnErr result (rewinds self.new ≡ rewinds self.old) }
         ensures bytes { bytes self.new ≡ bytes self.old }
         ensures later { faults self.old ≤ faults self.new }
+        ensures steady { OnOk result (faults self.new ≡ faults self.old) }
         ensures failed { OnErr result (HasRisen (faults self.old) (faults self.new)) };
 
     /// Goes past the next `size` bytes, and answers how many there were: fewer than `size` only at the end. Where a
@@ -51,10 +54,12 @@ pub trait Source {
     fn skip(&mut self, size: u64) -> Result<u64, Failed>
         ensures bound { IfOk result (λ count. count ≤ size) }
         ensures told { IfOk result (λ count. ForSome (bytes self.old) (λ told.
-            Skips told (place self.old) (place self.new) size count)) }
+            Skips told (place self.old) size count)) }
+        ensures moved { IfOk result (λ count. place self.new ≡ place self.old + count) }
         ensures bytes { bytes self.new ≡ bytes self.old }
         ensures rewinds { rewinds self.new ≡ rewinds self.old }
         ensures later { faults self.old ≤ faults self.new }
+        ensures steady { OnOk result (faults self.new ≡ faults self.old) }
         ensures failed { OnErr result (HasRisen (faults self.old) (faults self.new)) }
     {
         let mut scratch = [0; SKIP_PIECE];

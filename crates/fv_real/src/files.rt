@@ -1,5 +1,5 @@
 // The files of the system.
-ghost use Rattle.std.specs.Prelude.{None, ◌≡◌};
+ghost use Rattle.std.specs.Prelude.{None, ◌≡◌, ◌≤◌};
 
 use crate::RealSource;
 use fv_io::{FetchFault, Text};
@@ -12,18 +12,22 @@ use std::rt::Files;
 pub struct RealFiles<'a, R: Files> {
     rt: &'a R,
     faults: u64,
+    fetched: u64,
     given: u64,
+    ghost inside: { given ≤ fetched },
 }
 
 impl<'a, R: Files> RealFiles<'a, R> {
     /// The files as they are now. It opens nothing.
     pub fn new(rt: &'a R) -> RealFiles<'a, R>
         ensures faults { result.faults ≡ 0 }
+        ensures fetched { result.fetched ≡ 0 }
         ensures given { result.given ≡ 0 }
     {
         RealFiles {
             rt,
             faults: 0,
+            fetched: 0,
             given: 0,
         }
     }
@@ -36,15 +40,18 @@ impl<'a, R: Files<File = File>> fv_io::Files for RealFiles<'a, R> {
 
     ghost faults = { λ f. f.faults };
 
+    ghost fetched = { λ f. f.fetched };
+
     ghost given = { λ f. f.given };
 
     fn fetch(&mut self, name: &Text) -> Result<RealSource<File>, FetchFault> {
-        if self.given == u64::MAX {
+        if self.fetched == u64::MAX {
             self.faults = self.faults.saturating_add(1);
             return Err(FetchFault::Failed);
         }
         match fs::open(self.rt, name.as_str()) {
             Ok(file) => {
+                self.fetched += 1;
                 self.given += 1;
                 Ok(RealSource::new(file))
             }

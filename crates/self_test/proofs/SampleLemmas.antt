@@ -48,7 +48,7 @@ abbrev pub file : List ℕ → List ℕ → ℕ → List Trip → Entry
 file name bytes piece trips = record { name = name; first = bytes; later = None; piece = piece; trips = trips }
 
 abbrev pub no_files : FilesState
-no_files = record { entries = []; stops = []; calls = 0; given = 0; faults = 0 }
+no_files = record { entries = []; stops = []; calls = 0; sources = 0; given = 0; faults = 0 }
 
 pub tells : (number : ℕ) (stream_name stream script_name text : List ℕ) (piece other : ℕ) (trips more : List Trip) → stream_name ≡ codes "in.y4m" → stream ≡ stream_from number
     → script_name ≡ codes "self.avs" → text ≡ script

@@ -1,8 +1,8 @@
 // Files in memory, which fail where they are told to.
-ghost use Rattle.std.specs.Prelude.{◌≡◌, ◌≤◌, ◌<◌, ◌+◌, ◌-◌, ◌^◌, ◌↔◌, [], min, IfOk, OnOk, OnErr, IsErrOf, Some, None, true, false, option_copied};
+ghost use Rattle.std.specs.Prelude.{◌≡◌, ◌≤◌, ◌<◌, ◌+◌, ◌-◌, ◌↔◌, [], IfOk, OnOk, OnErr, IsErrOf, Some, None, true, false, option_copied};
 ghost use Rattle.std.specs.FinMap.{get};
 ghost use Rattle.std.specs.Option.{option_map};
-ghost use Rattle.fv_io.specs.Faults.{HasRisen};
+ghost use Rattle.fv_io.specs.Faults.{with_faults, HasRisen};
 ghost use Rattle.fv_io.specs.World.{InWorld};
 ghost use Rattle.fv_io.specs.SourceState.{told_bytes};
 ghost use Rattle.fv_io.specs.FilesState.{entry_among, entry_of, told_world, with_entry, with_stop, fetch_fails, failed, called, closed, Fetches};
@@ -22,6 +22,7 @@ pub struct MemFiles {
     files: Vec<MemFile>,
     stops: Vec<u64>,
     calls: u64,
+    sources: u64,
     given: u64,
     faults: u64,
 }
@@ -36,11 +37,12 @@ impl Model for MemFiles {
       entries = f.files.items;
       stops = f.stops.items;
       calls = f.calls;
+      sources = f.sources;
       given = f.given;
       faults = f.faults;
     } };
 
-    ghost invariant = { λ f. f.given ≤ f.calls };
+    ghost invariant = { λ f. (f.given ≤ f.sources) × (f.sources ≤ f.calls) };
 }
 
 // The newest file of this name.
@@ -53,13 +55,14 @@ fn find<'a>(files: &'a [MemFile], name: &Text) -> Option<&'a MemFile>
 impl MemFiles {
     /// No files.
     pub fn new(alloc: Global) -> MemFiles
-        ensures { result ≡ record { entries = []; stops = []; calls = 0; given = 0; faults = 0 } }
+        ensures { result ≡ record { entries = []; stops = []; calls = 0; sources = 0; given = 0; faults = 0 } }
     {
         MemFiles {
             alloc,
             files: Vec::new(alloc),
             stops: Vec::new(alloc),
             calls: 0,
+            sources: 0,
             given: 0,
             faults: 0,
         }
@@ -122,11 +125,18 @@ impl MemFiles {
         Ok(())
     }
 
-    /// How many sources were fetched and not closed yet.
-    pub fn given(&self) -> u64
-        ensures { result ≡ self.now.given }
+    /// How many sources were fetched.
+    pub fn fetched(&self) -> u64
+        ensures { result ≡ self.now.sources }
     {
-        self.given
+        self.sources
+    }
+
+    /// How many sources were closed.
+    pub fn closed(&self) -> u64
+        ensures { result ≡ self.now.sources - self.now.given }
+    {
+        self.sources - self.given
     }
 
     /// How often a fetch failed, with the faults of the sources that were closed.
@@ -151,11 +161,15 @@ impl Files for MemFiles {
 
     ghost faults = { λ f. f.faults };
 
+    ghost fetched = { λ f. f.sources };
+
     ghost given = { λ f. f.given };
 
     fn fetch(&mut self, name: &Text) -> Result<MemSource, FetchFault>
         ensures given { OnOk result (self.new.given ≡ self.old.given + 1) }
         ensures not_given { OnErr result (self.new.given ≡ self.old.given) }
+        ensures fetched { OnOk result (self.new.sources ≡ self.old.sources + 1) }
+        ensures not_fetched { OnErr result (self.new.sources ≡ self.old.sources) }
         ensures start { IfOk result (λ source. source.place ≡ 0) }
         ensures fresh { IfOk result (λ source. source.faults ≡ 0) }
         ensures told { IfOk result (λ source. InWorld (told_world self.old) (λ told.
@@ -165,6 +179,7 @@ impl Files for MemFiles {
             InWorld (told_world self.old) (λ told. get told name.now ≡ None) }
         ensures failed { IsErrOf result FetchFault.Failed → HasRisen self.old.faults self.new.faults }
         ensures later { self.old.faults ≤ self.new.faults }
+        ensures steady { (IsErrOf result FetchFault.Failed → ⊥) → self.new.faults ≡ self.old.faults }
         ensures world { told_world self.new ≡ told_world self.old }
 
         // Exactly the calls that are to fail answer `Failed`. Of the others exactly those of a name that wasn't added
@@ -188,6 +203,7 @@ impl Files for MemFiles {
             None => Err(FetchFault::NotThere),
             Some(file) => match file.open(self.alloc) {
                 Ok(source) => {
+                    self.sources += 1;
                     self.given += 1;
                     Ok(source)
                 }
@@ -198,8 +214,8 @@ impl Files for MemFiles {
 
     fn close(&mut self, source: MemSource)
         ensures given { self.new.given ≡ self.old.given - 1 }
-        ensures faults { min (self.old.faults + source.faults) (2 ^ 64 - 1) ≤ self.new.faults }
-        ensures later { self.old.faults ≤ self.new.faults }
+        ensures fetched { self.new.sources ≡ self.old.sources }
+        ensures faults { self.new.faults ≡ with_faults self.old.faults source.faults }
         ensures world { told_world self.new ≡ told_world self.old }
         ensures closed { self.new ≡ closed self.old source.faults }
     {

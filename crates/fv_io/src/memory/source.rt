@@ -163,10 +163,12 @@ impl Source for MemSource {
     fn read(&mut self, buf: &mut [u8]) -> Result<usize, Failed>
         ensures bound { IfOk result (λ count. count ≤ length buf.new) }
         ensures told { IfOk result (λ count. ForSome (told_bytes self.old) (λ told.
-            Reads told self.old.place self.new.place count buf.new)) }
+            Reads told self.old.place count buf.new)) }
+        ensures moved { IfOk result (λ count. self.new.place ≡ self.old.place + count) }
         ensures bytes { told_bytes self.new ≡ told_bytes self.old }
         ensures rewinds { self.new.rewinds ≡ self.old.rewinds }
         ensures later { self.old.faults ≤ self.new.faults }
+        ensures steady { OnOk result (self.new.faults ≡ self.old.faults) }
         ensures failed { OnErr result (HasRisen self.old.faults self.new.faults) }
 
         // A read fails exactly at a trip, and removes it.
@@ -193,6 +195,7 @@ impl Source for MemSource {
         ensures not_counted { OnErr result (self.new.rewinds ≡ self.old.rewinds) }
         ensures bytes { told_bytes self.new ≡ told_bytes self.old }
         ensures later { self.old.faults ≤ self.new.faults }
+        ensures steady { OnOk result (self.new.faults ≡ self.old.faults) }
         ensures failed { OnErr result (HasRisen self.old.faults self.new.faults) }
 
         // A rewind fails exactly at a trip, and removes it.

@@ -1,5 +1,5 @@
 -- Another read keeps what was said of the buffer's front.
-use Rattle.std.proofs.Common.{◌≡◌, ◌+◌, ◌-◌, length, ap, ◌∙◌, rules, arith}
+use Rattle.std.proofs.Common.{◌≡◌, ◌-◌, length, ◌∙◌, rules, arith}
 use Rattle.std.proofs.lemmas.List.{length-append, length-take, length-drop}
 use Rattle.fv_io.proofs.BufferLemmas.{more_given, more_inside, put_from}
 use Rattle.fv_io.proofs.reading.read_full.Goals as goal
@@ -13,13 +13,12 @@ loop-have-preserved g c =
     record {
       fits = omega (arith, same, read.bound, i.fits, room);
       size = same ∙ i.size;
-      given = λ told is. more_given told c.loop-have.buf c.read.new.buf _ _ _ c.loop-have.have c.in_ok-count.count i.fits room (i.given told is) (i.moved told is) read.bound (read.told told (i.keeps.told ∙ is));
-      inside = λ told is. more_inside told c.loop-have.buf c.read.new.buf _ _ _ c.loop-have.have c.in_ok-count.count i.fits room (i.given told is) (i.moved told is) read.bound (read.told told (i.keeps.told ∙ is)) (i.inside told is);
-      moved = λ told is. (read.told told (i.keeps.told ∙ is)).moved ∙ ap (λ n. n + c.in_ok-count.count) (i.moved told is) ∙ omega arith;
+      given = λ told is. more_given told c.loop-have.buf c.read.new.buf _ _ c.loop-have.have c.in_ok-count.count i.fits room (i.given told is) i.moved read.bound (read.told told (i.keeps.told ∙ is));
+      inside = λ told is. more_inside told c.loop-have.buf c.read.new.buf _ _ c.loop-have.have c.in_ok-count.count i.fits room (i.given told is) i.moved read.bound (read.told told (i.keeps.told ∙ is)) (i.inside told is);
+      moved = omega (arith, read.moved, i.moved);
       keeps = record { told = read.bytes ∙ i.keeps.told; rewinds = read.rewinds ∙ i.keeps.rewinds; later = omega (arith, read.later, i.keeps.later) };
+      steady = read.steady ∙ i.steady;
     }
 
 pub returns-then-count-eq0-clause-moved : goal.returns-then-count-eq0-clause-moved
-returns-then-count-eq0-clause-moved g c told is =
-    let i = c.loop-have.invariant in
-    (c.in_ok-count.ensures.told told (i.keeps.told ∙ is)).moved ∙ omega (arith, i.moved told is, c.if-count-eq0.true)
+returns-then-count-eq0-clause-moved g c = omega (arith, c.in_ok-count.ensures.moved, c.loop-have.invariant.moved, c.if-count-eq0.true)

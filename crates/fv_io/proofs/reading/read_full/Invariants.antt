@@ -1,5 +1,5 @@
 use Rattle.std.proofs.Common.{◌≡◌, ◌≤◌, ◌+◌, ◌-◌, ℕ, List, Some, length, take, drop}
-use Rattle.fv_io.specs.Source.{KeepsSource}
+use Rattle.fv_io.specs.Source.{KeepsSource, IsSteady}
 use Rattle.fv_io.proofs.reading.read_full.Given as goal
 
 -- the front of the buffer has what was read
@@ -11,8 +11,9 @@ invariant-loop-have g l =
       size : length l.buf ≡ length l.fn.buf;
       given : (told : List ℕ) → source.bytes l.fn.source ≡ Some told → take l.have l.buf ≡ take l.have (drop (source.place l.fn.source) told);
       inside : (told : List ℕ) → source.bytes l.fn.source ≡ Some told → l.have ≤ length (drop (source.place l.fn.source) told);
-      moved : (told : List ℕ) → source.bytes l.fn.source ≡ Some told → source.place l.source ≡ source.place l.fn.source + l.have;
+      moved : source.place l.source ≡ source.place l.fn.source + l.have;
       keeps : KeepsSource source l.fn.source l.source;
+      steady : IsSteady source l.fn.source l.source;
     }
 
 abbrev pub decreases-loop-have : goal.decreases-loop-have
