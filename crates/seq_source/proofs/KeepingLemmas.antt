@@ -22,7 +22,7 @@ module _ {S : Type 0} (source : Ghosts S) where
   pub shows_both : (old mid new : S) → RewindsOnce source old mid → (n past : ℕ) (fault : SeqFault) → FaultShows source mid new n past fault → FaultShows source old new n past fault
   shows_both old mid new first n past Read shown = (let before = first.later in omega (arith, shown))
   shows_both old mid new first n past (Changed frame want got) shown =
-      record { frame_is = shown.frame_is; want_is = shown.want_is; early = shown.early; ended = λ bytes is. shown.ended bytes (first.told ∙ is) }
+      record { frame_is = shown.frame_is; want_is = shown.want_is; early = shown.early; at = shown.at; ended = λ bytes is. shown.ended bytes (first.told ∙ is) }
   shows_both old mid new first n past Memory shown = tt
 
   pub answer_shows : {T : Type 0} (r : Result T SeqFault) (old mid new : S) → RewindsOnce source old mid → (n past : ℕ) → IfErr r (FaultShows source mid new n past) → IfErr r (FaultShows source old new n past)

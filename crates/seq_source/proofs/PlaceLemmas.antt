@@ -5,9 +5,9 @@ use Rattle.seq_source.specs.FrameSource.{IsAt}
 
 -- it is further by the number of bytes read
 pub is_further : {S : Type 0} (source : Ghosts S) (old new : S) (place count : ℕ) → IsAt source old place → source.bytes new ≡ source.bytes old
-    → ((told : List ℕ) → source.bytes old ≡ Some told → source.place new ≡ source.place old + count)
+    → source.place new ≡ source.place old + count
     → ((told : List ℕ) → source.bytes old ≡ Some told → place + count ≤ length told) → IsAt source new (place + count)
 is_further source old new place count is_at same moved inside = record {
-  here = λ told is. omega (arith, moved told (sym same ∙ is), is_at.here told (sym same ∙ is));
+  here = omega (arith, moved, is_at.here);
   inside = λ told is. inside told (sym same ∙ is);
 }

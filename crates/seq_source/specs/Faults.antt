@@ -5,17 +5,18 @@ use Rattle.fv_io.specs.Source.{SourceFailed}
 use Rattle.seq_source.specs.declared.fault.SeqFault.{SeqFault}
 use Rattle.seq_source.specs.declared.fault.SeqFault.TheVariants.{Read, Changed, Memory}
 
--- the bytes ended at `got`, before `want`, the offset just past frame n
-pub record EndsEarly (told : Option (List ℕ)) (n past frame want got : ℕ) : Type 0 where
+-- the bytes ended at `got`, which is the source's place now, before `want`, the offset just past frame n
+pub record EndsEarly (told : Option (List ℕ)) (place n past frame want got : ℕ) : Type 0 where
   pub frame_is : frame ≡ n
   pub want_is : want ≡ past
   pub early : got < want
+  pub at : got ≡ place
   pub ended : (bytes : List ℕ) → told ≡ Some bytes → got ≡ length bytes
 
 -- what the fault shows where frame n, which ends just before offset `past`, was asked for
 abbrev pub FaultShows : {S : Type 0} → Ghosts S → S → S → ℕ → ℕ → SeqFault → Type 0
 FaultShows source old new n past Read = SourceFailed source old new
-FaultShows source old new n past (Changed frame want got) = EndsEarly (source.bytes old) n past frame want got
+FaultShows source old new n past (Changed frame want got) = EndsEarly (source.bytes old) (source.place new) n past frame want got
 FaultShows source old new n past Memory = Unit {0}
 
 -- the fault doesn't say that the bytes ended early

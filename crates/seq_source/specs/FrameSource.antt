@@ -15,9 +15,9 @@ pub record FrameSource (S : Type 0) : Type 0 where
   -- where the source's next read begins, where that is known
   pub place : Option ℕ
 
--- over told bytes the next read begins at this place, which is inside them
+-- the next read begins at this place, which is inside the bytes where they are told
 pub record IsAt {S : Type 0} (source : Ghosts S) (it : S) (place : ℕ) : Type 0 where
-  pub here : (told : List ℕ) → source.bytes it ≡ Some told → source.place it ≡ place
+  pub here : source.place it ≡ place
   pub inside : (told : List ℕ) → source.bytes it ≡ Some told → place ≤ length told
 
 -- the offset just past a frame

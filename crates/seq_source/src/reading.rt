@@ -1,7 +1,7 @@
 // The bytes of a frame, read forwards.
-ghost use Rattle.std.specs.Prelude.{◌≡◌, ◌+◌, ◌<◌, ◌≤◌, ◌^◌, ℕ, length, take, drop, IfSome, IfOk, IfErr, OnOk, slice_index};
+ghost use Rattle.std.specs.Prelude.{◌≡◌, ◌+◌, ◌<◌, ◌≤◌, ◌^◌, ℕ, length, take, drop, IfSome, IfOk, IfErr, OnOk, IsErrOf, slice_index};
 ghost use Rattle.std.specs.Option.{ForSome};
-ghost use Rattle.fv_io.specs.Source.{KeepsSource};
+ghost use Rattle.fv_io.specs.Source.{KeepsSource, IsSteady};
 ghost use Rattle.seq_source.specs.FrameSource.{IsAt, ReadsFrame, RewindsOnce, end_of};
 ghost use Rattle.seq_source.specs.Faults.{FaultShows};
 
@@ -22,6 +22,7 @@ fn go_back<S: Source>(source: &mut S, known: Option<u64>, start: u64) -> Result<
     ensures is_at { IfOk result (IsAt S.Source source.new) }
     ensures goes_on { IfSome known (λ place. place ≤ start → S.rewinds source.new ≡ S.rewinds source.old) }
     ensures keeps { RewindsOnce S.Source source.old source.new }
+    ensures steady { (IsErrOf result SeqFault.Read → ⊥) → IsSteady S.Source source.old source.new }
     ensures fault { IfErr result (λ fault. (n past : ℕ) → FaultShows S.Source source.old source.new n past fault) }
 {
     match known {
@@ -49,6 +50,7 @@ fn go_on<S: Source>(
     ensures near { IfOk result (λ now. start ≤ now + 2 ^ 13) }
     ensures is_at { IfOk result (IsAt S.Source source.new) }
     ensures keeps { KeepsSource S.Source source.old source.new }
+    ensures steady { (IsErrOf result SeqFault.Read → ⊥) → IsSteady S.Source source.old source.new }
     ensures fault { IfErr result (FaultShows S.Source source.old source.new n end) }
 {
     let gap = start - place;
@@ -82,6 +84,7 @@ fn approach<S: Source>(
     ensures is_at { IfOk result (IsAt S.Source source.new) }
     ensures goes_on { IfSome known (λ place. place ≤ start → S.rewinds source.new ≡ S.rewinds source.old) }
     ensures keeps { RewindsOnce S.Source source.old source.new }
+    ensures steady { (IsErrOf result SeqFault.Read → ⊥) → IsSteady S.Source source.old source.new }
     ensures fault { IfErr result (FaultShows S.Source source.old source.new n end) }
 {
     let place = go_back(source, known, start)?;
@@ -103,6 +106,7 @@ fn read_up_to<S: Source>(
         bytes.new ≡ take (length bytes.old) (drop place told))) }
     ensures whole { OnOk result (ForSome (S.bytes source.old) (λ told. place + length bytes.old ≤ length told)) }
     ensures keeps { KeepsSource S.Source source.old source.new }
+    ensures steady { (IsErrOf result SeqFault.Read → ⊥) → IsSteady S.Source source.old source.new }
     ensures fault { IfErr result (FaultShows S.Source source.old source.new n (place + length bytes.old)) }
 {
     let end = place + bytes.len() as u64;
@@ -134,6 +138,7 @@ pub(crate) fn read_indexed<S: Source>(
     ensures goes_on { IfSome known (λ place. place ≤ slice_index index.now.offsets n →
         S.rewinds source.new ≡ S.rewinds source.old) }
     ensures keeps { RewindsOnce S.Source source.old source.new }
+    ensures steady { (IsErrOf result SeqFault.Read → ⊥) → IsSteady S.Source source.old source.new }
 {
     let shape = index.info().shape;
     let start = index.offset(n);

@@ -1,6 +1,7 @@
 // A source of frames.
-ghost use Rattle.std.specs.Prelude.{◌≡◌, ◌<◌, ◌≤◌, length, Some, None, IsSome, IfSome, IfOk, IfErr, OnOk, OnErr, slice_get, slice_index};
+ghost use Rattle.std.specs.Prelude.{◌≡◌, ◌<◌, ◌≤◌, length, Some, None, IsSome, IfSome, IfOk, IfErr, OnOk, OnErr, IsErrOf, slice_get, slice_index};
 ghost use Rattle.std.specs.Option.{ForSome};
+ghost use Rattle.fv_io.specs.Source.{IsSteady};
 ghost use Rattle.fv_plane.specs.Clip.{Clip, picture_at};
 ghost use Rattle.y4m_stream.specs.Index.{IsIndex};
 ghost use Rattle.seq_source.specs.FrameSource.{IsAt, HasFrames, KeepsFrames, end_of, frames_of};
@@ -88,7 +89,8 @@ impl<S: Source> SeqSource<S> {
     /// frame, and at most once. Nothing past the frame is read.
     ///
     /// `Read` means that the source failed, `Changed` that its bytes end before the end of the frame, and `Memory` out
-    /// of memory. After each of them the source's place isn't known, so the next call rewinds.
+    /// of memory. No fault of the source is counted but with `Read`. After each of them the source's place isn't known,
+    /// so the next call rewinds.
     pub fn frame(&mut self, n: u32) -> Result<Frame, SeqFault>
         requires { n < self.old.index.info.frames }
 
@@ -108,6 +110,7 @@ impl<S: Source> SeqSource<S> {
         ensures whole { OnOk result (ForSome (S.bytes self.old.source) (λ told.
             end_of self.old.index n ≤ length told)) }
         ensures fault { IfErr result (FaultShows S.Source self.old.source self.new.source n (end_of self.old.index n)) }
+        ensures steady { (IsErrOf result SeqFault.Read → ⊥) → IsSteady S.Source self.old.source self.new.source }
 
         // Where it leaves the source, and when that isn't rewound.
         ensures place { OnOk result (self.new.place ≡ Some (end_of self.old.index n)) }

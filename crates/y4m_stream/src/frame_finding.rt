@@ -1,7 +1,7 @@
 // The frames after a head, one after the other.
 ghost use Rattle.std.specs.Prelude.{◌≡◌, ◌<◌, ◌≤◌, ◌^◌, drop, IfOk, IfErr, IsErrOf};
 ghost use Rattle.std.specs.Option.{ForSome};
-ghost use Rattle.fv_io.specs.Source.{KeepsSource, SourceFailed};
+ghost use Rattle.fv_io.specs.Source.{KeepsSource, IsSteady, SourceFailed};
 ghost use Rattle.y4m_stream.specs.ReadAhead.{left_of};
 ghost use Rattle.y4m_stream.specs.Frames.{IsFrameHead, FindsNext, CountsOn, NextFault, AreOffsets, FindsFrames, FramesFault};
 ghost use Rattle.y4m_stream.specs.Stream.{may_begin};
@@ -78,6 +78,7 @@ fn next_frame<S: Source>(
         NextFault size k (left_of ahead.old told (S.place source.old)) fault)) }
     ensures keeps { KeepsSource S.Source source.old source.new }
     ensures read { IsErrOf result IndexFault.Read → SourceFailed S.Source source.old source.new }
+    ensures steady { (IsErrOf result IndexFault.Read → ⊥) → IsSteady S.Source source.old source.new }
 {
     ahead.fill(source, MAX_HEAD, most_ahead(size))?;
     if ahead.len() == 0 {
@@ -122,6 +123,7 @@ pub(crate) fn find_frames<S: Source>(
         FramesFault size (drop start told) fault)) }
     ensures keeps { KeepsSource S.Source source.old source.new }
     ensures read { IsErrOf result IndexFault.Read → SourceFailed S.Source source.old source.new }
+    ensures steady { (IsErrOf result IndexFault.Read → ⊥) → IsSteady S.Source source.old source.new }
 {
     let mut offsets = Vec::new(alloc);
     let mut place = start;

@@ -1,7 +1,7 @@
 // Where the frames of a stream are.
 ghost use Rattle.std.specs.Prelude.{◌≡◌, IfOk, IfErr, IsErrOf};
 ghost use Rattle.std.specs.Option.{ForSome};
-ghost use Rattle.fv_io.specs.Source.{KeepsSource, SourceFailed};
+ghost use Rattle.fv_io.specs.Source.{KeepsSource, IsSteady, SourceFailed};
 ghost use Rattle.fv_plane.specs.Clip.{Clip};
 ghost use Rattle.y4m_stream.specs.Index.{IsIndex, Indexes, HasIndexFault};
 
@@ -17,8 +17,8 @@ use std::alloc::Global;
 /// Finds the frames of a source that was just fetched. It keeps no samples, and skips those of frames of 64 KiB and
 /// more.
 ///
-/// Over told bytes `Y4m` is their first fault. `Read` means that the source failed, and `Memory` out of memory. The
-/// source is left at any place.
+/// Over told bytes `Y4m` is their first fault. `Read` means that the source failed, and `Memory` out of memory. No
+/// fault of the source is counted but with `Read`. The source is left at any place.
 pub fn index<S: Source>(alloc: Global, source: &mut S) -> Result<Index, IndexFault>
     requires { S.place source.old ≡ 0 }
     ensures found { IfOk result (λ index. ForSome (S.bytes source.old) (λ told.
@@ -26,6 +26,7 @@ pub fn index<S: Source>(alloc: Global, source: &mut S) -> Result<Index, IndexFau
     ensures places { IfOk result (λ index. IsIndex index) }
     ensures fault { IfErr result (λ fault. ForSome (S.bytes source.old) (λ told. HasIndexFault told fault)) }
     ensures read { IsErrOf result IndexFault.Read → SourceFailed S.Source source.old source.new }
+    ensures steady { (IsErrOf result IndexFault.Read → ⊥) → IsSteady S.Source source.old source.new }
     ensures keeps { KeepsSource S.Source source.old source.new }
 {
     let mut ahead = ReadAhead::new(alloc)?;

@@ -1,7 +1,7 @@
 // Bytes of a source that were read ahead.
 ghost use Rattle.std.specs.Prelude.{◌≡◌, ◌<◌, ◌≤◌, ◌^◌, [], length, drop, IfOk, OnOk, OnErr};
 ghost use Rattle.std.specs.Option.{ForSome};
-ghost use Rattle.fv_io.specs.Source.{KeepsSource, SourceFailed};
+ghost use Rattle.fv_io.specs.Source.{KeepsSource, IsSteady, SourceFailed};
 ghost use Rattle.y4m_stream.specs.ReadAhead.{left_of, Passes};
 
 use fv_io::{Failed, Source, read_full};
@@ -72,6 +72,7 @@ impl ReadAhead {
         ensures ended { OnOk result (ForSome (S.bytes source.old) (λ told. length self.new < most →
             drop (S.place source.new) told ≡ [])) }
         ensures keeps { KeepsSource S.Source source.old source.new }
+        ensures steady { OnOk result (IsSteady S.Source source.old source.new) }
         ensures failed { OnErr result (SourceFailed S.Source source.old source.new) }
     {
         self.buf.copy_within(self.start..self.end, 0);
@@ -97,6 +98,7 @@ impl ReadAhead {
         ensures ended { OnOk result (ForSome (S.bytes source.old) (λ told. length self.new < least →
             drop (S.place source.new) told ≡ [])) }
         ensures keeps { KeepsSource S.Source source.old source.new }
+        ensures steady { OnOk result (IsSteady S.Source source.old source.new) }
         ensures failed { OnErr result (SourceFailed S.Source source.old source.new) }
     {
         if self.len() < least {
@@ -111,6 +113,7 @@ impl ReadAhead {
             (left_of self.old told (S.place source.old)) (left_of self.new told (S.place source.new)) size count)) }
         ensures bound { IfOk result (λ count. count ≤ size) }
         ensures keeps { KeepsSource S.Source source.old source.new }
+        ensures steady { OnOk result (IsSteady S.Source source.old source.new) }
         ensures failed { OnErr result (SourceFailed S.Source source.old source.new) }
     {
         let there = self.len().min(size);

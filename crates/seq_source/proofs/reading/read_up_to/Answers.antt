@@ -11,7 +11,7 @@ inside : (g : Over) (c : In_ok-got g) (told : List ℕ) → g.S.Source.bytes c.a
 inside g c told is =
     let at = c.requires.is_at in
     let fills = c.in_ok-got.ensures.told told is in
-    omega (arith, fills.inside, at.here told is, at.inside told is, length-drop (g.S.Source.place c.args.source.now) told)
+    omega (arith, fills.inside, at.here, at.inside told is, length-drop (g.S.Source.place c.args.source.now) told)
 
 pub returns-then-got-end-clause-fault : goal.returns-then-got-end-clause-fault
 returns-then-got-end-clause-fault g c =
@@ -21,9 +21,10 @@ returns-then-got-end-clause-fault g c =
       frame_is = refl;
       want_is = refl;
       early = c.if-got-end.true;
+      at = omega (arith, c.in_ok-got.ensures.moved, at.here);
       ended = λ told is.
           let fills = c.in_ok-got.ensures.told told is in
-          omega (arith, fills.ended (omega (arith, room, c.if-got-end.true)), at.here told is, at.inside told is, length-drop (g.S.Source.place c.args.source.now) told);
+          omega (arith, fills.ended (omega (arith, room, c.if-got-end.true)), at.here, at.inside told is, length-drop (g.S.Source.place c.args.source.now) told);
     }
 
 pub returns-clause-is_at : goal.returns-clause-is_at

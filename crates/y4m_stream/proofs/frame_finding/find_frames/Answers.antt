@@ -25,6 +25,7 @@ loop-offsets-preserved g c =
       apart = rw pushed (more_apart c.args.size place len offsets i.apart);
       early = omega (arith, longer, few.1, i.early, c.requires.small);
       keeps = record { told = found.keeps.told ∙ i.keeps.told; rewinds = found.keeps.rewinds ∙ i.keeps.rewinds; later = omega (arith, found.keeps.later, i.keeps.later) };
+      steady = found.steady (λ bad. let no : ⊥ = cc in no) ∙ i.steady;
       here = λ told is. left_there told c.args.size place len _ (next told is);
       frames = λ told is. rw pushed (more_frames told c.args.size place len _ (next told is) (drop c.args.start told) offsets (i.frames told is));
       offsets_are = λ told is. rw pushed (found_more told c.args.size c.args.start place len offsets (i.offsets_are told is) (let there = next told is in there.len_is));

@@ -1,5 +1,5 @@
 use Rattle.std.proofs.Common.{◌≡◌, ◌+◌, ◌-◌, ◌*◌, ◌≤◌, ℕ, List, Some, length, drop}
-use Rattle.fv_io.specs.Source.{KeepsSource}
+use Rattle.fv_io.specs.Source.{KeepsSource, IsSteady}
 use Rattle.y4m_stream.specs.ReadAhead.{left_of}
 use Rattle.y4m_stream.specs.Frames.{AreApart, frames_at}
 use Rattle.y4m_stream.specs.Stream.{FramesThen}
@@ -15,6 +15,7 @@ invariant-loop-offsets g l =
       apart : AreApart l.size l.place l.offsets.items;
       early : l.place ≤ 4096 + length l.offsets.items * 16781312;
       keeps : KeepsSource source l.fn.source l.source;
+      steady : IsSteady source l.fn.source l.source;
       here : (told : List ℕ) → source.bytes l.fn.source ≡ Some told → left_of l.ahead told (source.place l.source) ≡ drop l.place told;
       frames : (told : List ℕ) → source.bytes l.fn.source ≡ Some told → FramesThen l.size (drop l.start told) (frames_at told l.size l.offsets.items) (drop l.place told);
       offsets_are : (told : List ℕ) → source.bytes l.fn.source ≡ Some told → AreFrom told l.size l.start l.place l.offsets.items;

@@ -19,10 +19,10 @@ returns-clause-told g c told is =
     let few : have ≤ length (drop a.start a.buf.items) = omega (arith, length-drop a.start a.buf.items) in
     let sized : length piece ≡ room = search rules in
     let fits : have + room ≤ length buf = search rules in
-    let size : length put ≡ c.copy_within.new.self.len = put_size told a.buf.items buf piece a.start have room _ _ count moved few (read.told told is) read.bound (read.moved told is) sized fits ∙ search rules in
+    let size : length put ≡ c.copy_within.new.self.len = put_size told a.buf.items buf piece a.start have room _ _ count moved few (read.told told is) read.bound read.moved sized fits ∙ search rules in
     ap (λ (l : List ℕ). take (have + count - 0) l ++ drop (g.S.Source.place c.read_full.new.source) told) (take_at put _ c.copy_within.new.self.len size)
     ∙ ap (λ n. take n put ++ drop (g.S.Source.place c.read_full.new.source) told) (let e : have + count - 0 ≡ have + count = omega arith in e)
-    ∙ refilled told a.buf.items buf piece a.start have room _ _ count moved few (read.told told is) read.bound (read.moved told is)
+    ∙ refilled told a.buf.items buf piece a.start have room _ _ count moved few (read.told told is) read.bound read.moved
     ∙ ap (λ (l : List ℕ). l ++ drop (g.S.Source.place c.args.source.now) told) c.self.view_is
 
 pub returns-clause-ended : goal.returns-clause-ended
@@ -39,8 +39,8 @@ returns-clause-ended g c told is short =
     let few : have ≤ length (drop a.start a.buf.items) = omega (arith, length-drop a.start a.buf.items) in
     let sized : length piece ≡ room = search rules in
     let fits : have + room ≤ length buf = search rules in
-    let size : length put ≡ c.copy_within.new.self.len = put_size told a.buf.items buf piece a.start have room _ _ count moved few (read.told told is) read.bound (read.moved told is) sized fits ∙ search rules in
+    let size : length put ≡ c.copy_within.new.self.len = put_size told a.buf.items buf piece a.start have room _ _ count moved few (read.told told is) read.bound read.moved sized fits ∙ search rules in
     let window : take (have + count - 0) (take c.copy_within.new.self.len (put ++ drop (length put) c.copy_within.new.self.items)) ≡ take (have + count) put
     = ap (λ (l : List ℕ). take (have + count - 0) l) (take_at put _ c.copy_within.new.self.len size) ∙ ap (λ n. take n put) (let e : have + count - 0 ≡ have + count = omega arith in e) in
-    let full = window_size told a.buf.items buf piece a.start have room _ _ count moved few (read.told told is) read.bound (read.moved told is) in
-    nothing_left told a.buf.items buf piece a.start have room _ _ count moved few (read.told told is) read.bound (read.moved told is) (omega (arith, short, ap length window, full, sized))
+    let full = window_size told a.buf.items buf piece a.start have room _ _ count moved few (read.told told is) read.bound read.moved in
+    nothing_left told a.buf.items buf piece a.start have room _ _ count moved few (read.told told is) read.bound read.moved (omega (arith, short, ap length window, full, sized))

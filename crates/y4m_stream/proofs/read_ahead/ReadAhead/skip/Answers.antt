@@ -13,4 +13,4 @@ returns-clause-told g c told is =
     let skips = c.in_ok-count.ensures.told told is in
     let there : c.min-there.result ≡ length c.args.self.now = omega (arith, c.min-there.ensures, c.len.ensures, c.if-there-size.false) in
     rw c.consume.ensures
-    (passed_on c.args.self.now told c.min-there.result (g.S.Source.place c.args.source.now) (g.S.Source.place c.skip.new.self) c.args.size c.in_ok-count.count there (omega (arith, c.min-there.ensures)) skips.amount skips.moved)
+    (passed_on c.args.self.now told c.min-there.result (g.S.Source.place c.args.source.now) (g.S.Source.place c.skip.new.self) c.args.size c.in_ok-count.count there (omega (arith, c.min-there.ensures)) skips c.in_ok-count.ensures.moved)
