@@ -8,7 +8,7 @@ ghost use Rattle.clip_term.specs.Texts.{format_named};
 ghost use Rattle.avs_meaning.specs.Filters as f;
 ghost use Rattle.avs_state.specs.Answers.{Gives};
 ghost use Rattle.avs_state.specs.Sources.{sources_of};
-ghost use Rattle.avs_state.specs.States.{state_of};
+ghost use Rattle.avs_state.specs.States.{state_of, AsksNothing};
 ghost use Rattle.avs_calls.specs.Views.{args_view, text_given};
 
 use crate::arguments::{number_at, text_at};
@@ -221,7 +221,7 @@ fn blank_like(
     requires par { IsPar base.now.par }
     ensures gives { Gives (λ x. x) (f.blank_like here.now base.now (args_view args.now) line (state_of machine.old))
         result (state_of machine.new) }
-    ensures opened { (state_of machine.new).opened ≡ (state_of machine.old).opened }
+    ensures asks { AsksNothing machine.old machine.new }
     ensures sources { OnOk result (sources_of (state_of machine.new).plan ≡ sources_of (state_of machine.old).plan) }
 {
     if let Some(fault) = refusal(base, args) {
@@ -250,7 +250,7 @@ fn blank_of(
 ) -> Result<Value, ScriptStop>
     ensures gives { Gives (λ x. x) (f.blank_of here.now (option_map (λ value. value.now) clip.entry) (args_view
         args.now) line (state_of machine.old)) result (state_of machine.new) }
-    ensures opened { (state_of machine.new).opened ≡ (state_of machine.old).opened }
+    ensures asks { AsksNothing machine.old machine.new }
     ensures sources { OnOk result (sources_of (state_of machine.new).plan ≡ sources_of (state_of machine.old).plan) }
 {
     match clip {
@@ -274,7 +274,7 @@ pub(crate) fn blank(
 ) -> Result<Value, ScriptStop>
     ensures gives { Gives (λ x. x) (f.blank here.now signature values.now line (state_of machine.old)) result
         (state_of machine.new) }
-    ensures opened { (state_of machine.new).opened ≡ (state_of machine.old).opened }
+    ensures asks { AsksNothing machine.old machine.new }
     ensures sources { OnOk result (sources_of (state_of machine.new).plan ≡ sources_of (state_of machine.old).plan) }
 {
     if signature == 0 {

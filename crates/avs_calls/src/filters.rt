@@ -6,7 +6,7 @@ ghost use Rattle.avs_meaning.specs.Filters as f;
 ghost use Rattle.avs_meaning.specs.Outside.{Outside};
 ghost use Rattle.avs_state.specs.Answers.{Gives};
 ghost use Rattle.avs_state.specs.Sources.{sources_of};
-ghost use Rattle.avs_state.specs.States.{state_of};
+ghost use Rattle.avs_state.specs.States.{state_of, AsksNothing};
 
 use crate::arguments::add_clips;
 use crate::blank::blank;
@@ -34,7 +34,7 @@ fn apply_to(
     ensures gives { Gives (λ x. x) (f.applied_by here.now (a.read given.now.values.items (a.numbers_among
         given.now.rest.items) frames filter) filter inputs.now line (state_of machine.old)) result (state_of
         machine.new) }
-    ensures opened { (state_of machine.new).opened ≡ (state_of machine.old).opened }
+    ensures asks { AsksNothing machine.old machine.new }
     ensures sources { OnOk result (sources_of (state_of machine.new).plan ≡ sources_of (state_of machine.old).plan) }
 {
     let op = match read(alloc, given, frames, filter) {
@@ -61,7 +61,7 @@ fn apply(
         (f.applied here.now filter (bound_view given.now)
         (a.clips_among given.now.values.items ++ a.clips_among given.now.rest.items) line (state_of machine.old)) result
         (state_of machine.new) }
-    ensures opened { (state_of machine.new).opened ≡ (state_of machine.old).opened }
+    ensures asks { AsksNothing machine.old machine.new }
     ensures sources { OnOk result (sources_of (state_of machine.new).plan ≡ sources_of (state_of machine.old).plan) }
 {
     let mut inputs = Vec::new(alloc);
@@ -97,7 +97,7 @@ pub fn filter(
     ensures gives { (outside : Outside) → Gives (λ x. x)
         (f.filtered here.now outside filter signature (bound_view given.now) line (state_of machine.old)) result
         (state_of machine.new) }
-    ensures opened { (state_of machine.new).opened ≡ (state_of machine.old).opened }
+    ensures asks { AsksNothing machine.old machine.new }
     ensures sources { OnOk result (sources_of (state_of machine.new).plan ≡ sources_of (state_of machine.old).plan) }
 {
     if let Filter::BlankClip = filter {
@@ -119,7 +119,7 @@ pub fn ranged(
 ) -> Result<Value, ScriptStop>
     ensures gives { Gives (λ x. x) (f.ranged here.now clip first last line shown.now (state_of machine.old)) result
         (state_of machine.new) }
-    ensures opened { (state_of machine.new).opened ≡ (state_of machine.old).opened }
+    ensures asks { AsksNothing machine.old machine.new }
     ensures sources { OnOk result (sources_of (state_of machine.new).plan ≡ sources_of (state_of machine.old).plan) }
 {
     match shown {

@@ -1,11 +1,11 @@
 -- How a part of a run that fails makes the whole fail.
-use Rattle.std.proofs.Common.{◌≡◌, sym, ap, subst, ℕ, Result, Ok, Err}
+use Rattle.std.proofs.Common.{◌≡◌, refl, sym, ap, subst, ℕ, Result, Ok, Err}
 use Rattle.avs_meaning.specs.State.{State, Outcome, Run, and_then}
 use Rattle.avs_meaning.specs.declared.stop.ScriptStop.{ScriptStop}
 use Rattle.avs_meaning.specs.declared.stop.ScriptStop.TheVariants as e
 use Rattle.avs_state.specs.Answers as a
 use Rattle.avs_state.specs.Hosts.{Fails, Gives}
-use Rattle.avs_eval.specs.Walks.{Read, stop_in}
+use Rattle.avs_eval.specs.Walks.{Counts, stop_in}
 
 pub then_fails : {X Y : Type 0} (one : Outcome X) (f : X → Run Y) (stop : ScriptStop) → Fails one stop → Fails (and_then one f) stop
 then_fails one f (e.Fault kind name line) h = ap (λ o. and_then o f) h
@@ -36,12 +36,12 @@ pub given : {X Y : Type 0} (view : X → Y) (o : Outcome Y) (result : Result X S
 given view o (Ok x) new h = h
 given view o (Err stop) new h = also_fails o stop h
 
--- and reads nothing
+-- and no read of it fails
 pub unread : {X Y : Type 0} (view : X → Y) (o : Outcome Y) (result : Result X ScriptStop) (new : State) (n : ℕ)
-    → a.Gives view o result new → Read (stop_in result) n n
-unread view o (Ok x) new n h = tt
-unread view o (Err (e.Fault kind name line)) new n h = tt
-unread view o (Err (e.Refused name nests line)) new n h = tt
-unread view o (Err (e.Input name why)) new n h = tt
+    → a.Gives view o result new → Counts (stop_in result) n n
+unread view o (Ok x) new n h = refl
+unread view o (Err (e.Fault kind name line)) new n h = refl
+unread view o (Err (e.Refused name nests line)) new n h = refl
+unread view o (Err (e.Input name why)) new n h = refl
 unread view o (Err e.Read) new n h = absurd h
-unread view o (Err e.Memory) new n h = tt
+unread view o (Err e.Memory) new n h = refl

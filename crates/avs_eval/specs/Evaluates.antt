@@ -26,7 +26,7 @@ pub record Opens (opened : Opened) (given : List SourceClip) : Type 0 where
   pub root : opened.root < length opened.graph
   pub sources : sources_of opened.graph ≡ given
 
--- a failed read is answered only where the count of faults rose
-abbrev pub FailedRead : Result Opened ScriptStop → ℕ → ℕ → Type 0
-FailedRead (Err s.Read) before now = HasRisen before now
-FailedRead _ before now = Unit {0}
+-- a failed read counts a fault and is answered, and nothing else counts one
+abbrev pub CountsFaults : Result Opened ScriptStop → ℕ → ℕ → Type 0
+CountsFaults (Err s.Read) before now = HasRisen before now
+CountsFaults _ before now = now ≡ before

@@ -1,5 +1,5 @@
 -- What the parts of a walk ensure, over any host.
-use Rattle.std.specs.Prelude.{◌≡◌, ℕ, ◌-◌, ◌<◌, ◌≤◌, List, Option, Some, None, IfNone, Result, Ok, Err}
+use Rattle.std.specs.Prelude.{◌≡◌, ℕ, ◌+◌, ℤ, pos, ◌-ℤ◌, ◌-◌, ◌<◌, ◌≤◌, List, length, Option, Some, None, IfNone, Result, Ok, Err}
 use Rattle.std.specs.Borrow.{Bor, MutBor}
 use Rattle.std.specs.Fn.{Shared}
 use Rattle.std.specs.declared.alloc.Global.{Global}
@@ -24,20 +24,27 @@ abbrev pub stop_in : {X : Type 0} → Result X ScriptStop → Option ScriptStop
 stop_in (Ok x) = None
 stop_in (Err stop) = Some stop
 
--- a failed read is answered only where the count of faults rose
-abbrev pub Read : Option ScriptStop → ℕ → ℕ → Type 0
-Read (Some e.Read) before now = HasRisen before now
-Read _ before now = Unit {0}
+-- a failed read counts a fault and is answered, and nothing else counts one
+abbrev pub Counts : Option ScriptStop → ℕ → ℕ → Type 0
+Counts (Some e.Read) before now = HasRisen before now
+Counts _ before now = now ≡ before
+
+-- how many more files the host fetched than clips were opened and scripts imported
+abbrev pub unasked : {H : Type 0} → host.Ghosts H → Machine → H → ℤ
+unasked h machine x = pos (h.fetched x) -ℤ pos (length (state_of machine).opened + (state_of machine).imports)
 
 -- Unless a part of a run ends early, the clips that were opened stay those that the host gave, and those of the plan's
--- sources. The host's count of faults never falls.
+-- sources, and each file that the host fetched is a clip that was opened or a script that was imported. The host's counts of
+-- faults and of fetches never fall.
 pub record Keeps {H : Type 0} (h : host.Ghosts H) (old : Machine) (before : H) (ended : Option ScriptStop) (new : Machine)
     (now : H) : Type 0 where
   pub given : (state_of old).opened ≡ h.opened before → IfNone ended ((state_of new).opened ≡ h.opened now)
   pub listed : sources_of (state_of old).plan ≡ (state_of old).opened
       → IfNone ended (sources_of (state_of new).plan ≡ (state_of new).opened)
   pub later : h.faults before ≤ h.faults now
-  pub read : Read ended (h.faults before) (h.faults now)
+  pub more : h.fetched before ≤ h.fetched now
+  pub faults : Counts ended (h.faults before) (h.faults now)
+  pub fetched : IfNone ended (unasked h new now ≡ unasked h old before)
 
 -- a call that executes the statements of a text one call deeper
 abbrev pub Asked : Type 0 → Type 0

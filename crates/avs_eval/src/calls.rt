@@ -19,7 +19,7 @@ use avs_calls::{
     Callee, callee_of, filter, fit_callee, parameters, plain, prefetch, ranged, set_mode, told,
 };
 use avs_meaning::{Builtin, ScriptKind, ScriptStop, Table, Variable};
-use avs_state::{ByName, Definition, Host, HostFault, Machine};
+use avs_state::{ByName, Definition, Host, Machine, stop_of};
 use avs_tree::Statement;
 use avs_values::{Bound, Given, Value};
 use clip_term::Filter;
@@ -53,13 +53,7 @@ impl<
     {
         match host.clip(name) {
             Ok(info) => machine.add_source(self.alloc, name, info, self.here, line),
-            Err(HostFault::Input(fault)) => Err(ScriptStop::Input {
-                name: Text::from_str(self.alloc, name.as_str())?,
-                fault,
-            }),
-            Err(HostFault::Read) => Err(ScriptStop::Read),
-            Err(HostFault::Memory) => Err(ScriptStop::Memory),
-            Err(HostFault::Script(kind)) => Err(self.fault(ScriptKind::File(kind), line)),
+            Err(fault) => Err(stop_of(self.alloc, fault, name, self.here, line)),
         }
     }
 

@@ -1,13 +1,13 @@
 // The evaluation of a script.
-ghost use Rattle.std.specs.Prelude.{◌≡◌, ◌≤◌, ◌<◌, [], length, IsTrue, IfOk, OnOk};
+ghost use Rattle.std.specs.Prelude.{◌≡◌, ◌≤◌, ◌<◌, ◌+◌, [], length, IsTrue, IfOk, OnOk};
 ghost use Rattle.avs_tree.specs.View.{block_view};
 ghost use Rattle.avs_values.specs.Outcome.{text_limit};
-ghost use Rattle.avs_meaning.specs.Meaning.{clip_or_not, executed, text_meaning, to_clip};
+ghost use Rattle.avs_meaning.specs.Meaning.{clip_or_not, executed, text_imports, text_meaning, to_clip};
 ghost use Rattle.avs_state.specs.Answers.{Gives};
 ghost use Rattle.avs_state.specs.Hosts.{Told};
 ghost use Rattle.avs_eval.specs.OutsideBy.{outside_by};
 ghost use Rattle.avs_state.specs.States.{state_of};
-ghost use Rattle.avs_eval.specs.Evaluates.{Evaluates, Opens, FailedRead};
+ghost use Rattle.avs_eval.specs.Evaluates.{Evaluates, Opens, CountsFaults};
 ghost use Rattle.avs_eval.specs.Walks.{Keeps, stop_in};
 
 use crate::depth::run;
@@ -112,8 +112,13 @@ pub fn eval<H: Host>(
     ensures told { IsTrue H.told → Evaluates (text_meaning (outside_by H.clips H.scripts) name.now text.now) result }
     // The sources of the graph are the clips that the host gave, in their order.
     ensures opened { IfOk result (λ opened. Opens opened (H.opened host.new)) }
+    // A file is fetched for each clip that is opened, and for each Import that reads a script.
+    ensures fetched { IsTrue H.told → OnOk result (H.fetched host.new ≡ H.fetched host.old
+        + (length (H.opened host.new) + text_imports (outside_by H.clips H.scripts) name.now text.now)) }
     ensures later { H.faults host.old ≤ H.faults host.new }
-    ensures read { FailedRead result (H.faults host.old) (H.faults host.new) }
+    ensures more { H.fetched host.old ≤ H.fetched host.new }
+    // Only a failed read counts a fault, so none is tried again.
+    ensures faults { CountsFaults result (H.faults host.old) (H.faults host.new) }
 {
     let table = Table::new(alloc)?;
     let mut machine = Machine::new(alloc);

@@ -5,7 +5,7 @@ ghost use Rattle.avs_meaning.specs.Loops as l;
 ghost use Rattle.avs_state.specs.Answers.{Answers, Gives};
 ghost use Rattle.avs_state.specs.Hosts.{Told};
 ghost use Rattle.avs_state.specs.Sources.{sources_of};
-ghost use Rattle.avs_state.specs.States.{state_of};
+ghost use Rattle.avs_state.specs.States.{state_of, AsksNothing};
 ghost use Rattle.avs_eval.specs.Walks.{Deeper, Keeps, stop_in};
 ghost use Rattle.avs_eval.specs.At as r;
 
@@ -68,7 +68,7 @@ pub(crate) fn advance(
 ) -> Result<Option<i32>, ScriptStop>
     ensures gives { Gives (λ n. n) (l.advance here.now name.now step line (state_of machine.old)) result
         (state_of machine.new) }
-    ensures opened { (state_of machine.new).opened ≡ (state_of machine.old).opened }
+    ensures asks { AsksNothing machine.old machine.new }
     ensures sources { OnOk result (sources_of (state_of machine.new).plan ≡ sources_of (state_of machine.old).plan) }
 {
     let before = read_number(alloc, machine, name, here, line)?;

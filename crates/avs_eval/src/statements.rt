@@ -6,7 +6,7 @@ ghost use Rattle.avs_meaning.specs.Statements as m;
 ghost use Rattle.avs_state.specs.Answers.{Gives};
 ghost use Rattle.avs_state.specs.Hosts.{Told};
 ghost use Rattle.avs_state.specs.Sources.{sources_of};
-ghost use Rattle.avs_state.specs.States.{state_of};
+ghost use Rattle.avs_state.specs.States.{state_of, AsksNothing};
 ghost use Rattle.avs_eval.specs.Walks.{Deeper, Keeps, stop_in};
 ghost use Rattle.avs_eval.specs.At as r;
 ghost use Rattle.avs_eval.specs.Flows.{flow_view, turn_view};
@@ -24,7 +24,7 @@ use std::alloc::{AllocError, Global};
 // A clip becomes `last`.
 fn sets_last(alloc: Global, machine: &mut Machine, value: Value) -> Result<Flow, ScriptStop>
     ensures gives { Gives flow_view (m.sets_last value (state_of machine.old)) result (state_of machine.new) }
-    ensures opened { (state_of machine.new).opened ≡ (state_of machine.old).opened }
+    ensures asks { AsksNothing machine.old machine.new }
     ensures sources { OnOk result (sources_of (state_of machine.new).plan ≡ sources_of (state_of machine.old).plan) }
 {
     if let Value::Clip(i) = value {

@@ -8,7 +8,7 @@ ghost use Rattle.avs_meaning.specs.Faults.{Shows, refused};
 ghost use Rattle.avs_state.specs.Answers.{Gives};
 ghost use Rattle.avs_state.specs.Hosts.{Told};
 ghost use Rattle.avs_state.specs.Sources.{sources_of};
-ghost use Rattle.avs_state.specs.States.{state_of};
+ghost use Rattle.avs_state.specs.States.{state_of, AsksNothing};
 ghost use Rattle.avs_eval.specs.At as r;
 ghost use Rattle.avs_eval.specs.Bodies.{body_by, body_view};
 ghost use Rattle.avs_eval.specs.Walks.{Deeper, Keeps, stop_in};
@@ -16,7 +16,7 @@ ghost use Rattle.avs_eval.specs.Walks.{Deeper, Keeps, stop_in};
 use crate::walker::Walker;
 use avs_meaning::{ScriptKind, ScriptStop, Table};
 use avs_parse::{LoadFault, Loaded, load};
-use avs_state::{Host, HostFault, Machine, fault_at};
+use avs_state::{Host, Machine, fault_at, stop_of};
 use avs_tree::{Script, Statement};
 use avs_values::Value;
 use fv_io::Text;
@@ -53,7 +53,7 @@ pub(crate) fn load_body(
     requires { length text.now ≤ text_limit }
     ensures gives { Gives body_view (body_by (script_of text.now) here.now (state_of machine.old)) result
         (state_of machine.new) }
-    ensures opened { (state_of machine.new).opened ≡ (state_of machine.old).opened }
+    ensures asks { AsksNothing machine.old machine.new }
     ensures sources { OnOk result (sources_of (state_of machine.new).plan ≡ sources_of (state_of machine.old).plan) }
 {
     match load(alloc, text.as_str()) {
@@ -198,27 +198,27 @@ impl<
         }
     }
 
-    // The text of a script's file.
+    // The text of a script's file, which is read once, and counts as an import.
     fn script(
         &self,
-        machine: &Machine,
+        machine: &mut Machine,
         host: &mut H,
         name: &Text,
         line: u32,
     ) -> Result<Text, ScriptStop>
         ensures told { Told H.told (λ text. text) (e.script_by self.now.here.now (H.scripts name.now) line)
-            machine.now result machine.now }
-        ensures kept { Keeps H.Host machine.now host.old (stop_in result) machine.now host.new }
+            machine.old result machine.new }
+        ensures kept { Keeps H.Host machine.old host.old (stop_in result) machine.new host.new }
     {
+        if !machine.can_import() {
+            return Err(ScriptStop::Memory);
+        }
         match host.script(name) {
-            Ok(text) => Ok(text),
-            Err(HostFault::Script(kind)) => Err(self.fault(ScriptKind::File(kind), line)),
-            Err(HostFault::Read) => Err(ScriptStop::Read),
-            Err(HostFault::Memory) => Err(ScriptStop::Memory),
-            Err(HostFault::Input(fault)) => Err(ScriptStop::Input {
-                name: Text::from_str(self.alloc, name.as_str())?,
-                fault,
-            }),
+            Ok(text) => {
+                machine.count_import();
+                Ok(text)
+            }
+            Err(fault) => Err(stop_of(self.alloc, fault, name, self.here, line)),
         }
     }
 

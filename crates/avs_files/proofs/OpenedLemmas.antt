@@ -27,6 +27,7 @@ module _ {S : Type 0} (source : Ghosts S) (told : Bool) (world : World) where
     clip = λ yes. clip world (same ∙ told_is told world yes);
     bytes = λ yes. is.bytes world (same ∙ told_is told world yes);
     index = λ yes bytes clip file stream. is.indexed world (same ∙ told_is told world yes) bytes clip file stream;
+    unfailed = is.unfailed;
   }
 
   each_more : (listed : List SourceClip) (sources : List (FrameSource S)) (new : SourceClip) (last : FrameSource S) → length listed ≡ length sources

@@ -25,11 +25,12 @@ pub record IsIndexOf (bytes : List ℕ) (index : Indexed) (clip : Clip) : Type 0
   pub pictures_are : (n : ℕ) → n < length clip.pictures
       → picture_at clip n ≡ picture_of clip.info.shape (drop (slice_index index.offsets n) bytes)
 
--- a source of the file of this name, with the index of its bytes
+-- a source of the file of this name, with the index of its bytes; it never failed
 pub record IsSourceOf {S : Type 0} (source : Ghosts S) (told : Option World) (name : Text) (it : S) (index : Indexed) : Type 0 where
   pub bytes : InWorld told (λ world. source.bytes it ≡ get world name)
   pub indexed : InWorld told (λ world. (bytes : List ℕ) (clip : Clip) → get world name ≡ Some bytes → Stream bytes clip
       → IsIndexOf bytes index clip)
+  pub unfailed : source.faults it ≡ 0
 
 -- the bytes of the file of this name are a stream of this clip
 pub record IsFileOf (world : World) (name : Text) (clip : Clip) : Type 0 where
@@ -37,7 +38,7 @@ pub record IsFileOf (world : World) (name : Text) (clip : Clip) : Type 0 where
   pub bytes_are : get world name ≡ Some bytes
   pub stream : Stream bytes clip
 
--- a source of the file of this name and info
+-- a source of the file of this name and info; it never failed
 pub record IsOpened {S : Type 0} (source : Ghosts S) (told : Bool) (world : World) (listed : SourceClip) (it : FrameSource S) : Type 0 where
   pub sound : IsIndex it.index
   pub info : it.index.info ≡ listed.info
@@ -45,6 +46,7 @@ pub record IsOpened {S : Type 0} (source : Ghosts S) (told : Bool) (world : Worl
   pub bytes : IsTrue told → source.bytes it.source ≡ get world listed.name
   pub index : IsTrue told → (bytes : List ℕ) (clip : Clip) → get world listed.name ≡ Some bytes → Stream bytes clip
       → IsIndexOf bytes it.index clip
+  pub unfailed : source.faults it.source ≡ 0
 
 -- as many sources as are listed, each of the file that is listed for it
 pub record AreOpened {S : Type 0} (source : Ghosts S) (told : Bool) (world : World) (listed : List SourceClip)

@@ -6,9 +6,9 @@ use std::marker::Brand;
 
 /// Files by name, as `fv_io::Files`, which a host holds. Where they are lent, they know which borrow they hold.
 pub trait HeldFiles {
-    ghost use Rattle.std.specs.Prelude.{◌≡◌, ◌≤◌, ◌+◌, ◌-◌, ◌^◌, min, ℕ, Option, None, IfOk, OnOk, OnErr, IsErrOf};
+    ghost use Rattle.std.specs.Prelude.{◌≡◌, ◌≤◌, ◌+◌, ◌-◌, ℕ, Option, None, IfOk, OnOk, OnErr, IsErrOf};
     ghost use Rattle.std.specs.FinMap.{get};
-    ghost use Rattle.fv_io.specs.Faults.{HasRisen};
+    ghost use Rattle.fv_io.specs.Faults.{with_faults, HasRisen};
     ghost use Rattle.fv_io.specs.World.{World, InWorld};
 
     type Src: Source;
@@ -18,6 +18,9 @@ pub trait HeldFiles {
 
     /// How often they failed, with the faults of the sources that were closed.
     ghost faults: { Self → ℕ };
+
+    /// How many sources were ever fetched.
+    ghost fetched: { Self → ℕ };
 
     /// How many sources were fetched and not closed yet.
     ghost given: { Self → ℕ };
@@ -29,6 +32,8 @@ pub trait HeldFiles {
     fn fetch(&mut self, name: &Text) -> Result<Self::Src, FetchFault>
         ensures given { OnOk result (given self.new ≡ given self.old + 1) }
         ensures not_given { OnErr result (given self.new ≡ given self.old) }
+        ensures fetched { OnOk result (fetched self.new ≡ fetched self.old + 1) }
+        ensures not_fetched { OnErr result (fetched self.new ≡ fetched self.old) }
         ensures start { IfOk result (λ source. Self.Src.place source ≡ 0) }
         ensures fresh { IfOk result (λ source. Self.Src.faults source ≡ 0) }
         ensures told { IfOk result (λ source. InWorld (world self.old) (λ told.
@@ -38,14 +43,15 @@ pub trait HeldFiles {
             InWorld (world self.old) (λ told. get told name.now ≡ None) }
         ensures failed { IsErrOf result FetchFault.Failed → HasRisen (faults self.old) (faults self.new) }
         ensures later { faults self.old ≤ faults self.new }
+        ensures steady { (IsErrOf result FetchFault.Failed → ⊥) → faults self.new ≡ faults self.old }
         ensures world { world self.new ≡ world self.old }
         ensures borrow { borrow self.new ≡ borrow self.old };
 
     /// Closes a source. Its faults count among those of the files from then on.
     fn close(&mut self, source: Self::Src)
         ensures given { given self.new ≡ given self.old - 1 }
-        ensures faults { min (faults self.old + Self.Src.faults source) (2 ^ 64 - 1) ≤ faults self.new }
-        ensures later { faults self.old ≤ faults self.new }
+        ensures fetched { fetched self.new ≡ fetched self.old }
+        ensures faults { faults self.new ≡ with_faults (faults self.old) (Self.Src.faults source) }
         ensures world { world self.new ≡ world self.old }
         ensures borrow { borrow self.new ≡ borrow self.old };
 }
@@ -61,6 +67,8 @@ impl<'f, F: Files> HeldFiles for Lent<'f, F> {
     ghost world = { λ lent. F.world lent.files.now };
 
     ghost faults = { λ lent. F.faults lent.files.now };
+
+    ghost fetched = { λ lent. F.fetched lent.files.now };
 
     ghost given = { λ lent. F.given lent.files.now };
 

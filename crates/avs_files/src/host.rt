@@ -3,6 +3,7 @@ ghost use Rattle.std.specs.Prelude.{◌≡◌, [], ◌+◌, ◌≤◌, length, I
 ghost use Rattle.fv_io.specs.Faults.{HasRisen};
 ghost use Rattle.fv_io.specs.World.{InWorld};
 ghost use Rattle.y4m_stream.specs.Index.{IsIndex};
+ghost use Rattle.avs_state.specs.Hosts.{CountsNone};
 ghost use Rattle.avs_files.specs.Answers.{AnswersClip};
 ghost use Rattle.avs_files.specs.Opened.{told_of, AreOpened, IsSourceOf};
 ghost use Rattle.avs_files.specs.Worlds.{same_world-prop};
@@ -43,6 +44,10 @@ fn open_clip<H: HeldFiles>(
     ensures index { IfOk result (λ opened. IsIndex opened.1) }
     ensures read { IsErrOf result HostFault.Read → HasRisen (H.faults files.old) (H.faults files.new) }
     ensures later { H.faults files.old ≤ H.faults files.new }
+    ensures steady { CountsNone result (H.faults files.old) (H.faults files.new) }
+    ensures fetched { OnOk result (H.fetched files.new ≡ H.fetched files.old + 1) }
+    ensures more { H.fetched files.old ≤ H.fetched files.new }
+    ensures once { H.fetched files.new ≤ H.fetched files.old + 1 }
     ensures given { OnOk result (H.given files.new ≡ H.given files.old + 1) }
     ensures not_given { OnErr result (H.given files.new ≡ H.given files.old) }
     ensures world { H.world files.new ≡ H.world files.old }
@@ -96,6 +101,8 @@ impl<H: HeldFiles, W: Known> Host for FileHost<H, W> {
     ghost scripts = { λ name. script_in (get W.world name) };
 
     ghost opened = { λ host. host.listed.items };
+
+    ghost fetched = { λ host. H.fetched host.files };
 
     ghost faults = { λ host. H.faults host.files };
 

@@ -1,11 +1,11 @@
 // The script of a file.
-ghost use Rattle.std.specs.Prelude.{◌≡◌, ◌≤◌, ◌+◌, ◌^◌, length, Some, IfOk, IsErrOf};
+ghost use Rattle.std.specs.Prelude.{◌≡◌, ◌≤◌, ◌+◌, ◌^◌, length, Some, IfOk, OnOk, IsErrOf};
 ghost use Rattle.std.specs.Option.{ForSome};
 ghost use Rattle.fv_io.specs.Faults.{HasRisen};
-ghost use Rattle.fv_io.specs.Source.{KeepsSource, SourceFailed};
+ghost use Rattle.fv_io.specs.Source.{KeepsSource, IsSteady, SourceFailed};
 ghost use Rattle.avs_values.specs.Outcome.{text_limit};
 ghost use Rattle.avs_meaning.specs.Outside.{script_in};
-ghost use Rattle.avs_state.specs.Hosts.{TellsScript};
+ghost use Rattle.avs_state.specs.Hosts.{TellsScript, CountsNone};
 ghost use Rattle.avs_files.specs.Answers.{AnswersScript};
 
 use crate::files::HeldFiles;
@@ -31,6 +31,7 @@ fn read_into<S: Source>(alloc: Global, source: &mut S, buf: &mut [u8]) -> Result
     ensures told { ForSome (S.bytes source.old) (λ told. TellsScript (script_in (Some told)) result) }
     ensures short { IfOk result (λ text. length text ≤ text_limit) }
     ensures read { IsErrOf result HostFault.Read → SourceFailed S.Source source.old source.new }
+    ensures steady { (IsErrOf result HostFault.Read → ⊥) → IsSteady S.Source source.old source.new }
     ensures keeps { KeepsSource S.Source source.old source.new }
 {
     let Ok(count) = read_full(source, buf) else {
@@ -54,6 +55,7 @@ fn read_source<S: Source>(alloc: Global, source: &mut S) -> Result<Text, HostFau
     ensures told { ForSome (S.bytes source.old) (λ told. TellsScript (script_in (Some told)) result) }
     ensures short { IfOk result (λ text. length text ≤ text_limit) }
     ensures read { IsErrOf result HostFault.Read → SourceFailed S.Source source.old source.new }
+    ensures steady { (IsErrOf result HostFault.Read → ⊥) → IsSteady S.Source source.old source.new }
     ensures keeps { KeepsSource S.Source source.old source.new }
 {
     let Ok(mut buf) = vec![in alloc; 0u8; room()] else {
@@ -72,6 +74,10 @@ pub fn read_script<H: HeldFiles>(
     ensures short { IfOk result (λ text. length text ≤ text_limit) }
     ensures read { IsErrOf result HostFault.Read → HasRisen (H.faults files.old) (H.faults files.new) }
     ensures later { H.faults files.old ≤ H.faults files.new }
+    ensures steady { CountsNone result (H.faults files.old) (H.faults files.new) }
+    ensures fetched { OnOk result (H.fetched files.new ≡ H.fetched files.old + 1) }
+    ensures more { H.fetched files.old ≤ H.fetched files.new }
+    ensures once { H.fetched files.new ≤ H.fetched files.old + 1 }
     ensures given { H.given files.new ≡ H.given files.old }
     ensures world { H.world files.new ≡ H.world files.old }
     ensures borrow { H.borrow files.new ≡ H.borrow files.old }

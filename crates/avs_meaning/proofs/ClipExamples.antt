@@ -1,18 +1,20 @@
 -- Scripts with a clip, each computed: the place of the clip in the plan, how many frames it has, its mode, and the places of
 -- its inputs.
-use Rattle.std.proofs.Common.{◌≡◌, [], ◌∷◌, refl, pos}
-use Rattle.std.specs.Prelude.{codes, false, Option, Some, None}
-use Rattle.avs_tree.specs.Tree.{int, str, name, call, compare, no_args, arg, assign, value, return, while, for, then_, no_more}
+use Rattle.std.proofs.Common.{◌≡◌, ℕ, [], ◌∷◌, refl, pos, Ok}
+use Rattle.std.specs.Prelude.{codes, false, Option, Some, None, if◌then◌else◌}
+use Rattle.avs_tree.specs.Tree.{Block, int, str, name, call, compare, no_args, arg, assign, value, return, while, for, then_, no_more}
 use Rattle.avs_tree.specs.declared.tree.Operator.TheVariants as op
 use Rattle.avs_tree.specs.declared.words.TypeWord.TheVariants as w
 use Rattle.avs_values.specs.Binding.{bind}
+use Rattle.avs_values.specs.Values.{Text, same}
+use Rattle.clip_term.specs.Blank.{default_clip}
 use Rattle.fv_plane.specs.Rate.{gcd}
 use Rattle.avs_meaning.specs.Loops.{is_past, turn}
 use Rattle.avs_meaning.specs.Crews.{Numbers}
 use Rattle.avs_meaning.specs.Expressions.{call_within}
-use Rattle.avs_meaning.specs.Meaning.{Meaning, clip, wrong, to_clip, below}
+use Rattle.avs_meaning.specs.Meaning.{Meaning, clip, wrong, to_clip, below, files_of}
 use Rattle.avs_meaning.specs.Table.{builtins, builtin_of}
-use Rattle.avs_meaning.proofs.ExampleScripts.{script_of, meaning_of, between, dots, shown, seen}
+use Rattle.avs_meaning.proofs.ExampleScripts.{here, script_of, meaning_of, between, dots, shown, seen}
 
 -- BlankClip(length=3, ..)
 a_blank_clip : seen (meaning_of (then_ (value (dots (int (pos 3)) 1)) 1 no_more) 1) ≡ shown 0 3 1 []
@@ -90,3 +92,25 @@ a_crew : crew_in (meaning_of (then_ (value (dots (int (pos 3)) 1)) 1
     ≡ Some (record { threads = 2; frames = Some 5 })
 unfolding to_clip builtin_of builtins bind gcd
 a_crew = refl
+
+-- a call with one text
+abbrev called : Text → Text → ℕ → Block → Block
+called word text line rest = then_ (value (call word (arg None (str text) no_args) line)) line rest
+
+-- The script imports lib.avs twice, which opens a.y4m: one script, two imports and two sources.
+files_counted : files_of (record {
+  clips = λ file. Ok default_clip;
+  scripts = λ file. Ok file;
+  trees = λ text. Ok (if same text here
+      then record {
+        tree = record {
+          functions = [];
+          statements = called (codes "Import") (codes "lib.avs") 1 (called (codes "Import") (codes "lib.avs") 2 no_more);
+        };
+        last_line = 2;
+      }
+      else record { tree = record { functions = []; statements = called (codes "Y4MSource") (codes "a.y4m") 1 no_more }; last_line = 1 });
+}) here
+    ≡ 5
+unfolding to_clip below builtin_of builtins bind gcd
+files_counted = refl

@@ -22,7 +22,7 @@ use Rattle.avs_meaning.specs.Operators.{compared, joined}
 use Rattle.avs_meaning.specs.Outside.{Outside}
 use Rattle.avs_meaning.specs.Rules as r
 use Rattle.avs_meaning.specs.Rules.{is_logical, receiver, retried}
-use Rattle.avs_meaning.specs.State.{State, Defined, Outcome, Run, and_then, ◌>>=◌, variable}
+use Rattle.avs_meaning.specs.State.{State, Defined, Outcome, Run, and_then, ◌>>=◌, imported, variable}
 use Rattle.avs_meaning.specs.Statements.{condition}
 use Rattle.avs_meaning.specs.Texts.{load_short}
 use Rattle.avs_meaning.specs.declared.builtin.Builtin.TheVariants as b
@@ -123,7 +123,7 @@ module _ (outside : Outside) where
   after_script : (n sig : ℕ) → AllBelow outside (suc n) → (here file : Text) (bound : Bound) (line : ℕ) (s : State) (o : Result Text FileKind) → bound.values ≡ v.Text file ∷ [] → outside.scripts file ≡ o
       → r.Performs outside (suc n) here s (builtin b.Import) sig bound line (import_ outside (suc n) (below outside (suc n)) here (v.Text file ∷ []) line s)
   after_script n sig deeper here file bound line s (Ok text) is found =
-      rw (import_called outside n file text here line s found) (r.performs_import is found (some_loads n deeper here file text line s))
+      rw (import_called outside n file text here line s found) (r.performs_import is found (some_loads n deeper here file text line (imported s)))
   after_script n sig deeper here file bound line s (Err kind) is found = rw (import_failed outside n file kind here line s found) (r.import_fails is found)
 
   some_import : (n sig : ℕ) → AllBelow outside n → (here : Text) (values : List Value) (bound : Bound) (line : ℕ) (s : State) → bound.values ≡ values → IsText values

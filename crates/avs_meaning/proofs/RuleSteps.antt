@@ -19,7 +19,7 @@ use Rattle.avs_meaning.specs.Meaning.{below, run}
 use Rattle.avs_meaning.specs.Operators.{truth, truth_of, combined, joined}
 use Rattle.avs_meaning.specs.Outside.{Outside}
 use Rattle.avs_meaning.specs.Rules.{is_logical, receiver, retried, nests}
-use Rattle.avs_meaning.specs.State.{State, Defined, Outcome, Run, and_then, ◌>>=◌, ◌>>◌, pure, lifted, spend}
+use Rattle.avs_meaning.specs.State.{State, Defined, Outcome, Run, and_then, ◌>>=◌, ◌>>◌, pure, lifted, imported, spend}
 use Rattle.avs_meaning.specs.Statements.{condition, chosen, effect_of, arms_of, other_of, block_of}
 use Rattle.avs_meaning.specs.Texts.{load_short}
 use Rattle.avs_meaning.specs.declared.builtin.Builtin.TheVariants as b
@@ -104,7 +104,7 @@ module _ (outside : Outside) where
   eval_called n text here line s = rw (not_zero n)
 
   pub import_called : (n : ℕ) (file text : Text) (here : Text) (line : ℕ) (s : State) → outside.scripts file ≡ Ok text
-      → import_ outside (suc n) (below outside (suc n)) here (v.Text file ∷ []) line s ≡ load_of n here file text line s
+      → import_ outside (suc n) (below outside (suc n)) here (v.Text file ∷ []) line s ≡ load_of n here file text line (imported s)
   unfolding below
   import_called n file text here line s is = rw (not_zero n, is)
 

@@ -14,7 +14,7 @@ use Rattle.avs_meaning.specs.Filters.{info_of, filtered, ranged}
 use Rattle.avs_meaning.specs.Operators.{placed, truth, prefixed, compared, joined}
 use Rattle.avs_meaning.specs.Outside.{Outside}
 use Rattle.avs_meaning.specs.Settings.{set_mode, prefetch}
-use Rattle.avs_meaning.specs.State.{Env, Defined, Run, and_then, ◌>>=◌, ◌>>◌, pure, fails, lifted, lookup, variable}
+use Rattle.avs_meaning.specs.State.{Env, Defined, Run, and_then, ◌>>=◌, ◌>>◌, pure, fails, lifted, imported, lookup, variable}
 use Rattle.avs_meaning.specs.Texts.{load_short}
 use Rattle.avs_meaning.specs.declared.builtin.Builtin.TheVariants as b
 use Rattle.avs_meaning.specs.declared.builtin.ClipFn.{ClipFn}
@@ -26,8 +26,9 @@ eval_name = codes "Eval"
 
 -- in the text of this name
 module _ (here : Text) where
+  -- a script that is read counts as an import
   abbrev pub script_by : Result Text FileKind → ℕ → Run Text
-  script_by (Ok text) line = pure text
+  script_by (Ok text) line = λ s. Ok (text, imported s)
   script_by (Err kind) line = fails (k.File kind) here line
 
   abbrev pub told : ClipFn → List Value → ℕ → Run Value

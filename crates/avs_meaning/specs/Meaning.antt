@@ -1,10 +1,10 @@
 -- What a script means: a clip, or why there is none.
-use Rattle.std.specs.Prelude.{ℕ, zero, suc, List, [], Option, None, Result, Ok, Err}
+use Rattle.std.specs.Prelude.{ℕ, zero, suc, ◌+◌, List, [], Option, None, Result, Ok, Err}
 use Rattle.avs_tree.specs.Tree.{Block}
 use Rattle.avs_values.specs.Values.{Text}
 use Rattle.avs_values.specs.declared.value.Value.{Value}
 use Rattle.avs_values.specs.declared.value.Value.TheVariants as v
-use Rattle.clip_graph.specs.Plan.{Application}
+use Rattle.clip_graph.specs.Plan.{Application, sources_in}
 use Rattle.mt_modes.specs.Modes.{no_modes}
 use Rattle.avs_meaning.specs.Crews.{Numbers}
 use Rattle.avs_meaning.specs.Faults.{Fault, script}
@@ -40,6 +40,7 @@ start = record {
   crew = None;
   plan = [];
   opened = [];
+  imports = 0;
   units = step_limit;
 }
 
@@ -77,3 +78,26 @@ script_meaning (Err kind) outside here = wrong (script (k.File kind) here 0)
 -- the script of this name
 abbrev pub meaning : Outside → Text → Meaning
 meaning outside name = script_meaning (outside.scripts name) outside name
+
+-- ---- how many files a script reads
+
+abbrev pub imports_by : Outcome ℕ → ℕ
+imports_by (Ok ended) = ended.1.imports
+imports_by (Err fault) = 0
+
+-- how often a text imports a script, as the script of this name, where it has a clip
+abbrev pub text_imports : Outside → Text → Text → ℕ
+text_imports outside here text = imports_by (executed outside here text start)
+
+-- the script itself, each script that it imports as often as it does, and a file for each source of its plan
+abbrev pub files_by : Meaning → ℕ → ℕ
+files_by (clip plan root crew) imports = 1 + imports + sources_in plan
+files_by (wrong fault) imports = 0
+
+abbrev pub script_files : Result Text FileKind → Outside → Text → ℕ
+script_files (Ok text) outside here = files_by (text_meaning outside here text) (text_imports outside here text)
+script_files (Err kind) outside here = 0
+
+-- how many files the script of this name reads, where it has a clip
+abbrev pub files_of : Outside → Text → ℕ
+files_of outside name = script_files (outside.scripts name) outside name

@@ -23,7 +23,7 @@ use Rattle.avs_meaning.specs.Loops.{Flow, on, back, ends, is_past, advance, numb
 use Rattle.avs_meaning.specs.Operators.{placed, truth, prefixed, compared, combined}
 use Rattle.avs_meaning.specs.Outside.{Outside}
 use Rattle.avs_meaning.specs.Settings.{set_mode, prefetch}
-use Rattle.avs_meaning.specs.State.{State, Defined, Outcome, and_then, ◌>>◌, pure, lifted, spend, lookup, with, variable, set, set_global}
+use Rattle.avs_meaning.specs.State.{State, Defined, Outcome, and_then, ◌>>◌, pure, lifted, imported, spend, lookup, with, variable, set, set_global}
 use Rattle.avs_meaning.specs.Statements.{sets_last, settled}
 use Rattle.avs_meaning.specs.Texts.{load_short}
 use Rattle.avs_meaning.specs.declared.builtin.Builtin.TheVariants as b
@@ -229,7 +229,7 @@ module _ (outside : Outside) where
           → args.values ≡ v.Text text ∷ [] → Loads n here s eval_name text line out
           → Performs (suc n) here s (builtin b.Eval) sig args line out
       performs_import : {n line sig : ℕ} {here file text : Text} {s : State} {args : Bound} {out : Outcome Value}
-          → args.values ≡ v.Text file ∷ [] → outside.scripts file ≡ Ok text → Loads n here s file text line out
+          → args.values ≡ v.Text file ∷ [] → outside.scripts file ≡ Ok text → Loads n here (imported s) file text line out
           → Performs (suc n) here s (builtin b.Import) sig args line out
       import_fails : {n line sig : ℕ} {here file : Text} {s : State} {args : Bound} {kind : FileKind}
           → args.values ≡ v.Text file ∷ [] → outside.scripts file ≡ Err kind

@@ -1,5 +1,5 @@
 -- The state of a run, and what a run gives: a value and the next state, or a fault.
-use Rattle.std.specs.Prelude.{ℕ, zero, suc, List, [], ◌∷◌, ◌++◌, Option, Some, None, Result, Ok, Err, if◌then◌else◌}
+use Rattle.std.specs.Prelude.{ℕ, zero, suc, ◌+◌, List, [], ◌∷◌, ◌++◌, Option, Some, None, Result, Ok, Err, if◌then◌else◌}
 use Rattle.avs_tree.specs.Tree as tree
 use Rattle.avs_values.specs.Values.{Text, same}
 use Rattle.avs_values.specs.declared.value.Value.{Value}
@@ -33,6 +33,8 @@ pub record State : Type 0 where
   pub plan : List Application
   -- the clips that were opened, in order
   pub opened : List SourceClip
+  -- how many scripts were read by Import
+  pub imports : ℕ
   -- how many statements and turns of loops are left
   pub units : ℕ
 
@@ -65,6 +67,12 @@ fails kind here line = λ s. Err (script kind here line)
 abbrev pub lifted : {X : Type 0} → Result X Fault → Run X
 lifted (Ok x) = pure x
 lifted (Err fault) = λ s. Err fault
+
+-- ---- imports
+
+-- one more script was read
+abbrev pub imported : State → State
+imported s = record s { imports = s.imports + 1 }
 
 -- ---- units
 

@@ -1,5 +1,5 @@
 // The state of a run.
-ghost use Rattle.std.specs.Prelude.{◌≡◌, Some, ◌∷◌, ◌++◌, ◌<◌, [], length, map, IfOk, Ok, OnOk, option_map};
+ghost use Rattle.std.specs.Prelude.{◌≡◌, ◌↔◌, IsTrue, ◌+◌, ◌^◌, Some, ◌∷◌, ◌++◌, ◌<◌, [], length, map, IfOk, Ok, OnOk, option_map};
 ghost use Rattle.std.specs.List.{All};
 ghost use Rattle.fv_plane.specs.Info.{IsLawful};
 ghost use Rattle.avs_tree.specs.View.{function_view};
@@ -13,7 +13,7 @@ ghost use Rattle.avs_meaning.specs.Settings as w;
 ghost use Rattle.avs_meaning.specs.State as d;
 ghost use Rattle.avs_state.specs.Answers.{Gives};
 ghost use Rattle.avs_state.specs.Sources.{source_of, sources_of, Lists};
-ghost use Rattle.avs_state.specs.States.{state_of, defined_view};
+ghost use Rattle.avs_state.specs.States.{state_of, defined_view, AsksNothing};
 
 use crate::variables::{set_in, value_in};
 use crate::{ByName, Definition, fault_at};
@@ -30,7 +30,7 @@ use std::alloc::{AllocError, Global};
 use std::rc::Rc;
 
 /// The state of a run: variables, functions, the modes that were set, the workers that were asked for, the graph of the
-/// clips, the sources that were opened, and the units that are left.
+/// clips, the sources that were opened, how many scripts were imported, and the units that are left.
 #[derive(Drop)]
 pub struct Machine {
     env: ByName<Variable>,
@@ -40,6 +40,7 @@ pub struct Machine {
     crew: Option<Crew>,
     plan: Graph,
     opened: Vec<SourceClip>,
+    imports: u64,
     units: u32,
 }
 
@@ -77,6 +78,7 @@ impl Machine {
             crew: None,
             plan: Graph::new(alloc),
             opened: Vec::new(alloc),
+            imports: 0,
             units: 1_000_000,
         }
     }
@@ -109,7 +111,7 @@ impl Machine {
     #[tactic(auto, unfolding(crate::specs::States::state_of))]
     pub fn spend(&mut self, alloc: Global, here: &Text, line: u32) -> Result<(), ScriptStop>
         ensures gives { Gives (λ u. u) (d.spend here.now line (state_of self.old)) result (state_of self.new) }
-        ensures opened { (state_of self.new).opened ≡ (state_of self.old).opened }
+        ensures asks { AsksNothing self.old self.new }
         ensures sources { OnOk result (sources_of (state_of self.new).plan ≡ sources_of (state_of self.old).plan) }
     {
         if self.units == 0 {
@@ -117,6 +119,23 @@ impl Machine {
         }
         self.units -= 1;
         Ok(())
+    }
+
+    /// Whether the count of imports, of 64 bits, has room for one more.
+    #[tactic(auto, unfolding(crate::specs::States::state_of))]
+    pub fn can_import(&self) -> bool
+        ensures { IsTrue result ↔ ((state_of self.now).imports + 1 < 2 ^ 64) }
+    {
+        self.imports < u64::MAX
+    }
+
+    /// Counts a script that was imported.
+    #[tactic(auto, unfolding(crate::specs::States::state_of))]
+    pub fn count_import(&mut self)
+        requires { (state_of self.old).imports + 1 < 2 ^ 64 }
+        ensures { state_of self.new ≡ d.imported (state_of self.old) }
+    {
+        self.imports += 1;
     }
 
     /// The value of a variable of the function that runs.
@@ -149,7 +168,7 @@ impl Machine {
     #[tactic(auto, unfolding(crate::specs::States::state_of))]
     pub fn set(&mut self, alloc: Global, name: &Text, value: Value) -> Result<(), ScriptStop>
         ensures gives { Gives (λ u. u) (d.set name.now value (state_of self.old)) result (state_of self.new) }
-        ensures opened { (state_of self.new).opened ≡ (state_of self.old).opened }
+        ensures asks { AsksNothing self.old self.new }
         ensures sources { OnOk result (sources_of (state_of self.new).plan ≡ sources_of (state_of self.old).plan) }
     {
         set_in(alloc, &mut self.env, name, value)?;
@@ -160,7 +179,7 @@ impl Machine {
     #[tactic(auto, unfolding(crate::specs::States::state_of))]
     pub fn set_global(&mut self, alloc: Global, name: &Text, value: Value) -> Result<(), ScriptStop>
         ensures gives { Gives (λ u. u) (d.set_global name.now value (state_of self.old)) result (state_of self.new) }
-        ensures opened { (state_of self.new).opened ≡ (state_of self.old).opened }
+        ensures asks { AsksNothing self.old self.new }
         ensures sources { OnOk result (sources_of (state_of self.new).plan ≡ sources_of (state_of self.old).plan) }
     {
         set_in(alloc, &mut self.globals, name, value)?;
@@ -198,7 +217,7 @@ impl Machine {
     ) -> Result<(), ScriptStop>
         ensures gives { Gives (λ u. u) (d.define (function_view function) here.now (state_of self.old)) result
             (state_of self.new) }
-        ensures opened { (state_of self.new).opened ≡ (state_of self.old).opened }
+        ensures asks { AsksNothing self.old self.new }
         ensures sources { OnOk result (sources_of (state_of self.new).plan ≡ sources_of (state_of self.old).plan) }
     {
         match self.find(alloc, &function.name)? {
@@ -223,7 +242,7 @@ impl Machine {
     ) -> Result<(), ScriptStop>
         ensures gives { Gives (λ u. u) (d.define_all (map function_view functions.items) here.now (state_of self.old))
             result (state_of self.new) }
-        ensures opened { (state_of self.new).opened ≡ (state_of self.old).opened }
+        ensures asks { AsksNothing self.old self.new }
         ensures sources { OnOk result (sources_of (state_of self.new).plan ≡ sources_of (state_of self.old).plan) }
     {
         for function in functions {
@@ -264,7 +283,7 @@ impl Machine {
         requires counted { IsCounted (act_of op) (sources_in (state_of self.old).plan) mode }
         ensures gives { Gives (λ v. v) (f.add here.now (act_of op) inputs.now info mode line (state_of self.old)) result
             (state_of self.new) }
-        ensures opened { (state_of self.new).opened ≡ (state_of self.old).opened }
+        ensures asks { AsksNothing self.old self.new }
         ensures sources { OnOk result (sources_of (state_of self.new).plan
             ≡ sources_of (state_of self.old).plan ++ source_of (act_of op)) }
     {
@@ -292,7 +311,7 @@ impl Machine {
             (mode_in (state_of self.old).modes filter) }
         ensures gives { Gives (λ v. v) (f.made here.now filter (act_of op) inputs.now line (state_of self.old)) result
             (state_of self.new) }
-        ensures opened { (state_of self.new).opened ≡ (state_of self.old).opened }
+        ensures asks { AsksNothing self.old self.new }
         ensures sources { OnOk result (sources_of (state_of self.new).plan
             ≡ sources_of (state_of self.old).plan ++ source_of (act_of op)) }
     {
@@ -322,7 +341,7 @@ impl Machine {
     ) -> Result<Value, ScriptStop>
         ensures gives { Gives (λ v. v) (w.set_mode_of here.now name.now mode force line (state_of self.old)) result
             (state_of self.new) }
-        ensures opened { (state_of self.new).opened ≡ (state_of self.old).opened }
+        ensures asks { AsksNothing self.old self.new }
         ensures plan { (state_of self.new).plan ≡ (state_of self.old).plan }
     {
         match self.modes.set(name, mode, force) {
@@ -345,9 +364,10 @@ impl Machine {
     // Lists a clip that was opened.
     #[tactic(auto, unfolding(crate::specs::States::state_of))]
     fn list(&mut self, alloc: Global, name: &Text, info: Info) -> Result<(), AllocError>
-        ensures { OnOk result (state_of self.new ≡ record (state_of self.old) {
+        ensures listed { OnOk result (state_of self.new ≡ record (state_of self.old) {
           opened = (state_of self.old).opened ++ record { name = name.now; info = info } ∷ [];
         }) }
+        ensures imports { (state_of self.new).imports ≡ (state_of self.old).imports }
     {
         let name = Text::from_str(alloc, name.as_str())?;
         self.opened.push(SourceClip { name, info })?;
@@ -368,6 +388,7 @@ impl Machine {
             (state_of self.new) }
         ensures opened { OnOk result ((state_of self.new).opened
             ≡ (state_of self.old).opened ++ record { name = name.now; info = info } ∷ []) }
+        ensures imports { (state_of self.new).imports ≡ (state_of self.old).imports }
         ensures listed { Lists self.old result self.new }
     {
         self.list(alloc, name, info)?;

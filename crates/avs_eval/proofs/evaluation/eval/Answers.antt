@@ -1,6 +1,9 @@
 -- The stop of the run is the script's fault.
-use Rattle.std.proofs.Common.{◌≡◌, Err, subst, rules}
-use Rattle.avs_meaning.specs.Meaning.{executed}
+use Rattle.std.proofs.Common.{◌≡◌, ◌∙◌, Ok, Err, sym, ap, subst, rules}
+use Rattle.avs_meaning.specs.Meaning.{executed, imports_by}
+use Rattle.avs_meaning.specs.State.{State}
+use Rattle.avs_state.specs.States.{state_of}
+use Rattle.avs_eval.proofs.Kept.{all_fetched}
 use Rattle.avs_state.specs.Hosts.{Fails}
 use Rattle.avs_eval.specs.OutsideBy.{outside_by}
 use Rattle.avs_eval.proofs.RunLemmas.{stop_shows}
@@ -13,3 +16,14 @@ returns-in_err-root-clause-told g c = λ told.
     let is : c.from_residual-in_err-root.result ≡ Err stop = search rules in
     rw is (stop_shows _ stop
     (subst (λ s. Fails (executed outside c.args.name.now c.args.text.now s) stop) c.new-machine.ensures (c.in_err-root.ensures.told told)))
+
+pub returns-clause-fetched : goal.returns-clause-fetched
+returns-clause-fetched g c = λ told.
+    let outside = outside_by g.H.Host.clips g.H.Host.scripts in
+    let kept = c.in_ok-root.ensures.kept in
+    let first = state_of c.new-machine.result in
+    let last = state_of c.execute.new.machine in
+    let run : executed outside c.args.name.now c.args.text.now first ≡ Ok (c.in_ok-root.root, last) = c.in_ok-root.ensures.told told in
+    let counted = ap imports_by (sym (ap (executed outside c.args.name.now c.args.text.now) c.new-machine.ensures) ∙ run) in
+    all_fetched (g.H.Host.fetched c.args.host.now) (g.H.Host.fetched c.execute.new.host) _ first last (g.H.Host.opened c.execute.new.host) c.new-machine.ensures
+    (kept.given (ap (λ (s : State). s.opened) c.new-machine.ensures ∙ sym c.requires.none)) counted kept.fetched

@@ -16,6 +16,7 @@ returns-in-Ok-index-clause-is g c = record {
   indexed = λ world is bytes clip file stream.
       let opened = c.in-Ok-index.ensures.found bytes (c.in-Ok.ensures.told world is ∙ file) in
       index_of bytes c.in-Ok-index.index opened.0 clip opened.1 stream;
+  unfailed = c.index.ensures.steady (λ bad. let no : ⊥ = cc in no) ∙ c.in-Ok.ensures.fresh;
 }
 
 pub returns-in-Y4m-clause-told : goal.returns-in-Y4m-clause-told

@@ -19,6 +19,8 @@ returns-in_default-clause-kept g c =
       given = search rules;
       listed = search rules;
       later = search rules;
-      read = unread (λ v. v) (filtered c.args.self.now.here.now outside c.args.applied c.args.signature (bound_view c.args.given.now) c.args.line (state_of c.args.machine.now))
+      more = search rules;
+      faults = unread (λ v. v) (filtered c.args.self.now.here.now outside c.args.applied c.args.signature (bound_view c.args.given.now) c.args.line (state_of c.args.machine.now))
           c.filter.result (state_of c.filter.new.machine) (g.H.Host.faults c.args.host.now) (c.filter.ensures.gives outside);
+      fetched = search rules;
     }
