@@ -34,21 +34,23 @@ use Rattle.serve_core.specs.Kept.{leases_out}
 use Rattle.serve_core.specs.Runs.{keys_alone, opening_of, state_of, IsRun}
 use Rattle.serve_core.specs.Sources.{shape_at, HoldTheirs}
 use Rattle.serve_core.specs.Stands.{Book, Stands, StopFits, EndShows}
+use Rattle.serve_core.specs.Steady.{IsSteady, TurnsAreSteady}
 use Rattle.serve_core.specs.Turns.{StandsFor}
 use Rattle.serve_core.specs.Workers.{told_holdings}
 use Rattle.serve_core.proofs.ClosedLemmas.{workers_tell}
 use Rattle.serve_core.proofs.Standing.{calls_stand}
 use Rattle.serve_core.proofs.StepLemmas.{keys_again}
+use Rattle.serve_core.proofs.SteadyLemmas.{turns_are_steady}
 use Rattle.serve_shared.specs.Seats.{CoreSeat, HasWorker}
 use Rattle.serve_shared.specs.Shares.{DeliversAll, IsWork}
-use Rattle.serve_worker.specs.Alone.{held_in}
+use Rattle.serve_worker.specs.Alone.{AllFree, held_in, counts_in}
 use Rattle.serve_worker.proofs.Tables.{all_free}
 use Rattle.prefetch.specs.Crew.{HasWorked, MayGather, IsGathered, IsNew, WorkIsDone, IsCrewWindow, IsCutCrew}
 use Rattle.prefetch.specs.CrewJournal.{crew_machine, IsWholeWindow, IsCutWindow}
 use Rattle.prefetch.specs.OneWindow.{WindowEnds}
 use Rattle.prefetch.specs.Windows.{frames_at, Stays}
 use Rattle.serve_shared.proofs.CallerLemmas.{entries_own, work_grows}
-use Rattle.prefetch.proofs.HeldLemmas.{held_again}
+use Rattle.prefetch.proofs.HeldLemmas.{held_again, counts_again}
 use Rattle.prefetch.proofs.WindowLemmas.{ended_stays, window_delivered, window_stopped}
 use Rattle.prefetch.proofs.WorkLemmas.{first_or_later, failure_of, read_by, changed_by, named_by, whole_work, work_closed, work_delivered}
 
@@ -65,6 +67,7 @@ module _ {I : Type 0} (feed : I → Option (List Picture)) (faults : I → ℕ) 
           right = λ book numbers v. (calls_stand feed faults).fail book numbers s 0 Memory v tt;
           ended = λ w why h. none_shown w why (subst (λ es. Contains es (Fail w why)) journal h);
         };
+        steady = let law : TurnsAreSteady faults = turns_are_steady faults in law.fail s s 0 Memory;
         work = λ w less. subst (λ es. IsWork s.fixed.plan s.fixed.root s.fixed.count w es (own_events w es)) (sym journal) (dite (ℕ_discrete 0 w)
             (λ e. subst (λ v. IsWork s.fixed.plan s.fixed.root s.fixed.count v (Fail 0 Memory ∷ []) (own_events v (Fail 0 Memory ∷ []))) e (inr (Memory, inl (failed (untaken none)))))
             (λ ne. rw (ne_eqb 0 w ne) (inl (record { outputs = []; delivered = none; all = λ bad. absurd (cc) }))));
@@ -148,11 +151,13 @@ module _ {I : Type 0} (plan : List Application) (lock : TableId) (limit : ℕ) (
 
 pub closed_done : {I : Type 0} (feed : I → Option (List Picture)) (faults : I → ℕ) (ends : I → ℕ → ℕ → ℕ → Type 0) (lock : TableId) (limit : ℕ) (s c : CoreValue I) (others : ℕ) (later : CoreSeat I) → IsGathered s.fixed.plan others (first_seat lock limit s) later
     → All (λ x. IsPrefix x.seen c.journal) later.ended → All (λ x. entries_of worker_of x.number c.journal ≡ x.entries) later.ended → entries_of worker_of later.number c.journal ≡ later.own
-    → ((n : ℕ) → later.next ≤ n → entries_of worker_of n c.journal ≡ []) → IfSome later.tag (StandsFor feed faults ends c) → WorkIsDone feed faults ends s c
-closed_done feed faults ends lock limit s c others later gathered seen same own none' stands = record {
-  stands = subst (λ tag. IfSome tag (StandsFor feed faults ends c)) gathered.tag stands;
-  work = λ w less. of_each s.fixed.plan lock limit s others later gathered c.journal seen same own none' w;
-}
+    → ((n : ℕ) → later.next ≤ n → entries_of worker_of n c.journal ≡ []) → IfSome later.tag (λ z. StandsFor feed faults ends c z × IsSteady faults c z) → WorkIsDone feed faults ends s c
+closed_done feed faults ends lock limit s c others later gathered seen same own none' stands =
+    let both : StandsFor feed faults ends c s × IsSteady faults c s = subst (λ tag. IfSome tag (λ z. StandsFor feed faults ends c z × IsSteady faults c z)) gathered.tag stands in record {
+      stands = both.0;
+      steady = both.1;
+      work = λ w less. of_each s.fixed.plan lock limit s others later gathered c.journal seen same own none' w;
+    }
 
 -- THE WINDOW
 
@@ -232,12 +237,17 @@ module _ {I : Type 0} (holds : I → Option Info) (feed : I → Option (List Pic
         let held = held_again holds c.fixed.plan c.table c2.table places (all_free c.table unlent) differ theirs free differ' (subst (λ (z : Fixed). HoldTheirs holds z.plan c2.table) fixed theirs') in
         ended_stays holds feed faults ends c c1 c2 d first count plan begins worked.stands.fixed ends_it none_open.0 free (held ∙ sym (ap (λ (z : CoreValue I). held_in holds z.table) begins))
 
+    steady : c2.stop ≡ None → counts_in faults c2.table ≡ counts_in faults c1.table
+    steady running =
+        counts_again faults c1.table c2.table worked.stands.places (subst (λ (z : CoreValue I). AllFree z.table) (sym begins) (all_free c.table unlent)) (subst (λ (z : CoreValue I). PlacesDiffer z.table) (sym begins) differ)
+        (all_free c2.table none_open.1) differ' (worked.steady.counts running)
+
     ends_by : (o : Option WindowStop) → finished.stop ≡ o → WindowEnds holds feed faults ends c (IsCrewWindow c first count) (IsCutCrew c first count) first count finished o d
     ends_by None is =
         let running = sym stopped ∙ is in
         let several : 0 < c2.fixed.workers = subst (λ (z : Fixed). 0 < z.workers) (sym fixed) some in
         let whole = subst (λ (z : Fixed × List Place). IsWholeWindow z.0.plan z.0.root z.0.capacity z.0.workers z.1 (keys_alone z.0.opening) (record { first = z.0.first; count = z.0.count; events = c2.journal }) state) (λ i. (fixed i, places i)) (whole_run (sym stop ∙ stopped) running several) in (
-          window_delivered holds feed faults ends c c1 c2 d first count plan begins worked.stands.fixed ends_it finished stays worked.stands.right frames size shapes (λ j less. delivered (sym stop ∙ stopped) running several j (subst (λ (z : Fixed). j < z.count) (sym fixed) less)),
+          window_delivered holds feed faults ends c c1 c2 d first count plan begins worked.stands.fixed ends_it finished stays worked.stands.right frames size shapes (steady (sym stop ∙ is)) (λ j less. delivered (sym stop ∙ stopped) running several j (subst (λ (z : Fixed). j < z.count) (sym fixed) less)),
           record {
             state = state;
             whole = subst (λ es. IsWholeWindow c.fixed.plan c.fixed.root c.fixed.capacity c.fixed.workers (keys_of c.table) (keys_alone (keys_of c.cache)) (record { first = first; count = count; events = es }) state) (sym events) whole;

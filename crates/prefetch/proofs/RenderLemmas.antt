@@ -42,10 +42,11 @@ module _ {I : Type 0} (holds : I → Option Info) (feed : I → Option (List Pic
   keeps_first between unclaimed free = record {
     stays = record { between = between; plan = refl; root = refl; workers = refl; capacity = refl; unclaimed = unclaimed; free = free; held = refl };
     stands = λ book numbers s. record { numbers = numbers; stands = s; with_it = tt };
+    steady = refl;
   }
 
   pub keeps_on : (d e : CoreValue I) → Keeps holds feed faults ends c d → Keeps holds feed faults ends d e → Keeps holds feed faults ends c e
-  keeps_on d e a b = record { stays = stays_on d e a.stays b.stays; stands = λ book numbers s. let one = a.stands book numbers s in b.stands book one.numbers one.stands }
+  keeps_on d e a b = record { stays = stays_on d e a.stays b.stays; stands = λ book numbers s. let one = a.stands book numbers s in b.stands book one.numbers one.stands; steady = b.steady ∙ a.steady }
 
   -- a window that ended is put, or is not
   module _ (IsWhole : List Event → CoreValue I → Type 0) (IsCut : WindowStop → List Event → Type 0) (first count : ℕ) (d : CoreValue I) (finished : Finished)
@@ -143,7 +144,7 @@ module _ {I : Type 0} (holds : I → Option Info) (feed : I → Option (List Pic
     -- all windows
     pub renders_all : {IsWhole : List WindowEvents → Type 0} (here : K) (d : CoreValue I) (n : ℕ) (log : List WindowEvents) → n ≡ frames_at c.fixed.plan c.fixed.root → Keeps holds feed faults ends c d → PutsFirst holds feed faults ends c sink old here n → IsWhole log
         → AllRendered holds feed faults ends c sink old here IsWhole log d
-    renders_all here d n log all kept p whole = record { stays = kept.stays; put = subst (PutsFirst holds feed faults ends c sink old here) all p; journal = whole }
+    renders_all here d n log all kept p whole = record { stays = kept.stays; put = subst (PutsFirst holds feed faults ends c sink old here) all p; journal = whole; steady = kept.steady }
 
     module _ (here there : K) (d e : CoreValue I) (n count : ℕ) (kept : Keeps holds feed faults ends c d) where
       module _ (finished : Finished) (w : WindowDelivered holds feed faults ends d n count finished e) where

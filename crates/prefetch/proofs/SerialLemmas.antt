@@ -65,7 +65,7 @@ module _ {I : Type 0} (holds : I → Option Info) (feed : I → Option (List Pic
         let same : serial_window c.fixed.plan c1.fixed.root c1.fixed.capacity (keys_of c1.cache) c1.fixed.first count ≡ window_of c first count = ap (λ (z : CoreValue I). serial_window c.fixed.plan z.fixed.root z.fixed.capacity (keys_of z.cache) z.fixed.first count) begins in
         let stays = ended_stays holds feed faults ends c c1 c2 d first count plan begins ok.fixed ends_it ok.claims ok.free ok.held in
         subst (λ s. WindowEnds holds feed faults ends c (IsSerialWindow c first count) (IsCutSerial c) first count finished s d) (sym running) (
-          window_delivered holds feed faults ends c c1 c2 d first count plan begins ok.fixed ends_it finished stays (λ book numbers s. (ok.right book numbers s).0) frames size shapes ok.delivered,
+          window_delivered holds feed faults ends c c1 c2 d first count plan begins ok.fixed ends_it finished stays (λ book numbers s. (ok.right book numbers s).0) frames size shapes ok.steady ok.delivered,
           record {
             events_are = events ∙ (ok.journal ∙ (ap (λ (z : CoreValue I). z.journal ++ (serial_window c.fixed.plan c1.fixed.root c1.fixed.capacity (keys_of c1.cache) c1.fixed.first count).events) begins ∙ ap (λ (s : Serial). s.events) same));
             keys_are = ap (λ (z : CoreValue I). keys_of z.cache) ends_it ∙ (ok.keys ∙ ap (λ (s : Serial). s.keys) same);

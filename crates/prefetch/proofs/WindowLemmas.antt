@@ -15,7 +15,7 @@ use Rattle.serve_core.specs.CoreValue.{CoreValue, Fixed}
 use Rattle.serve_core.specs.Sources.{shape_at, faults_of}
 use Rattle.serve_core.specs.Stands.{Book, Stands, StopFits, EndShows, CallsStand}
 use Rattle.serve_core.proofs.Standing.{calls_stand}
-use Rattle.serve_worker.specs.Alone.{AllFree, held_in}
+use Rattle.serve_worker.specs.Alone.{AllFree, held_in, counts_in}
 use Rattle.prefetch.specs.Clips.{pictures_from}
 use Rattle.prefetch.specs.OneWindow.{WindowDelivered, WindowStopped}
 use Rattle.prefetch.specs.Windows.{given, Stays}
@@ -70,11 +70,15 @@ module _ {I : Type 0} (holds : I → Option Info) (feed : I → Option (List Pic
     held = held ∙ ap (λ (z : CoreValue I). held_in holds z.table) begins;
   })
 
+  -- the instances have failed as often as before the window, where they did in it
+  pub ended_steady : counts_in faults c2.table ≡ counts_in faults c1.table → counts_in faults d.table ≡ counts_in faults c.table
+  ended_steady steady = ap (λ (z : CoreValue I). counts_in faults z.table) ends_it ∙ (steady ∙ ap (λ (z : CoreValue I). counts_in faults z.table) begins)
+
   module _ (finished : Finished) (stays : Stays holds c d) (right : (book : Book) (numbers : List ℕ) → Stands feed faults book numbers c1 → Stands feed faults book numbers c2)
       (frames : finished.frames.items ≡ c2.outputs.frames) (size : length finished.frames.items ≡ c2.fixed.count)
       (shapes : (j : ℕ) (x : Picture) → slice_get finished.frames.items j ≡ Some (Some x) → x.shape ≡ shape_at c2.fixed.plan c2.fixed.root) where
-    pub window_delivered : ((j : ℕ) → j < count → (x : Picture) × (slice_get c2.outputs.frames j ≡ Some (Some x))) → WindowDelivered holds feed faults ends c first count finished d
-    window_delivered delivered =
+    pub window_delivered : counts_in faults c2.table ≡ counts_in faults c1.table → ((j : ℕ) → j < count → (x : Picture) × (slice_get c2.outputs.frames j ≡ Some (Some x))) → WindowDelivered holds feed faults ends c first count finished d
+    window_delivered steady delivered =
         let many : length finished.frames.items ≡ count = size ∙ ap (λ z. z.count) fixed in
         let all : (j : ℕ) → j < length finished.frames.items → (x : Picture) × (slice_get finished.frames.items j ≡ Some (Some x)) = λ j less. let one = delivered j (omega arith) in (one.0, ap (λ l. slice_get l j) frames ∙ one.1) in
         record {
@@ -83,7 +87,7 @@ module _ {I : Type 0} (holds : I → Option Info) (feed : I → Option (List Pic
           right = λ b numbers s.
               let last = right (Some b) counts (begun_stands (Some b) numbers s) in
               given_right b c.fixed.plan c.fixed.root finished.frames.items first all (λ j x h. last.outputs j x (ap (λ l. slice_get l j) (sym frames) ∙ h) b refl ∙ ap (λ (z : Fixed). key_picture b z.plan (frame_key z.root (z.first + j))) fixed) ∙ ap (pictures_from b c.fixed.plan c.fixed.root first) many;
-          keeps = record { stays = stays; stands = λ book numbers s. record { numbers = counts; stands = ended_stands book counts (right book counts (begun_stands book numbers s)); with_it = tt } };
+          keeps = record { stays = stays; stands = λ book numbers s. record { numbers = counts; stands = ended_stands book counts (right book counts (begun_stands book numbers s)); with_it = tt }; steady = ended_steady steady };
         }
 
   pub window_stopped : (why : WindowStop) → Stays holds c d → ((book : Book) (numbers : List ℕ) → Stands feed faults book numbers c1 → Stands feed faults book numbers c2 × StopFits feed faults book numbers c.fixed.plan c2.table why)

@@ -12,6 +12,7 @@ use Rattle.serve_events.specs.Windows.{WindowEvents}
 use Rattle.serve_machine.specs.State.{State}
 use Rattle.serve_core.specs.CoreValue.{CoreValue}
 use Rattle.serve_core.specs.Runs.{keys_alone}
+use Rattle.serve_core.specs.Steady.{IsSteady}
 use Rattle.serve_core.specs.Turns.{StandsFor}
 use Rattle.serve_shared.specs.Seats.{CoreSeat, HasWorker, IsSeat}
 use Rattle.serve_shared.specs.Shares.{IsWork}
@@ -74,6 +75,7 @@ module _ {I : Type 0} where
   pub record WorkIsDone (feed : I → Option (List Picture)) (faults : I → ℕ) (ends : I → ℕ → ℕ → ℕ → Type 0)
       (s c : CoreValue I) : Type 0 where
     pub stands : StandsFor feed faults ends c s
+    pub steady : IsSteady faults c s
     pub work : (w : ℕ) → w < s.fixed.workers
         → IsWork s.fixed.plan s.fixed.root s.fixed.count w c.journal (own_events w c.journal)
 

@@ -12,6 +12,7 @@ use Rattle.serve_core.specs.declared.answers.Finished.{Finished}
 use Rattle.serve_core.specs.CoreValue.{CoreValue}
 use Rattle.serve_core.specs.Sources.{shape_at}
 use Rattle.serve_core.specs.Stands.{Book, Stands, StopFits, EndShows}
+use Rattle.serve_worker.specs.Alone.{counts_in}
 use Rattle.prefetch.specs.declared.stops.RenderStop.{RenderStop}
 use Rattle.prefetch.specs.declared.stops.RenderStop.TheVariants.{Stopped, Write, Memory}
 use Rattle.prefetch.specs.Clips.{pictures_from}
@@ -42,11 +43,12 @@ module _ {K : Type 0} (sink : Ghosts K) (old new : K) where
 
 module _ {I : Type 0} (holds : I → Option Info) (feed : I → Option (List Picture)) (faults : I → ℕ)
     (ends : I → ℕ → ℕ → ℕ → Type 0) (c : CoreValue I) where
-  -- a core between windows, which stands for what c stood
+  -- a core between windows, which stands for what c stood, and in which each instance has failed as often as in c
   pub record Keeps (d : CoreValue I) : Type 0 where
     pub stays : Stays holds c d
     pub stands : (book : Book) (numbers : List ℕ) → Stands feed faults book numbers c
         → StandsStill feed faults (λ now. Unit {0}) book d
+    pub steady : counts_in faults d.table ≡ counts_in faults c.table
 
   -- all outputs of a window are delivered
   pub record WindowDelivered (first count : ℕ) (finished : Finished) (d : CoreValue I) : Type 0 where

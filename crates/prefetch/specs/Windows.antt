@@ -13,7 +13,7 @@ use Rattle.serve_events.specs.Windows.{WindowEvents}
 use Rattle.serve_core.specs.CoreValue.{CoreValue}
 use Rattle.serve_core.specs.Sources.{shape_at}
 use Rattle.serve_core.specs.Stands.{Book, Stands, StopFits, EndShows}
-use Rattle.serve_worker.specs.Alone.{AllFree, held_in}
+use Rattle.serve_worker.specs.Alone.{AllFree, held_in, counts_in}
 use Rattle.prefetch.specs.declared.stops.RenderStop.{RenderStop}
 use Rattle.prefetch.specs.declared.stops.RenderStop.TheVariants.{Stopped, Write, Memory}
 use Rattle.prefetch.specs.Clips.{pictures_from}
@@ -66,12 +66,13 @@ module _ {I : Type 0} (holds : I → Option Info) (feed : I → Option (List Pic
             → pictures ≡ pictures_from b c.fixed.plan c.fixed.root 0 n
         pub put : Puts sink old new (pictures_text pictures)
 
-      -- all frames were put, and the journal is of a kind
+      -- all frames were put, no instance has failed, and the journal is of a kind
       pub record AllRendered (IsWhole : List WindowEvents → Type 0) (windows : List WindowEvents) (d : CoreValue I)
           : Type 0 where
         pub stays : Stays holds c d
         pub put : PutsFirst (frames_at c.fixed.plan c.fixed.root)
         pub journal : IsWhole windows
+        pub steady : counts_in faults d.table ≡ counts_in faults c.table
 
       -- the window of the next outputs was cut short by this stop, and its frames were not put
       pub record StoppedAfter (IsCut : WindowStop → List WindowEvents → ℕ → Type 0) (windows : List WindowEvents)

@@ -92,7 +92,8 @@ fn render_crew_window<R: Threads + Wait + Sync, I: Works + Send, K: Sink, G: Gat
 /// in windows of at most this many outputs. Each worker of a window has a thread, of which the caller's is one. A
 /// window's frames are put once all of them are delivered, by the caller, before it works in the next window. `journal`
 /// has no window yet, and gets each window that was begun and brought to its end. Where the sink fails, a window that
-/// was stopped meanwhile is left out. The core comes back between windows.
+/// was stopped meanwhile is left out. The core comes back between windows; where all frames were put no instance has
+/// failed.
 pub fn render_crew<R: Threads + Wait + Sync, I: Works + Send, K: Sink, G: Gate>(
     rt: &R,
     alloc: Global,

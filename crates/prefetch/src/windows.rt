@@ -85,7 +85,7 @@ fn render_window<I: Works, K: Sink>(
 
 /// Puts all frames of the root of a core that has one worker, is between windows and has cached nothing, in windows of at
 /// most this many outputs. `journal` has no window yet, and gets each window that was begun and brought to its end. A
-/// window's frames are put once all of them are delivered.
+/// window's frames are put once all of them are delivered. Where all frames were put no instance has failed.
 pub fn render_plain<I: Works, K: Sink>(
     alloc: Global,
     core: &mut Core<I>,

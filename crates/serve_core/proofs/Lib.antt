@@ -10,3 +10,4 @@ pub mod WorkerLemmas
 pub mod WindowLemmas
 pub mod ClosedLemmas
 pub mod TurnLemmas
+pub mod SteadyLemmas

@@ -6,6 +6,7 @@ pub mod Kept
 pub mod Runs
 pub mod Stands
 pub mod Turns
+pub mod Steady
 pub mod Told
 pub mod Workers
 pub mod WindowRuns

@@ -5,13 +5,15 @@ use serve_events::Event;
 use turn_lock::Booked;
 
 /// The entries of a core are the events of its journal, each by its worker. The tag of a lock is the core that it starts
-/// with: at each turn the value is a core of the window that began with it.
+/// with: at each turn the value is a core of the window that began with it, in which no instance has failed unless a stop
+/// is kept.
 impl<I: Held> Booked for Core<I> {
     type Tag = Core<I>;
 
     type Entry = Event;
 
     ghost use Rattle.serve_events.specs.Events.{worker_of};
+    ghost use Rattle.serve_core.specs.Steady.{IsSteady};
     ghost use Rattle.serve_core.specs.Turns.{StandsFor};
 
     ghost entries = { λ c. c.journal };
@@ -20,5 +22,5 @@ impl<I: Held> Booked for Core<I> {
 
     ghost opening = { λ c. c };
 
-    ghost stands_for = { StandsFor I.feed I.faults I.ends };
+    ghost stands_for = { λ c s. StandsFor I.feed I.faults I.ends c s × IsSteady I.faults c s };
 }

@@ -1,5 +1,6 @@
 // What the definitions of the calls have in common, and what the journal of a core tells.
 ghost use Rattle.serve_core.specs.Stands.{CallsStand};
+ghost use Rattle.serve_core.specs.Steady.{TurnsAreSteady};
 ghost use Rattle.serve_core.specs.Told.{RunsAreTold};
 ghost use Rattle.serve_core.specs.Turns.{TurnsStand};
 ghost use Rattle.serve_core.specs.WindowRuns.{WindowsAreRuns};
@@ -17,6 +18,12 @@ pub fn calls_stand<I: Held>()
 /// Each call leaves a core of the window that it was of, for whatever the window's first core stood.
 pub fn turns_stand<I: Held>()
     ensures { TurnsStand I.feed I.faults I.ends }
+{}
+
+/// Until a stop is kept, each call leaves the instances with the counts of faults that they had when the window began,
+/// where an instance that comes back has its count.
+pub fn turns_are_steady<I: Held>()
+    ensures { TurnsAreSteady I.faults }
 {}
 
 /// Where a core stands for a told book, its journal is a run over frames too. It leads to the frames that the core has,

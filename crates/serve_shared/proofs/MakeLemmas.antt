@@ -7,7 +7,7 @@ use Rattle.clip_graph.specs.Plan.{Application, application_at, is_source}
 use Rattle.clip_graph.specs.Unfolding.{input_keys, key_picture}
 use Rattle.inst_table.specs.declared.place.Place.{Place}
 use Rattle.inst_table.specs.Lent.{Lent}
-use Rattle.inst_table.specs.Places.{shared_place}
+use Rattle.inst_table.specs.Places.{shared_place, slot_at}
 use Rattle.serve_events.specs.declared.event.Event.{Event}
 use Rattle.serve_events.specs.declared.event.Event.TheVariants.{Claim, Enter, Leave, Publish, Abandon}
 use Rattle.serve_events.specs.declared.event.WindowStop.{WindowStop}
@@ -20,8 +20,9 @@ use Rattle.serve_machine.proofs.ClosingLemmas.{abandons-append}
 use Rattle.serve_machine.specs.Holdings.{Holdings, holdings_after}
 use Rattle.serve_machine.specs.Stops.{first_stop}
 use Rattle.serve_core.specs.CoreValue.{CoreValue}
-use Rattle.serve_core.specs.Sources.{place_of, opened_at}
+use Rattle.serve_core.specs.Sources.{place_of, opened_at, faults_at}
 use Rattle.serve_core.specs.Stands.{Book, FitsAct, Fits, IsRight, Stands}
+use Rattle.serve_core.specs.Steady.{HasCount}
 use Rattle.serve_core.specs.Turns.{ForAllOf}
 use Rattle.serve_worker.specs.Workers.{WorkerValue}
 use Rattle.serve_worker.specs.Works.{IsMade, MakeStops}
@@ -123,14 +124,15 @@ module _ {I : Type 0} (holds : I → Option Info) (feed : I → Option (List Pic
 
     -- the instance afterwards
     module _ (new : Lent I) (place : new.place ≡ old.place) (source : holds new.value ≡ holds old.value) (feed_same : feed new.value ≡ feed old.value) (faults_more : faults old.value ≤ faults new.value) where
-      pub lent_again : IsLent holds feed faults me seat new.place.node new
-      lent_again = record {
+      pub lent_again : faults new.value ≡ faults old.value → IsLent holds feed faults me seat new.place.node new
+      lent_again steady = record {
         place = (place ∙ lent.place) ∙ ap (place_of me.plan me.number) (sym (ap (λ p. p.node) (place ∙ lent.place)));
         source = source ∙ (lent.source ∙ ap (opened_at me.plan) (sym (ap (λ p. p.node) (place ∙ lent.place))));
         fits = subst (λ o. IfSome o (λ z. ForAllOf feed faults z (λ book numbers. Fits feed faults book numbers me.plan new.place new.value))) (sym s.tag) (λ book numbers stood shared.
             let here = subst (λ o. IfSome o (λ z. ForAllOf feed faults z (λ book numbers. Fits feed faults book numbers me.plan old.place old.value))) s.tag lent.fits in
             subst (λ i. FitsAct feed faults book numbers (application_at me.plan i).act new.value) (sym (ap (λ p. p.node) place))
             (fits_more holds feed faults ends me.plan (application_at me.plan old.place.node).act old.value new.value book numbers feed_same faults_more (here book numbers stood (sym place ∙ (shared ∙ ap (λ p. shared_place p.node) place)))));
+        count = subst (λ p. IfSome seat.tag (λ z. HasCount faults z.table p new.value)) (sym place) (subst (λ n. IfSome seat.tag (λ z. n ≡ faults_at faults (slot_at old.place z.table))) (sym steady) lent.count);
       }
 
       pub has_stopped : (why : WindowStop) → has_entered me.number k.node seat.own ≡ true → MakeStops feed faults ends me.plan k.node old.value new.value why → HasStopped holds feed faults ends me seat new why
@@ -143,6 +145,7 @@ module _ {I : Type 0} (holds : I → Option Info) (feed : I → Option (List Pic
           place = place ∙ lent.place;
           source = lent.source;
           fits = subst (λ p. IfSome seat.tag (λ z. ForAllOf feed faults z (λ book numbers. Fits feed faults book numbers me.plan p old.value))) (sym place) lent.fits;
+          count = subst (λ p. IfSome seat.tag (λ z. HasCount faults z.table p old.value)) (sym place) lent.count;
         };
         source = source;
         feed_same = feed_same;
@@ -174,6 +177,7 @@ module _ {I : Type 0} (holds : I → Option Info) (feed : I → Option (List Pic
     place = got_it.lent.place;
     source = got_it.lent.source;
     fits = subst (λ o. IfSome o (λ z. ForAllOf feed faults z (λ book numbers. Fits feed faults book numbers me.plan l.place l.value))) (sym (same_tag seat mid got_it.adds.seat_is)) got_it.lent.fits;
+    count = subst (λ o. IfSome o (λ z. HasCount faults z.table l.place l.value)) (sym (same_tag seat mid got_it.adds.seat_is)) got_it.lent.count;
   }
 
   pub right_later : (inputs : List Picture) → AllRightFor feed faults me seat (input_keys me.plan k) inputs → AllRightFor feed faults me mid (input_keys me.plan k) inputs

@@ -14,6 +14,7 @@ use Rattle.serve_machine.specs.Holdings.{Holdings, holdings_after, own_holdings}
 use Rattle.serve_machine.specs.Stops.{first_stop}
 use Rattle.serve_machine.proofs.ClosingLemmas.{holdings_after-append, none_stop}
 use Rattle.serve_core.specs.Stands.{IsRight, Fits}
+use Rattle.serve_core.specs.Steady.{HasCount}
 use Rattle.serve_core.specs.Turns.{ForAllOf}
 use Rattle.serve_worker.specs.Workers.{WorkerValue}
 use Rattle.serve_shared.specs.declared.steps.Found.{Found}
@@ -107,6 +108,7 @@ module _ {I : Type 0} where
         place = s.place;
         source = s.source;
         fits = subst (λ o. IfSome o (λ z. ForAllOf feed faults z (λ book numbers. Fits feed faults book numbers me.plan l.place l.value))) (same_tag seat mid waits.seat_is) s.fits;
+        count = subst (λ o. IfSome o (λ z. HasCount faults z.table l.place l.value)) (same_tag seat mid waits.seat_is) s.count;
       }
 
       pub gets_lent : (later : CoreSeat I) (i : ℕ) (l : Lent I) (r : Result (Entry I) WindowStop) → r ≡ Ok (Leased l) → TurnEnters holds feed faults me mid i r later → HasEntered holds feed faults me seat i l later

@@ -23,7 +23,9 @@ use Rattle.serve_core.specs.Calls.{left, failing}
 use Rattle.serve_core.specs.CoreValue.{CoreValue}
 use Rattle.serve_core.specs.Holds.{is_free_at, IsThere}
 use Rattle.serve_core.specs.Stands.{FitsAct, Fits, ExceedsAct, StopFits, EndShows}
+use Rattle.serve_core.specs.Steady.{IsSteady, TurnsAreSteady}
 use Rattle.serve_core.specs.Turns.{ForAllOf, StandsFor}
+use Rattle.serve_core.proofs.SteadyLemmas.{turns_are_steady}
 use Rattle.serve_worker.specs.Workers.{WorkerValue}
 use Rattle.serve_worker.specs.Works.{MakeStops}
 use Rattle.serve_worker.proofs.Making.{source_mode, shared_for}
@@ -129,6 +131,7 @@ module _ {I : Type 0} (holds : I → Option Info) (feed : I → Option (List Pic
               (All-append (λ e. worker_of e ≡ me.number) (abandons me.number (seat_holdings me seat).claims) (Fail me.number why ∷ []) (abandons_mine me.number (seat_holdings me seat).claims) (one_mine me.number (Fail me.number why) refl));
           stands = subst (λ z. StandsFor feed faults ends z t.sits.start) (sym is) (fails_stands feed faults ends me seat t.sits.start n why (claims_of n with_it.claims) with_it (back_stands holds feed faults ends me seat c t n same l out new_fits)
               (λ book numbers stood. subst (λ plan. StopFits feed faults book numbers plan with_it.table why) (sym t.sits.window.plan_is) (may_stop.right book numbers stood)) may_stop.ended);
+          steady = let law : TurnsAreSteady faults = turns_are_steady faults in subst (λ z. IsSteady faults z t.sits.start) (sym is) (law.fail t.sits.start (closed n with_it) n why);
         }
 
     pub give_back_some : DoesAny holds feed faults ends me seat c t d

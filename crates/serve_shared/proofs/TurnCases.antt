@@ -31,6 +31,7 @@ use Rattle.serve_core.specs.CoreValue.{CoreValue}
 use Rattle.serve_core.specs.Holds.{claims_at, holds_none}
 use Rattle.serve_core.specs.Sources.{shape_at, place_of, opened_at}
 use Rattle.serve_core.specs.Stands.{IsRight, Fits}
+use Rattle.serve_core.specs.Steady.{HasCount, IsSteady, TurnsAreSteady}
 use Rattle.serve_core.specs.Turns.{ForAllOf, StandsFor, TurnsStand}
 use Rattle.serve_core.specs.Workers.{HasOutput, takes}
 use Rattle.serve_worker.specs.Workers.{WorkerValue}
@@ -43,12 +44,16 @@ use Rattle.serve_shared.specs.Steps.{IsRunning, closed, RunsOut, Refuses, Finds,
 use Rattle.serve_shared.specs.Shares.{StopsNow}
 use Rattle.serve_shared.specs.Turns.{IsLent, TurnAsks, TurnEnters, TurnPublishes, SeesAll, TurnTakes}
 use Rattle.serve_core.proofs.ClosedLemmas.{workers_tell}
+use Rattle.serve_core.proofs.SteadyLemmas.{turns_are_steady}
 use Rattle.serve_core.proofs.TurnLemmas.{turns_stand}
 use Rattle.serve_shared.proofs.TurnLemmas.{one_mine, InTurn, plan_is, told, holdings, running, Does, DoesSome, Left, adds, same_does, out_does, refuses_some, out_stops, refuses_stops}
 
 module _ {I : Type 0} (holds : I → Option Info) (feed : I → Option (List Picture)) (faults : I → ℕ) (ends : I → ℕ → ℕ → ℕ → Type 0) (me : WorkerValue) (seat : CoreSeat I) (c : CoreValue I) (t : InTurn feed faults ends me seat c) where
   law : TurnsStand feed faults ends
   law = turns_stand feed faults ends
+
+  steady_law : TurnsAreSteady faults
+  steady_law = turns_are_steady faults
 
   abbrev pub Leaves : CoreValue I → CoreSeat I → Type 0
   Leaves d later = (events : List Event) → d.journal ≡ c.journal ++ events → Left feed faults ends me seat c t events later
@@ -92,6 +97,7 @@ module _ {I : Type 0} (holds : I → Option Info) (feed : I → Option (List Pic
     journal = ap (λ (z : CoreValue I). z.journal) asked.2;
     mine = one_mine me.number (Hits me.number k) refl;
     stands = (law.ask t.sits.start c d me.number k (IsCached x) t.stands asked).0;
+    steady = steady_law.ask t.sits.start c d me.number k (IsCached x) t.steady asked;
   }
 
   hit_right : (d : CoreValue I) (k : Key) (x : Picture) → Asked c me.number k (IsCached x) d → RightFor feed faults me.plan seat k x
@@ -103,6 +109,7 @@ module _ {I : Type 0} (holds : I → Option Info) (feed : I → Option (List Pic
     journal = ap (λ (z : CoreValue I). z.journal) asked.3;
     mine = one_mine me.number (Claim me.number k) refl;
     stands = (law.ask t.sits.start c d me.number k IsClaimed t.stands asked).0;
+    steady = steady_law.ask t.sits.start c d me.number k IsClaimed t.steady asked;
   }
 
   finds_some : (d : CoreValue I) (k : Key) (r : Result Found WindowStop) → IfOk r (λ f. Finds c me.number k f d) → IfErr r (λ why. Refuses me.number why c d) → DoesAny d
@@ -136,6 +143,7 @@ module _ {I : Type 0} (holds : I → Option Info) (feed : I → Option (List Pic
     journal = ap (λ (z : CoreValue I). z.journal) adm.3 ∙ ap (λ plan. c.journal ++ Enter me.number i (instance_of plan me.number i) ∷ []) (plan_is feed faults ends me seat c t);
     mine = one_mine me.number (Enter me.number i (instance_of me.plan me.number i)) refl;
     stands = (law.enter t.sits.start c d me.number i (IsLeased l) t.stands first adm).0;
+    steady = (steady_law.enter t.sits.start c d me.number i (IsLeased l) t.steady adm).0;
   }
 
   is_lent : (d : CoreValue I) (i : ℕ) (l : Lent I) → c.stop ≡ first_stop c.journal → Enters holds c me.number i (Leased l) d → IsLent holds feed faults me seat i l
@@ -144,6 +152,7 @@ module _ {I : Type 0} (holds : I → Option Info) (feed : I → Option (List Pic
     source = e.1 ∙ ap (λ plan. opened_at plan i) (plan_is feed faults ends me seat c t);
     fits = for_seat (λ s. ForAllOf feed faults s (λ book numbers. Fits feed faults book numbers me.plan l.place l.value))
         (λ book numbers s. subst (λ plan. Fits feed faults book numbers plan l.place l.value) t.sits.window.plan_is ((law.enter t.sits.start c d me.number i (IsLeased l) t.stands first e.0).1 book numbers s));
+    count = for_seat (λ s. HasCount faults s.table l.place l.value) (steady_law.enter t.sits.start c d me.number i (IsLeased l) t.steady e.0).1;
   }
 
   admits_some : (d : CoreValue I) (i : ℕ) (r : Result (Entry I) WindowStop) → c.stop ≡ first_stop c.journal → IfOk r (λ e. Enters holds c me.number i e d) → IfErr r (λ why. Refuses me.number why c d) → DoesAny d
@@ -180,6 +189,7 @@ module _ {I : Type 0} (holds : I → Option Info) (feed : I → Option (List Pic
     journal = ap (λ (z : CoreValue I). z.journal) is;
     mine = All-append (λ e. worker_of e ≡ me.number) (eviction me.number (dropped_key c.fixed.capacity c.cache)) (Publish me.number k ∷ []) (evicts_mine (dropped_key c.fixed.capacity c.cache)) (one_mine me.number (Publish me.number k) refl);
     stands = subst (λ z. StandsFor feed faults ends z t.sits.start) (sym is) (law.publish t.sits.start c me.number k x t.stands (right_now k x right));
+    steady = subst (λ z. IsSteady faults z t.sits.start) (sym is) (steady_law.publish t.sits.start c me.number k x t.steady);
   }
 
   puts_some : (d : CoreValue I) (k : Key) (x : Picture) (r : Result (Unit {0}) WindowStop) → RightFor feed faults me.plan seat k x → OnOk r (d ≡ published c me.number k x) → IfErr r (λ why. RunsOut me.number why c d) → DoesAny d
@@ -220,6 +230,7 @@ module _ {I : Type 0} (holds : I → Option Info) (feed : I → Option (List Pic
     journal = ap (λ (z : CoreValue I). z.journal) took.0.3;
     mine = one_mine me.number (Take me.number k.n) refl;
     stands = law.take_output t.sits.start c d me.number (Some k.n) t.stands took.0;
+    steady = steady_law.take_output t.sits.start c d me.number (Some k.n) t.steady took.0;
   }
 
   took_key : (d : CoreValue I) (k : Key) → Takes c me.number (Some k) d → IsKey me.plan k
@@ -293,6 +304,7 @@ module _ {I : Type 0} (holds : I → Option Info) (feed : I → Option (List Pic
       mine = one_mine me.number (Deliver me.number k.n) refl;
       stands = subst (λ z. StandsFor feed faults ends z t.sits.start) (sym is) (law.deliver t.sits.start c me.number k.n x t.stands (subst (λ f. f.first ≤ k.n) t.stands.fixed has_output.low)
           (subst (λ j. ForAllOf feed faults t.sits.start (λ book numbers. IsRight book t.sits.start.fixed.plan j x)) (output_key ∙ ap (λ f. frame_key f.root k.n) t.stands.fixed) (right_now k x right)));
+      steady = subst (λ z. IsSteady faults z t.sits.start) (sym is) (steady_law.deliver t.sits.start c me.number k.n x t.steady);
     }
 
     module _ (d : CoreValue I) (x : Picture) (right : RightFor feed faults me.plan seat k x) (is : d ≡ delivered c n k.n x) where
@@ -319,16 +331,17 @@ module _ {I : Type 0} (holds : I → Option Info) (feed : I → Option (List Pic
     pub back_stands : IfSome seat.tag (λ s. ForAllOf feed faults s (λ book numbers. Fits feed faults book numbers me.plan l.place l.value)) → StandsFor feed faults ends (left c n l.place l.value) t.sits.start
     back_stands fits = law.leave t.sits.start c n l.place l.value t.stands is_out (fits_now l.value fits)
 
-    gives_does : (d : CoreValue I) → IfSome seat.tag (λ s. ForAllOf feed faults s (λ book numbers. Fits feed faults book numbers me.plan l.place l.value)) → d ≡ left c n l.place l.value → DoesIt d (Leave me.number l.place.node l.place.instance ∷ [])
-    gives_does d fits is = record {
+    gives_does : (d : CoreValue I) → IsLent holds feed faults me seat l.place.node l → d ≡ left c n l.place l.value → DoesIt d (Leave me.number l.place.node l.place.instance ∷ [])
+    gives_does d lent is = record {
       journal = ap (λ (z : CoreValue I). z.journal) is ∙ ap (λ m. c.journal ++ Leave m l.place.node l.place.instance ∷ []) same;
       mine = one_mine me.number (Leave me.number l.place.node l.place.instance) refl;
-      stands = subst (λ z. StandsFor feed faults ends z t.sits.start) (sym is) (back_stands fits);
+      stands = subst (λ z. StandsFor feed faults ends z t.sits.start) (sym is) (back_stands lent.fits);
+      steady = subst (λ z. IsSteady faults z t.sits.start) (sym is) (steady_law.leave t.sits.start c n l.place l.value t.steady (subst (λ o. IfSome o (λ s. HasCount faults s.table l.place l.value)) t.sits.tag lent.count));
     }
 
     module _ (d : CoreValue I) (lent : IsLent holds feed faults me seat l.place.node l) (is : d ≡ left c n l.place l.value) where
       pub leave_some : DoesAny d
-      leave_some = record { events = _; does = gives_does d lent.fits is }
+      leave_some = record { events = _; does = gives_does d lent is }
 
       pub leave_ends : (later : CoreSeat I) → Leaves d later → Adds (Leave me.number l.place.node l.place.instance ∷ []) seat later
-      leave_ends later leaves = adds feed faults ends me seat c t _ later (leaves _ (gives_does d lent.fits is).journal)
+      leave_ends later leaves = adds feed faults ends me seat c t _ later (leaves _ (gives_does d lent is).journal)

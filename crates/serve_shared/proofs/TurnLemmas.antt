@@ -22,6 +22,7 @@ use Rattle.serve_core.specs.Calls.{failing}
 use Rattle.serve_core.specs.CoreValue.{CoreValue}
 use Rattle.serve_core.specs.Runs.{IsRun, keys_alone, state_of}
 use Rattle.serve_core.specs.Stands.{StopFits, EndShows}
+use Rattle.serve_core.specs.Steady.{IsSteady, TurnsAreSteady}
 use Rattle.serve_core.specs.Turns.{ForAllOf, StandsFor, TurnsStand}
 use Rattle.serve_core.specs.Workers.{HasTold, told_holdings}
 use Rattle.serve_core.proofs.WorkerLemmas.{has_told}
@@ -29,6 +30,7 @@ use Rattle.serve_worker.specs.Workers.{WorkerValue}
 use Rattle.serve_shared.specs.Seats.{CoreSeat, seat_holdings, HasSeat, IsSeat, Adds}
 use Rattle.serve_shared.specs.Shares.{StopsNow}
 use Rattle.serve_shared.specs.Steps.{IsRunning, given_up, closed, RunsOut, Refuses}
+use Rattle.serve_core.proofs.SteadyLemmas.{turns_are_steady}
 use Rattle.serve_core.proofs.TurnLemmas.{turns_stand}
 use Rattle.serve_shared.proofs.ClaimLemmas.{given_table, given_journal}
 use Rattle.serve_shared.proofs.EventLemmas.{entries_own, stopped_by}
@@ -45,16 +47,18 @@ module _ {I : Type 0} (feed : I → Option (List Picture)) (faults : I → ℕ) 
   pub record InTurn (c : CoreValue I) : Type 0 where
     pub sits : HasSeat me seat
     pub stands : StandsFor feed faults ends c sits.start
+    pub steady : IsSteady faults c sits.start
     pub run : IsRun c
     pub seen : IsPrefix seat.seen c.journal
     pub own : own_events me.number c.journal ≡ seat.own
 
-  pub in_turn : (c : CoreValue I) → HasSeat me seat → IfSome seat.tag (StandsFor feed faults ends c) → (0 < c.fixed.count → IsRun c) → entries_of worker_of seat.number c.journal ≡ seat.own → IsPrefix seat.seen c.journal → InTurn c
+  pub in_turn : (c : CoreValue I) → HasSeat me seat → IfSome seat.tag (λ s. StandsFor feed faults ends c s × IsSteady faults c s) → (0 < c.fixed.count → IsRun c) → entries_of worker_of seat.number c.journal ≡ seat.own → IsPrefix seat.seen c.journal → InTurn c
   in_turn c sits stands run own seen =
-      let at : StandsFor feed faults ends c sits.start = subst (λ o. IfSome o (StandsFor feed faults ends c)) sits.tag stands in record {
+      let at : StandsFor feed faults ends c sits.start × IsSteady faults c sits.start = subst (λ o. IfSome o (λ s. StandsFor feed faults ends c s × IsSteady faults c s)) sits.tag stands in record {
         sits = sits;
-        stands = at;
-        run = run (subst (λ f. 0 < f.count) (sym at.fixed) sits.window.window);
+        stands = at.0;
+        steady = at.1;
+        run = run (subst (λ f. 0 < f.count) (sym at.0.fixed) sits.window.window);
         seen = seen;
         own = sym (entries_own me.number c.journal) ∙ (ap (λ n. entries_of worker_of n c.journal) (sym sits.number) ∙ own);
       }
@@ -62,11 +66,18 @@ module _ {I : Type 0} (feed : I → Option (List Picture)) (faults : I → ℕ) 
   law : TurnsStand feed faults ends
   law = turns_stand feed faults ends
 
+  steady_law : TurnsAreSteady faults
+  steady_law = turns_are_steady faults
+
   -- claims given up, and a failure after it, leave a core of the window
 
   pub given_stands : (s : CoreValue I) (w : ℕ) (ks : List Key) (c : CoreValue I) → StandsFor feed faults ends c s → StandsFor feed faults ends (given_up w ks c) s
   given_stands s w [] c st = st
   given_stands s w (k ∷ ks) c st = law.abandon s (given_up w ks c) w k (given_stands s w ks c st)
+
+  given_steady : (s : CoreValue I) (w : ℕ) (ks : List Key) (c : CoreValue I) → IsSteady faults c s → IsSteady faults (given_up w ks c) s
+  given_steady s w [] c st = st
+  given_steady s w (k ∷ ks) c st = steady_law.abandon s (given_up w ks c) w k (given_steady s w ks c st)
 
   pub fails_stands : (s : CoreValue I) (w : ℕ) (why : WindowStop) (ks : List Key) (c : CoreValue I) → StandsFor feed faults ends c s → ForAllOf feed faults s (λ book numbers. StopFits feed faults book numbers s.fixed.plan c.table why) → EndShows ends c.table why
       → StandsFor feed faults ends (failing (given_up w ks c) w why) s
@@ -104,6 +115,7 @@ module _ {I : Type 0} (feed : I → Option (List Picture)) (faults : I → ℕ) 
       pub journal : d.journal ≡ c.journal ++ events
       pub mine : All (λ e. worker_of e ≡ me.number) events
       pub stands : StandsFor feed faults ends d t.sits.start
+      pub steady : IsSteady faults d t.sits.start
 
     pub record DoesSome (d : CoreValue I) : Type 0 where
       pub events : List Event
@@ -112,8 +124,8 @@ module _ {I : Type 0} (feed : I → Option (List Picture)) (faults : I → ℕ) 
     -- the end of the turn
 
     module _ (turn : CoreSeat I) (is_turn : turn ≡ record seat { seen = c.journal }) where
-      pub stands_left : (d : CoreValue I) → DoesSome d → IfSome turn.tag (StandsFor feed faults ends d)
-      stands_left d s = subst (λ o. IfSome o (StandsFor feed faults ends d)) (sym (ap (λ z. z.tag) is_turn ∙ t.sits.tag)) s.does.stands
+      pub stands_left : (d : CoreValue I) → DoesSome d → IfSome turn.tag (λ s. StandsFor feed faults ends d s × IsSteady faults d s)
+      stands_left d s = subst (λ o. IfSome o (λ z. StandsFor feed faults ends d z × IsSteady faults d z)) (sym (ap (λ z. z.tag) is_turn ∙ t.sits.tag)) (s.does.stands, s.does.steady)
 
       pub adds_left : (d : CoreValue I) → DoesSome d → AddsOnly worker_of turn.number turn.seen d.journal
       adds_left d s = subst (λ (z : CoreSeat I). AddsOnly worker_of z.number z.seen d.journal) (sym is_turn)
@@ -148,6 +160,7 @@ module _ {I : Type 0} (feed : I → Option (List Picture)) (faults : I → ℕ) 
       journal = ap (λ (z : CoreValue I). z.journal) is ∙ sym (append-nil c.journal);
       mine = All-nil (λ e. worker_of e ≡ me.number);
       stands = subst (λ z. StandsFor feed faults ends z t.sits.start) (sym is) t.stands;
+      steady = subst (λ z. IsSteady faults z t.sits.start) (sym is) t.steady;
     }
 
     -- Work that is closed.
@@ -157,6 +170,7 @@ module _ {I : Type 0} (feed : I → Option (List Picture)) (faults : I → ℕ) 
       journal = ap (λ (z : CoreValue I). z.journal) is ∙ (given_journal me.number (claims_of me.number c.claims) c ∙ ap (λ ks. c.journal ++ abandons me.number ks) (sym claims));
       mine = abandons_mine me.number (seat_holdings me seat).claims;
       stands = subst (λ z. StandsFor feed faults ends z t.sits.start) (sym is) (given_stands t.sits.start me.number (claims_of me.number c.claims) c t.stands);
+      steady = subst (λ z. IsSteady faults z t.sits.start) (sym is) (given_steady t.sits.start me.number (claims_of me.number c.claims) c t.steady);
     }
 
     pub out_does : (why : WindowStop) (d : CoreValue I) → RunsOut me.number why c d → Does d (abandons me.number (seat_holdings me seat).claims ++ Fail me.number Memory ∷ [])
@@ -164,6 +178,7 @@ module _ {I : Type 0} (feed : I → Option (List Picture)) (faults : I → ℕ) 
       journal = ap (λ (z : CoreValue I). z.journal) out.1 ∙ (fails_journal me.number Memory c ∙ ap (λ ks. c.journal ++ (abandons me.number ks ++ Fail me.number Memory ∷ [])) (sym claims));
       mine = All-append (λ e. worker_of e ≡ me.number) (abandons me.number (seat_holdings me seat).claims) (Fail me.number Memory ∷ []) (abandons_mine me.number (seat_holdings me seat).claims) (one_mine me.number (Fail me.number Memory) refl);
       stands = subst (λ z. StandsFor feed faults ends z t.sits.start) (sym out.1) (fails_stands t.sits.start me.number Memory (claims_of me.number c.claims) c t.stands (λ book numbers stood. tt) tt);
+      steady = subst (λ z. IsSteady faults z t.sits.start) (sym out.1) (steady_law.fail t.sits.start (closed me.number c) me.number Memory);
     }
 
     pub refuses_some : (why : WindowStop) (d : CoreValue I) → Refuses me.number why c d → DoesSome d

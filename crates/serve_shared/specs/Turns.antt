@@ -15,6 +15,7 @@ use Rattle.serve_events.specs.SerialRun.{eviction}
 use Rattle.serve_machine.specs.Stops.{first_stop}
 use Rattle.serve_core.specs.Sources.{shape_at, place_of, opened_at}
 use Rattle.serve_core.specs.Stands.{Fits}
+use Rattle.serve_core.specs.Steady.{HasCount}
 use Rattle.serve_core.specs.Turns.{ForAllOf}
 use Rattle.serve_core.specs.Workers.{takes}
 use Rattle.serve_worker.specs.Workers.{WorkerValue}
@@ -26,13 +27,15 @@ use Rattle.serve_shared.specs.declared.steps.Entry.TheVariants.{Leased, Busy}
 use Rattle.serve_shared.specs.Seats.{CoreSeat, Adds, RightFor}
 use Rattle.serve_shared.specs.Shares.{StopsNow}
 
--- the worker's instance of a node is out: it keeps the node's source, and fits what the window's first core stood for
+-- the worker's instance of a node is out: it keeps the node's source, fits what the window's first core stood for, and
+-- has failed as often as it had then
 pub record IsLent {I : Type 0} (holds : I → Option Info) (feed : I → Option (List Picture)) (faults : I → ℕ)
     (me : WorkerValue) (seat : CoreSeat I) (i : ℕ) (l : Lent I) : Type 0 where
   pub place : l.place ≡ place_of me.plan me.number i
   pub source : holds l.value ≡ opened_at me.plan i
   pub fits : IfSome seat.tag (λ s. ForAllOf feed faults s (λ book numbers.
       Fits feed faults book numbers me.plan l.place l.value))
+  pub count : IfSome seat.tag (λ s. HasCount faults s.table l.place l.value)
 
 -- it made no frame, and this is why
 pub record HasStopped {I : Type 0} (holds : I → Option Info) (feed : I → Option (List Picture)) (faults : I → ℕ)

@@ -1,5 +1,6 @@
 -- A core over the sources of a graph, and what its stream leaves.
-use Rattle.std.proofs.Common.{◌≡◌, ◌∙◌, ℕ, List, [], length, Option, Result, refl, sym, ap, subst}
+use Rattle.std.proofs.Common.{◌≡◌, ◌∙◌, ℕ, List, [], ◌++◌, length, Option, Result, Ok, Err, OnOk, refl, sym, ap, subst}
+use Rattle.std.proofs.lemmas.List.{map-append}
 use Rattle.fv_io.specs.declared.source.Source as of_source
 use Rattle.fv_io.specs.declared.sink.Sink.{Ghosts}
 use Rattle.seq_source.specs.FrameSource.{FrameSource}
@@ -14,10 +15,10 @@ use Rattle.serve_core.specs.CoreValue.{CoreValue}
 use Rattle.serve_core.specs.Kept.{leases_out}
 use Rattle.serve_core.proofs.Standing.{calls_stand}
 use Rattle.serve_worker.specs.declared.instance.Instance.{Instance}
-use Rattle.serve_worker.specs.Alone.{AllFree, held_in}
-use Rattle.serve_worker.specs.Furnishing.{sources_in, some_in, Furnishes}
+use Rattle.serve_worker.specs.Alone.{AllFree, held_in, counts_in}
+use Rattle.serve_worker.specs.Furnishing.{sources_in, fault_counts, some_in, Furnishes}
 use Rattle.serve_worker.specs.Instances.{feed_of, faults_of, holds_of}
-use Rattle.serve_worker.proofs.CallerLemmas.{told_book, count_held}
+use Rattle.serve_worker.proofs.CallerLemmas.{told_book, count_held, same_counts}
 use Rattle.serve_worker.proofs.Tables.{all_free}
 use Rattle.serve_text.specs.declared.stop.Stop.{Stop}
 use Rattle.serve_stream.specs.declared.staff.Hands.{Hands}
@@ -68,3 +69,12 @@ module _ {S : Type 0} (of : of_source.Ghosts S) (plan : List Application) (root 
     pub sources_stay : (table : List (Place × Slot (Instance S))) → AllFree table → held_in holds_of table ≡ held_in holds_of c.table
         → length (sources_in table) ≡ length (sources_in c.table)
     sources_stay table free held = count_held table free ∙ ap some_in held ∙ sym (count_held c.table (all_free c.table is.unlent))
+
+    -- and where its instances have failed as often, so have all sources
+    pub counts_stay : (table after : List (Place × Slot (Instance S))) (left : List (FrameSource S)) (done : Result Whole Stop) → AllFree table → held_in holds_of table ≡ held_in holds_of c.table → sources ≡ left ++ sources_in c.table → after ≡ table
+        → OnOk done (counts_in (faults_of of) table ≡ counts_in (faults_of of) c.table) → OnOk done (fault_counts of (left ++ sources_in after) ≡ fault_counts of sources)
+    counts_stay table after left (Err stop) free held all same steady = tt
+    counts_stay table after left (Ok whole) free held all same steady =
+        let counts = λ (it : FrameSource S). of.faults it.source in
+        ap (λ t. fault_counts of (left ++ sources_in t)) same ∙ (map-append counts left (sources_in table) ∙ (ap (λ ns. fault_counts of left ++ ns) (same_counts of c.table table (all_free c.table is.unlent) free held steady)
+        ∙ (sym (map-append counts left (sources_in c.table)) ∙ ap (fault_counts of) (sym all))))

@@ -8,6 +8,7 @@ use Rattle.serve_events.specs.declared.event.WindowStop.{WindowStop}
 use Rattle.serve_events.specs.Windows.{WindowEvents}
 use Rattle.serve_core.specs.CoreValue.{CoreValue}
 use Rattle.serve_worker.specs.declared.instance.Instance.{Instance}
+use Rattle.serve_worker.specs.Alone.{counts_in}
 use Rattle.serve_worker.specs.Instances.{Ends, feed_of, faults_of, holds_of}
 use Rattle.prefetch.specs.declared.stops.RenderStop.{RenderStop}
 use Rattle.prefetch.specs.declared.stops.RenderStop.TheVariants.{Stopped, Write, Memory}
@@ -16,7 +17,11 @@ use Rattle.prefetch.specs.CrewJournal.{AreCrewFirst, AreCrewCut}
 use Rattle.prefetch.specs.Windows.{frames_at, Stays, RenderEnds, RenderStops, CrewStops}
 use Rattle.serve_stream.specs.ByWorkers.{IsFirstBy, IsCutBy}
 use Rattle.serve_stream.specs.Renders.{hands_at, RendersBy, StopsBy}
+use Rattle.serve_stream.specs.Cores.{IsTold}
 use Rattle.serve_stream.specs.Streams.{NamesSource}
+use Rattle.serve_stream.specs.declared.stream.Whole.{Whole}
+use Rattle.serve_text.specs.declared.stop.Stop.{Stop}
+use Rattle.clip_graph.specs.Plan.{Application}
 
 module _ {S K : Type 0} (of : of_source.Ghosts S) (c : CoreValue (Instance S)) (sink : Ghosts K) (old new : K) (window : ℕ)
     (windows : List WindowEvents) (d : CoreValue (Instance S)) where
@@ -24,7 +29,7 @@ module _ {S K : Type 0} (of : of_source.Ghosts S) (c : CoreValue (Instance S)) (
   ends_by : (IsFirst : List WindowEvents → ℕ → Type 0) (IsCut : WindowStop → List WindowEvents → ℕ → Type 0)
       → ((n : ℕ) → IsFirst windows n → IsFirstBy c.fixed.plan c.fixed.root c.fixed.capacity (hands_at c window) (frames_at c.fixed.plan c.fixed.root) windows n)
       → ((why : WindowStop) (n : ℕ) → IsCut why windows n → IsCutBy c.fixed.plan c.fixed.root c.fixed.capacity (hands_at c window) (frames_at c.fixed.plan c.fixed.root) why windows n)
-      → (stop : RenderStop) → RenderEnds holds_of (feed_of of) (faults_of of) Ends c sink old new IsFirst IsCut windows d stop → StopsBy of c sink old new window windows d stop
+      → (stop : RenderStop) → RenderEnds holds_of (feed_of of) (faults_of of) (Ends of) c sink old new IsFirst IsCut windows d stop → StopsBy of c sink old new window windows d stop
   ends_by IsFirst IsCut first cut (Stopped why) shown = record {
     stays = shown.stays;
     count = shown.count;
@@ -53,16 +58,16 @@ module _ {S K : Type 0} (of : of_source.Ghosts S) (c : CoreValue (Instance S)) (
 
   -- the stop of a render by one worker
   pub alone_stops : c.fixed.workers ≡ 1 → (done : Result (Unit {0}) RenderStop)
-      → IfErr done (RenderStops holds_of (feed_of of) (faults_of of) Ends c sink old new window windows d) → IfErr done (StopsBy of c sink old new window windows d)
-  alone_stops one done = IfErr-weaker done (RenderStops holds_of (feed_of of) (faults_of of) Ends c sink old new window windows d) (StopsBy of c sink old new window windows d)
+      → IfErr done (RenderStops holds_of (feed_of of) (faults_of of) (Ends of) c sink old new window windows d) → IfErr done (StopsBy of c sink old new window windows d)
+  alone_stops one done = IfErr-weaker done (RenderStops holds_of (feed_of of) (faults_of of) (Ends of) c sink old new window windows d) (StopsBy of c sink old new window windows d)
       (ends_by (AreFirst c.fixed.plan c.fixed.root c.fixed.capacity window (frames_at c.fixed.plan c.fixed.root)) (AreCut c.fixed.plan c.fixed.root c.fixed.capacity window (frames_at c.fixed.plan c.fixed.root))
       (λ n first. record { alone = λ is. first; crew = λ several. absurd (omega (arith, one, several)) })
       (λ why n cut. record { named = cut.cut.named; alone = λ is. cut; crew = λ several. absurd (omega (arith, one, several)) }))
 
   -- the stop of a render by several
   pub together_stops : 1 < c.fixed.workers → (done : Result (Unit {0}) RenderStop)
-      → IfErr done (CrewStops holds_of (feed_of of) (faults_of of) Ends c sink old new window windows d) → IfErr done (StopsBy of c sink old new window windows d)
-  together_stops several done = IfErr-weaker done (CrewStops holds_of (feed_of of) (faults_of of) Ends c sink old new window windows d) (StopsBy of c sink old new window windows d)
+      → IfErr done (CrewStops holds_of (feed_of of) (faults_of of) (Ends of) c sink old new window windows d) → IfErr done (StopsBy of c sink old new window windows d)
+  together_stops several done = IfErr-weaker done (CrewStops holds_of (feed_of of) (faults_of of) (Ends of) c sink old new window windows d) (StopsBy of c sink old new window windows d)
       (ends_by (AreCrewFirst c.fixed.plan c.fixed.root c.fixed.capacity c.fixed.workers (keys_of c.table) window (frames_at c.fixed.plan c.fixed.root)) (AreCrewCut c.fixed.plan c.fixed.root c.fixed.capacity c.fixed.workers (keys_of c.table) window (frames_at c.fixed.plan c.fixed.root))
       (λ n first. record { alone = λ one. absurd (omega (arith, one, several)); crew = λ is. (keys_of c.table, first) })
       (λ why n cut. record { named = cut.cut.named; alone = λ one. absurd (omega (arith, one, several)); crew = λ is. (keys_of c.table, cut) }))
@@ -73,6 +78,14 @@ module _ {S K : Type 0} (of : of_source.Ghosts S) (c : CoreValue (Instance S)) (
   stays_by (Err (Stopped why)) whole stopped = stopped.stays
   stays_by (Err Write) whole stopped = stopped.stays
   stays_by (Err Memory) whole stopped = stopped.stays
+
+  -- where all was put no instance has failed
+  pub steady_by : (done : Result (Unit {0}) RenderStop) (plan : List Application) (frames : ℕ) (graph : List Application) (answer : Result Whole Stop) → OnOk done (RendersBy of c sink old new window windows d) → IsTold plan done frames graph answer
+      → OnOk answer (counts_in (faults_of of) d.table ≡ counts_in (faults_of of) c.table)
+  steady_by (Ok u) plan frames graph (Ok all) whole told = whole.steady
+  steady_by (Ok u) plan frames graph (Err stop) whole told = absurd told
+  steady_by (Err why) plan frames graph (Ok all) whole told = absurd told
+  steady_by (Err why) plan frames graph (Err stop) whole told = tt
 
   -- the stop names a source of its plan
   pub named_by : (done : Result (Unit {0}) RenderStop) → IfErr done (StopsBy of c sink old new window windows d) → IfErr done (NamesSource d.fixed.plan)

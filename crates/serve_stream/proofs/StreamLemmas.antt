@@ -115,7 +115,7 @@ one_failed feed faults book numbers (soft op) x is more = absurd (cc)
 module _ {S K : Type 0} (of : of_source.Ghosts S) (sink : Ghosts K) (c : CoreValue (Instance S)) (old mid new : K) (window : ℕ)
     (stands : Stands (feed_of of) (faults_of of) (book_of (feed_of of) c.fixed.plan c.table) (faults_in (faults_of of) c.fixed.plan c.table) c)
     (headed : Puts sink old mid (head (application_at c.fixed.plan c.fixed.root).info)) where
-  frames_put : (n : ℕ) → n ≤ frames_at c.fixed.plan c.fixed.root → PutsFirst holds_of (feed_of of) (faults_of of) Ends c sink mid new n
+  frames_put : (n : ℕ) → n ≤ frames_at c.fixed.plan c.fixed.root → PutsFirst holds_of (feed_of of) (faults_of of) (Ends of) c sink mid new n
       → PutsFrames sink c.fixed.plan c.fixed.root (book_of (feed_of of) c.fixed.plan c.table) old new n
   frames_put n few first = record {
     part = record { info = (application_at c.fixed.plan c.fixed.root).info; pictures = first.pictures };
@@ -137,20 +137,20 @@ module _ {S K : Type 0} (of : of_source.Ghosts S) (sink : Ghosts K) (c : CoreVal
       → PutsFrames sink c.fixed.plan c.fixed.root (book_of (feed_of of) c.fixed.plan c.table) old new (frames_at c.fixed.plan c.fixed.root)
   all_put all = frames_put (frames_at c.fixed.plan c.fixed.root) (omega arith) all.put
 
-  some_put : (n : ℕ) → n ≤ frames_at c.fixed.plan c.fixed.root → PutsFirst holds_of (feed_of of) (faults_of of) Ends c sink mid new n
+  some_put : (n : ℕ) → n ≤ frames_at c.fixed.plan c.fixed.root → PutsFirst holds_of (feed_of of) (faults_of of) (Ends of) c sink mid new n
       → PutsSome sink c.fixed.plan c.fixed.root (book_of (feed_of of) c.fixed.plan c.table) old new
   some_put n few first =
       let frames = frames_put n few first in
       inr (record { part = frames.part; put = frames.put; begins = frames.begins; has_one = tt })
 
-  count_put : (n : ℕ) → n ≤ frames_at c.fixed.plan c.fixed.root → PutsFirst holds_of (feed_of of) (faults_of of) Ends c sink mid new n
+  count_put : (n : ℕ) → n ≤ frames_at c.fixed.plan c.fixed.root → PutsFirst holds_of (feed_of of) (faults_of of) (Ends of) c sink mid new n
       → PutsCount c.fixed.plan c.fixed.root c.fixed.capacity (hands_at c window) sink old new (IsClipOf c.fixed.plan c.fixed.root (book_of (feed_of of) c.fixed.plan c.table)) n
   count_put n few first =
       let frames = frames_put n few first in
       record { part = frames.part; info_is = frames.info_is; count = frames.count; begins = frames.begins; put = frames.put }
 
-  ends_by : (x : Instance S) (frame want got n : ℕ) → n ≤ frames_at c.fixed.plan c.fixed.root → PutsFirst holds_of (feed_of of) (faults_of of) Ends c sink mid new n
-      → Ends x frame want got → EndsInFrame sink old new frame want got
+  ends_by : (x : Instance S) (frame want got n : ℕ) → n ≤ frames_at c.fixed.plan c.fixed.root → PutsFirst holds_of (feed_of of) (faults_of of) (Ends of) c sink mid new n
+      → Ends of x frame want got → EndsInFrame sink old new frame want got
   ends_by of_instance.Plain frame want got n few first ends = absurd ends
   ends_by (of_instance.Scratch width) frame want got n few first ends = absurd ends
   ends_by (of_instance.Source it) frame want got n few first ends =

@@ -17,15 +17,15 @@ hands_at c window = record { workers = c.fixed.workers; window = window }
 
 module _ {S K : Type 0} (of : of_source.Ghosts S) (c : CoreValue (Instance S)) (sink : Ghosts K) (old new : K)
     (window : ℕ) (windows : List WindowEvents) (d : CoreValue (Instance S)) where
-  -- all frames were put, and the journal is that of a whole render
+  -- all frames were put, no instance has failed, and the journal is that of a whole render
   abbrev pub RendersBy : Type 0
-  RendersBy = AllRendered holds_of (feed_of of) (faults_of of) Ends c sink old new
+  RendersBy = AllRendered holds_of (feed_of of) (faults_of of) (Ends of) c sink old new
       (IsWholeBy c.fixed.plan c.fixed.root c.fixed.capacity (hands_at c window) (frames_at c.fixed.plan c.fixed.root))
       windows d
 
   -- or why not
   abbrev pub StopsBy : RenderStop → Type 0
-  StopsBy stop = RenderEnds holds_of (feed_of of) (faults_of of) Ends c sink old new
+  StopsBy stop = RenderEnds holds_of (feed_of of) (faults_of of) (Ends of) c sink old new
       (IsFirstBy c.fixed.plan c.fixed.root c.fixed.capacity (hands_at c window) (frames_at c.fixed.plan c.fixed.root))
       (IsCutBy c.fixed.plan c.fixed.root c.fixed.capacity (hands_at c window) (frames_at c.fixed.plan c.fixed.root))
       windows d stop

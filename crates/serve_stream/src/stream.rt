@@ -6,7 +6,7 @@ ghost use Rattle.clip_graph.specs.Plan.{application_at, is_source};
 ghost use Rattle.serve_core.specs.Kept.{leases_out};
 ghost use Rattle.serve_core.specs.Sources.{book_of, faults_of as faults_in};
 ghost use Rattle.serve_core.specs.Stands.{Stands};
-ghost use Rattle.serve_worker.specs.Alone.{AllFree, held_in};
+ghost use Rattle.serve_worker.specs.Alone.{AllFree, held_in, counts_in};
 ghost use Rattle.serve_worker.specs.Instances.{feed_of, faults_of, holds_of};
 ghost use Rattle.prefetch.specs.Windows.{frames_at};
 ghost use Rattle.serve_stream.specs.Renders.{hands_at};
@@ -141,6 +141,8 @@ pub(crate) fn put_clip_alone<S: Source, K: Sink>(
         (hands_at core window) (book_at S.Source core) K.Sink out.old out.new journal.new result.0.table result.1 }
     ensures free { AllFree result.0.table }
     ensures held { held_in holds_of result.0.table ≡ held_in holds_of core.table }
+    ensures steady { OnOk result.1 (counts_in (faults_of S.Source) result.0.table ≡
+        counts_in (faults_of S.Source) core.table) }
     ensures unclaimed { result.0.claims ≡ [] }
     ensures later { IsLater K.Sink out.old out.new }
 {
@@ -180,6 +182,8 @@ pub(crate) fn put_clip_together<R: Threads + Wait + Sync, G: Gate, S: Source + S
         (hands_at core window) (book_at S.Source core) K.Sink out.old out.new journal.new result.0.table result.1 }
     ensures free { AllFree result.0.table }
     ensures held { held_in holds_of result.0.table ≡ held_in holds_of core.table }
+    ensures steady { OnOk result.1 (counts_in (faults_of S.Source) result.0.table ≡
+        counts_in (faults_of S.Source) core.table) }
     ensures unclaimed { result.0.claims ≡ [] }
     ensures later { IsLater K.Sink out.old out.new }
 {

@@ -1,9 +1,9 @@
 // The core of a graph, and the instances after its render.
-ghost use Rattle.std.specs.Prelude.{◌≡◌, ◌+◌, ◌≤◌, ◌<◌, length, None, IfOk, IfErr};
+ghost use Rattle.std.specs.Prelude.{◌≡◌, ◌+◌, ◌++◌, ◌≤◌, ◌<◌, length, None, IfOk, IfErr, OnOk};
 ghost use Rattle.fv_io.specs.Sink.{IsLater};
 ghost use Rattle.clip_frames.specs.Sources.{AreSources};
 ghost use Rattle.serve_worker.specs.Alone.{AllFree};
-ghost use Rattle.serve_worker.specs.Furnishing.{sources_in};
+ghost use Rattle.serve_worker.specs.Furnishing.{sources_in, fault_counts};
 ghost use Rattle.serve_worker.specs.Instances.{faults_of};
 ghost use Rattle.serve_stream.specs.Clips.{book_told};
 ghost use Rattle.serve_stream.specs.Cores.{IsCoreOf};
@@ -42,8 +42,7 @@ fn open_core<S: Source>(
     requires cache { 0 < cache }
     ensures core { IfOk result (λ r. IsCoreOf S.Source r.0 graph root cache hands sources.old.items) }
     ensures kept { IfOk result (λ r. r.1 ≡ graph) }
-    ensures all { IfOk result (λ r.
-        length sources.old.items ≡ length sources.new.items + length (sources_in r.0.table)) }
+    ensures all { IfOk result (λ r. sources.old.items ≡ sources.new.items ++ sources_in r.0.table) }
     ensures free { IfErr result AllFree }
     ensures left { IfErr result (λ table.
         length sources.old.items ≡ length sources.new.items + length (sources_in table)) }
@@ -67,7 +66,7 @@ fn open_core<S: Source>(
 }
 
 /// The stream of the clip at the root of a graph, put by one worker from a core over these sources, with a cache of so many
-/// frames, and the instances after it. The sources that no instance keeps are left.
+/// frames, and the instances after it. The sources that no instance keeps are left. Where all was put, no source has failed.
 pub fn put_graph_alone<S: Source, K: Sink>(
     alloc: Global,
     hands: Hands,
@@ -89,6 +88,8 @@ pub fn put_graph_alone<S: Source, K: Sink>(
         K.Sink out.old out.new journal.new result.0 result.1 }
     ensures free { AllFree result.0 }
     ensures all { length sources.old.items ≡ length sources.new.items + length (sources_in result.0) }
+    ensures steady { OnOk result.1 (fault_counts S.Source (sources.new.items ++ sources_in result.0) ≡
+        fault_counts S.Source sources.old.items) }
     ensures later { IsLater K.Sink out.old out.new }
 {
     let (core, kept) = match open_core(alloc, hands, graph, root, sources, cache) {
@@ -123,6 +124,8 @@ pub fn put_graph_together<R: Threads + Wait + Sync, G: Gate, S: Source + Send, K
         K.Sink out.old out.new journal.new result.0 result.1 }
     ensures free { AllFree result.0 }
     ensures all { length sources.old.items ≡ length sources.new.items + length (sources_in result.0) }
+    ensures steady { OnOk result.1 (fault_counts S.Source (sources.new.items ++ sources_in result.0) ≡
+        fault_counts S.Source sources.old.items) }
     ensures later { IsLater K.Sink out.old out.new }
 {
     let (core, kept) = match open_core(alloc, hands, graph, root, sources, cache) {

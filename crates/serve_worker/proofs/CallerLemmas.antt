@@ -1,7 +1,8 @@
--- What other crates may cite: the frames that a furnished table tells, and how many sources it has.
-use Rattle.std.proofs.Common.{◌≡◌, ℕ, suc, ◌+◌, ◌<◌, true, false, if◌then◌else◌, List, [], ◌∷◌, length, map, take, slice_get, Some, sym, refl, ap, ◌∙◌, subst, ⊎_elim, arith}
+-- What other crates may cite: the frames that a furnished table tells, how many sources it has, and how often these have
+-- failed.
+use Rattle.std.proofs.Common.{◌≡◌, ℕ, suc, ◌+◌, ◌<◌, true, false, if◌then◌else◌, List, [], ◌∷◌, ◌++◌, length, map, take, slice_get, Option, Some, None, sym, refl, ap, ◌∙◌, subst, ⊎_elim, arith}
 use Rattle.std.specs.List.{cons_option}
-use Rattle.std.proofs.lemmas.List.{length-append}
+use Rattle.std.proofs.lemmas.List.{length-append, map-append}
 use Rattle.std.proofs.lemmas.List.Recursion.{is_count_by}
 use Rattle.fv_io.specs.declared.source.Source.{Ghosts}
 use Rattle.fv_plane.specs.declared.format.Info.{Info}
@@ -17,9 +18,9 @@ use Rattle.inst_table.proofs.CallerLemmas.{test}
 use Rattle.serve_core.specs.Sources.{sources_from, all_told, feed_at, book_of}
 use Rattle.serve_worker.specs.declared.instance.Instance.{Instance}
 use Rattle.serve_worker.specs.declared.instance.Instance.TheVariants.{Plain, Scratch, Source}
-use Rattle.serve_worker.specs.Alone.{AllFree, held_in}
-use Rattle.serve_worker.specs.Furnishing.{sources_in, some_in, Furnishes}
-use Rattle.serve_worker.specs.Instances.{feed_of, holds_of}
+use Rattle.serve_worker.specs.Alone.{AllFree, held_in, counts_in}
+use Rattle.serve_worker.specs.Furnishing.{sources_in, fault_counts, some_in, Furnishes}
+use Rattle.serve_worker.specs.Instances.{feed_of, faults_of, holds_of}
 
 -- how many of these are sources
 abbrev counted : List Application → ℕ
@@ -108,3 +109,23 @@ count_held ((p, Free Plain) ∷ es) free = count_held es free
 count_held ((p, Free (Scratch width)) ∷ es) free = count_held es free
 count_held ((p, Free (Source it)) ∷ es) free = length-append (sources_in es) (it ∷ []) ∙ ap (λ n. n + 1) (count_held es free)
 count_held ((p, Leased w) ∷ es) free = absurd free
+
+-- the numbers beside the infos that are there, the last first
+abbrev beside : List (Option Info) → List ℕ → List ℕ
+beside [] ns = []
+beside (None ∷ infos) [] = []
+beside (None ∷ infos) (n ∷ ns) = beside infos ns
+beside (Some info ∷ infos) [] = []
+beside (Some info ∷ infos) (n ∷ ns) = beside infos ns ++ n ∷ []
+
+counts_beside : {S : Type 0} (of : Ghosts S) (table : List (Place × Slot (Instance S))) → AllFree table → fault_counts of (sources_in table) ≡ beside (held_in holds_of table) (counts_in (faults_of of) table)
+counts_beside of [] free = refl
+counts_beside of ((p, Free Plain) ∷ es) free = counts_beside of es free
+counts_beside of ((p, Free (Scratch width)) ∷ es) free = counts_beside of es free
+counts_beside of ((p, Free (Source it)) ∷ es) free = map-append (λ (s : FrameSource _). of.faults s.source) (sources_in es) (it ∷ []) ∙ ap (λ l. l ++ of.faults it.source ∷ []) (counts_beside of es free)
+counts_beside of ((p, Leased w) ∷ es) free = absurd free
+
+-- the sources in two tables that keep the same, and whose instances have failed as often
+pub same_counts : {S : Type 0} (of : Ghosts S) (es fs : List (Place × Slot (Instance S))) → AllFree es → AllFree fs → held_in holds_of fs ≡ held_in holds_of es → counts_in (faults_of of) fs ≡ counts_in (faults_of of) es
+    → fault_counts of (sources_in fs) ≡ fault_counts of (sources_in es)
+same_counts of es fs free free' held counts = counts_beside of fs free' ∙ ((λ i. beside (held i) (counts i)) ∙ sym (counts_beside of es free))

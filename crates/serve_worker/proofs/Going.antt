@@ -15,9 +15,9 @@ use Rattle.serve_events.specs.SerialRun.{leases}
 use Rattle.serve_core.specs.Calls.{left, abandoned}
 use Rattle.serve_core.specs.CoreValue.{CoreValue}
 use Rattle.serve_core.specs.Sources.{place_of}
-use Rattle.serve_worker.specs.Alone.{AllFree, held_in, Alone, AllFrom, Went}
+use Rattle.serve_worker.specs.Alone.{AllFree, held_in, counts_in, Alone, AllFrom, Went}
 use Rattle.serve_worker.proofs.KeyLemmas.{not_there, closed_claim}
-use Rattle.serve_worker.proofs.Tables.{free_back, held_put}
+use Rattle.serve_worker.proofs.Tables.{free_back, held_put, counts_put}
 
 module _ {I : Type 0} where
   -- a claim is made
@@ -83,6 +83,15 @@ module _ {I : Type 0} (holds : I → Option Info) where
         free = subst AllFree (sym table) (free_back there value c.table free);
         held = ap (held_in holds) table ∙ held_put holds there x value c.table was same;
       }))
+
+-- it comes back with its count of faults
+pub lent_steady : {I : Type 0} (faults : I → ℕ) (c c1 d : CoreValue I) (i : ℕ) (p : Place) (value : I) → p ≡ place_of c.fixed.plan 0 i
+    → c1 ≡ record c { table = with_slot (place_of c.fixed.plan 0 i) (Leased 0) c.table; journal = c.journal ++ Enter 0 i (instance_of c.fixed.plan 0 i) ∷ [] }
+    → d ≡ left c1 0 p value → (x : I) → slot_at (place_of c.fixed.plan 0 i) c.table ≡ Some (Free x) → faults value ≡ faults x → counts_in faults d.table ≡ counts_in faults c.table
+lent_steady faults c c1 d i p value place at is x was same =
+    let there : Place = place_of c.fixed.plan 0 i in
+    let table : d.table ≡ with_slot there (Free value) c.table = ap (λ (z : CoreValue _). z.table) is ∙ (ap (λ (z : CoreValue _). with_slot p (Free value) z.table) at ∙ (ap (λ (z : Place). with_slot z (Free value) (with_slot there (Leased 0) c.table)) place ∙ put_again there (Leased 0) (Free value) c.table)) in
+    ap (counts_in faults) table ∙ counts_put faults there x value c.table was same
 
 pub no_lease : (plan : List Application) (i : ℕ) → mode_at plan i ≡ 1 → leases plan 0 i ≡ []
 no_lease plan i m = rw (eq-eqb (mode_at plan i) 1 m) refl

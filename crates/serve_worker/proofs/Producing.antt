@@ -43,10 +43,10 @@ use Rattle.serve_core.specs.Sources.{place_of, shape_at}
 use Rattle.serve_core.specs.Stands.{Book, Stands, IsRight, FitsAct, Fits, ExceedsAct, CallsStand}
 use Rattle.serve_core.specs.Stops.{first_stop}
 use Rattle.serve_core.proofs.Standing.{calls_stand}
-use Rattle.serve_worker.specs.Alone.{Alone, AllFrom, held_in, Went, Ran}
+use Rattle.serve_worker.specs.Alone.{Alone, AllFrom, held_in, counts_in, Went, Ran}
 use Rattle.serve_worker.specs.Made.{Returned, Keeps, AreRight, StopIs, Made, Unmade, Published, Produced, Gathered, Stopped}
 use Rattle.serve_worker.specs.Works.{IsMade, MakeStops}
-use Rattle.serve_worker.proofs.Going.{went_none, went_more, abandon_went, lent_went, no_lease}
+use Rattle.serve_worker.proofs.Going.{went_none, went_more, abandon_went, lent_went, lent_steady, no_lease}
 use Rattle.serve_worker.proofs.KeyLemmas.{has_keys, keys_fronted, keys_put, not_there, closed_claim}
 use Rattle.serve_worker.proofs.Making.{source_mode, no_source, shared_for, filter_right, made_right}
 
@@ -94,6 +94,7 @@ module _ {I : Type 0} (holds : I → Option Info) (feed : I → Option (List Pic
       let made = is None in record {
         went = subst (Went holds c c) (sym (no_lease plan k.node one)) (went_none holds c a.free);
         cache = refl;
+        steady = refl;
         shape = made.shape;
         right = λ book numbers s. (s, λ right b q. filter_right plan k b inputs x a.is_plan less (made.filtered (no_source plan k.node a.is_plan less one) b) (right b q));
       }
@@ -151,6 +152,7 @@ module _ {I : Type 0} (holds : I → Option Info) (feed : I → Option (List Pic
   made_ok c c1 e k inputs l (Ok x) a less many first adm ret = record {
     went = lent_went holds plan c c1 e k.node l.place ret.value a.plan_is many adm.1 adm.3 ret.core a.free l.value adm.2 ret.holds_same;
     cache = ap (λ (z : CoreValue I). z.cache) ret.core ∙ ap (λ (z : CoreValue I). z.cache) adm.3;
+    steady = lent_steady faults c c1 e k.node l.place ret.value adm.1 adm.3 ret.core l.value adm.2 (ret.steady (λ bad. absurd (cc)));
     shape = (let made = ret.made_by in made.shape);
     right = λ book numbers s.
         let both = lent_stands c c1 e k.node l ret.value first adm (leased_now c c1 k.node l adm) ret.core ret.feed_same ret.faults_more book numbers s in
@@ -245,6 +247,7 @@ module _ {I : Type 0} (holds : I → Option Info) (feed : I → Option (List Pic
         stop = l.went.stop;
         free = l.went.free;
         held = l.went.held;
+        steady = l.steady;
         shape = l.shape;
         right = λ book numbers s ins_right.
             let both = l.right book numbers s in
@@ -259,6 +262,7 @@ module _ {I : Type 0} (holds : I → Option Info) (feed : I → Option (List Pic
   hit_produced c d k x a asked shaped = record {
     ran = λ most less. subst (λ (z : CoreValue I). Ran holds c z (serial_production_within most plan c.fixed.capacity (keys_of c.cache) k)) (sym asked.2) (ran most less);
     got = subst (λ (z : CoreValue I). has_got 0 k z.journal ≡ true) (sym asked.2) (now_got 0 k c.journal (Hit 0 k ∷ []) (hit_got 0 k));
+    steady = ap (λ (z : CoreValue I). counts_in faults z.table) asked.2;
     shape = shaped ∙ ap (λ pl. shape_at pl k.node) a.plan_is;
     right = λ book numbers s. let both = law.ask book numbers c d 0 k (Found x) s asked in (both.0, subst (λ pl. IsRight book pl k x) a.plan_is both.1);
   }
@@ -286,6 +290,7 @@ module _ {I : Type 0} (holds : I → Option Info) (feed : I → Option (List Pic
   produced_ok c d e f k inputs x above asked g p = record {
     ran = ran;
     got = subst (λ es. has_got 0 k es ≡ true) (sym p.journal) (now_got 0 k e.journal _ (now_got 0 k (leases plan 0 k.node) _ (publish_got 0 k _)));
+    steady = p.steady ∙ (g.steady ∙ ap (λ (z : CoreValue I). counts_in faults z.table) asked.3);
     shape = p.shape;
     right = λ book numbers s. let one = g.right book numbers (claimed_stands c d k asked book numbers s).0 in p.right book numbers one.0 one.1;
   }
@@ -367,12 +372,13 @@ module _ {I : Type 0} (holds : I → Option Info) (feed : I → Option (List Pic
 
   -- inputs, one after the other
   pub gathered_none : (c : CoreValue I) (bound : ℕ) → Alone plan c → Gathered holds feed faults ends plan c bound [] [] c
-  gathered_none c bound a = record { ran = λ most le. record { went = went_none holds c a.free; keys = refl }; got = refl; shapes = refl; right = λ book numbers s. (s, λ b q. refl) }
+  gathered_none c bound a = record { ran = λ most le. record { went = went_none holds c a.free; keys = refl }; got = refl; steady = refl; shapes = refl; right = λ book numbers s. (s, λ b q. refl) }
 
   pub gathered_more : (c d e : CoreValue I) (bound : ℕ) (ks : List Key) (inputs : List Picture) (k : Key) (x : Picture) → Gathered holds feed faults ends plan c bound ks inputs d → k.node < bound → Produced holds feed faults ends plan d k x e → Gathered holds feed faults ends plan c bound (ks ++ k ∷ []) (inputs ++ x ∷ []) e
   gathered_more c d e bound ks inputs k x g less p = record {
     ran = ran;
     got = one_more_got 0 ks k e.journal (subst (λ es. has_got_all 0 ks es ≡ true) (sym (p.ran (suc k.node) (omega arith)).went.journal) (all_got 0 ks d.journal _ g.got)) p.got;
+    steady = p.steady ∙ g.steady;
     shapes = map-append (λ (y : Picture). y.shape) inputs (x ∷ []) ∙ ((λ i. g.shapes i ++ p.shape i ∷ []) ∙ sym (map-append (λ (j : Key). shape_at plan j.node) ks (k ∷ [])));
     right = λ book numbers s. let one = g.right book numbers s in let two = p.right book numbers one.0 in (two.0, λ b q. both_right b (one.1 b q) (two.1 b q));
   }

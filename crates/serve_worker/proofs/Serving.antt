@@ -21,7 +21,7 @@ use Rattle.serve_core.specs.CoreValue.{CoreValue, Fixed, Outputs}
 use Rattle.serve_core.specs.Stands.{IsRight, StopFits, CallsStand}
 use Rattle.serve_core.specs.Stops.{kept_stop}
 use Rattle.serve_core.proofs.Standing.{calls_stand}
-use Rattle.serve_worker.specs.Alone.{Alone, held_in}
+use Rattle.serve_worker.specs.Alone.{Alone, held_in, counts_in}
 use Rattle.serve_worker.specs.Made.{Keeps, Produced, Stopped}
 use Rattle.serve_worker.specs.Windows.{Ready, Fresh, delivery, Step, CutOutput, untaken, taken, StepCut, served, Served, WindowCut}
 use Rattle.serve_worker.proofs.Producing.{memory_stop, stop_since}
@@ -105,6 +105,7 @@ module _ {I : Type 0} (holds : I → Option Info) (feed : I → Option (List Pic
         stop = went.stop ∙ ap (λ (z : CoreValue I). z.stop) took.3;
         free = went.free;
         held = went.held ∙ ap (λ (z : CoreValue I). held_in holds z.table) took.3;
+        steady = p.steady ∙ ap (λ (z : CoreValue I). counts_in faults z.table) took.3;
         taken = ap (λ (z : Outputs). z.taken) outputs;
         frames = ap (λ (z : Outputs). set z.frames (n - e.fixed.first) (Some x)) outputs ∙ ap (λ m. set c.outputs.frames m (Some x)) place;
         right = λ book numbers st.
@@ -158,6 +159,7 @@ module _ {I : Type 0} (holds : I → Option Info) (feed : I → Option (List Pic
     stop = refl;
     free = a.free;
     held = refl;
+    steady = refl;
     taken = none;
     delivered = λ j less. absurd (omega arith);
     undelivered = λ j le less. fresh.undelivered j less;
@@ -195,6 +197,7 @@ module _ {I : Type 0} (holds : I → Option Info) (feed : I → Option (List Pic
     stop = s.stop ∙ v.stop;
     free = s.free;
     held = s.held ∙ v.held;
+    steady = s.steady ∙ v.steady;
     taken = more;
     delivered = λ j less. ⊎_elim
         (λ (h : (j == i) ≡ true). let same : j ≡ i = eqb-true j i h in (x, ap (λ l. slice_get l j) s.frames ∙ (ap (slice_get (set d.outputs.frames i (Some x))) same ∙ at_set d.outputs.frames i (Some x) None (v.undelivered i (omega arith) inside))))

@@ -1,5 +1,6 @@
 -- The table while one worker is alone.
 use Rattle.std.proofs.Common.{◌≡◌, ℕ, true, false, if◌then◌else◌, List, [], ◌∷◌, Option, Some, sym, refl, ap, ◌∙◌, arith, ⊎_elim}
+use Rattle.serve_core.specs.Sources.{faults_at}
 use Rattle.fv_plane.specs.declared.format.Info.{Info}
 use Rattle.inst_table.specs.declared.place.Place.{Place}
 use Rattle.inst_table.specs.declared.place.Slot.{Slot}
@@ -9,7 +10,7 @@ use Rattle.inst_table.proofs.CallerLemmas.{test}
 use Rattle.serve_core.specs.Holds.{holds_none}
 use Rattle.serve_core.specs.Kept.{leases_out}
 use Rattle.serve_core.proofs.Places.{not_free, some_same}
-use Rattle.serve_worker.specs.Alone.{AllFree, held_at, held_in}
+use Rattle.serve_worker.specs.Alone.{AllFree, held_at, held_in, counts_in}
 
 module _ {I : Type 0} where
   pub never_busy : (p : Place) (w : ℕ) (es : List (Place × Slot I)) → AllFree es → slot_at p es ≡ Some (Leased w) → ⊥
@@ -40,6 +41,13 @@ module _ {I : Type 0} where
   held_put holds p x y ((q, s) ∷ es) at same = ⊎_elim
       (λ (e : same_place p q ≡ true). let at' : Some s ≡ Some (Free x) = rw e at at in let is : s ≡ Free x = some_same at' in rw e (ap (λ o. o ∷ held_in holds es) (same ∙ sym (ap (λ z. held_at holds (q, z)) is))))
       (λ (e : same_place p q ≡ false). rw e (ap (λ l. held_at holds (q, s) ∷ l) (held_put holds p x y es (rw e at at) same))) (test (same_place p q))
+
+  -- an instance that has failed as often
+  pub counts_put : (faults : I → ℕ) (p : Place) (x y : I) (es : List (Place × Slot I)) → slot_at p es ≡ Some (Free x) → faults y ≡ faults x → counts_in faults (with_slot p (Free y) es) ≡ counts_in faults es
+  counts_put faults p x y [] at same = refl
+  counts_put faults p x y ((q, s) ∷ es) at same = ⊎_elim
+      (λ (e : same_place p q ≡ true). let at' : Some s ≡ Some (Free x) = rw e at at in let is : s ≡ Free x = some_same at' in rw e (ap (λ n. n ∷ counts_in faults es) (same ∙ sym (ap (λ z. faults_at faults (Some z)) is))))
+      (λ (e : same_place p q ≡ false). rw e (ap (λ l. faults_at faults (Some s) ∷ l) (counts_put faults p x y es (rw e at at) same))) (test (same_place p q))
 
   pub free_back : (p : Place) (y : I) (es : List (Place × Slot I)) → AllFree es → AllFree (with_slot p (Free y) es)
   free_back p y [] h = tt

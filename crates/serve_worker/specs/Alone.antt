@@ -1,5 +1,5 @@
 -- A core with one worker, between two of its events.
-use Rattle.std.specs.Prelude.{◌≡◌, ℕ, ◌<◌, ◌≤◌, List, [], ◌∷◌, ◌++◌, map, Option, None}
+use Rattle.std.specs.Prelude.{◌≡◌, ℕ, ◌<◌, ◌≤◌, List, [], ◌∷◌, ◌++◌, map, Option, Some, None}
 use Rattle.std.specs.Map.{keys_of}
 use Rattle.fv_plane.specs.declared.format.Info.{Info}
 use Rattle.fv_plane.specs.declared.key.Key.{Key}
@@ -10,6 +10,7 @@ use Rattle.inst_table.specs.declared.place.Slot.TheVariants.{Free, Leased}
 use Rattle.serve_events.specs.declared.event.Event.{Event}
 use Rattle.serve_events.specs.SerialRun.{Serial}
 use Rattle.serve_core.specs.CoreValue.{CoreValue}
+use Rattle.serve_core.specs.Sources.{faults_at}
 
 -- no instance is out
 abbrev pub AllFree : {I : Type 0} → List (Place × Slot I) → Type 0
@@ -24,6 +25,10 @@ held_at holds (p, Leased w) = None
 
 abbrev pub held_in : {I : Type 0} → (I → Option Info) → List (Place × Slot I) → List (Option Info)
 held_in holds table = map (held_at holds) table
+
+-- how often each instance in the table has failed
+abbrev pub counts_in : {I : Type 0} → (I → ℕ) → List (Place × Slot I) → List ℕ
+counts_in faults table = map (λ e. faults_at faults (Some e.1)) table
 
 -- worker 0 is the only one, in a window that was not stopped
 pub record Alone {I : Type 0} (plan : List Application) (c : CoreValue I) : Type 0 where

@@ -1,5 +1,6 @@
 -- The instances that the nodes of a plan need, and the sources that stand among them.
-use Rattle.std.specs.Prelude.{◌≡◌, ℕ, zero, suc, ◌+◌, ◌==◌, ◌<◌, if◌then◌else◌, List, [], ◌∷◌, ◌++◌, length, slice_get, Option, Some, None}
+use Rattle.std.specs.Prelude.{◌≡◌, ℕ, zero, suc, ◌+◌, ◌==◌, ◌<◌, if◌then◌else◌, List, [], ◌∷◌, ◌++◌, length, map, slice_get, Option, Some, None}
+use Rattle.fv_io.specs.declared.source.Source.{Ghosts}
 use Rattle.fv_plane.specs.declared.format.Info.{Info}
 use Rattle.seq_source.specs.FrameSource.{FrameSource}
 use Rattle.clip_term.specs.ClipTerm.{Act, source, plain, time, space, joined, soft}
@@ -20,6 +21,10 @@ sources_in ((p, Free Plain) ∷ es) = sources_in es
 sources_in ((p, Free (Scratch width)) ∷ es) = sources_in es
 sources_in ((p, Free (Source it)) ∷ es) = sources_in es ++ it ∷ []
 sources_in ((p, Leased w) ∷ es) = sources_in es
+
+-- how often each of these sources has failed
+abbrev pub fault_counts : {S : Type 0} → Ghosts S → List (FrameSource S) → List ℕ
+fault_counts of sources = map (λ it. of.faults it.source) sources
 
 -- how many infos are there
 abbrev pub some_in : List (Option Info) → ℕ

@@ -12,12 +12,13 @@ use Rattle.serve_events.specs.declared.event.WindowStop.TheVariants.{Read, Chang
 use Rattle.serve_worker.specs.declared.instance.Instance.{Instance}
 use Rattle.serve_worker.specs.declared.instance.Instance.TheVariants.{Plain, Scratch, Source}
 
--- the bytes end at `got`, before `want`, the offset just past a frame of this index
-pub record EndsInFrame (index : Indexed) (frame want got : ℕ) : Type 0 where
+-- the bytes end at `got`, which is the place of the source, before `want`, the offset just past a frame of this index
+pub record EndsInFrame (index : Indexed) (place frame want got : ℕ) : Type 0 where
   pub is_index : IsIndex index
   pub inside : frame < index.info.frames
   pub want_is : want ≡ end_of index frame
   pub early : got < want
+  pub at : got ≡ place
 
 module _ {S : Type 0} (source : Ghosts S) where
   abbrev pub feed_of : Instance S → Option (List Picture)
@@ -30,22 +31,22 @@ module _ {S : Type 0} (source : Ghosts S) where
   faults_of (Scratch width) = 0
   faults_of (Source it) = source.faults it.source
 
+  abbrev pub Ends : Instance S → ℕ → ℕ → ℕ → Type 0
+  Ends Plain frame want got = ⊥
+  Ends (Scratch width) frame want got = ⊥
+  Ends (Source it) frame want got = EndsInFrame it.index (source.place it.source) frame want got
+
 abbrev pub holds_of : {S : Type 0} → Instance S → Option Info
 holds_of Plain = None
 holds_of (Scratch width) = None
 holds_of (Source it) = Some it.index.info
-
-abbrev pub Ends : {S : Type 0} → Instance S → ℕ → ℕ → ℕ → Type 0
-Ends Plain frame want got = ⊥
-Ends (Scratch width) frame want got = ⊥
-Ends (Source it) frame want got = EndsInFrame it.index frame want got
 
 -- why a source gave no frame of a key, by what it was before and after
 module _ {S : Type 0} (source : Ghosts S) where
   pub record ReadEndsEarly (k : Key) (j frame want got : ℕ) (old new : FrameSource S) : Type 0 where
     pub node_is : j ≡ k.node
     pub untold : (frames : List Picture) → frames_of source old ≡ Some frames → ⊥
-    pub ended : EndsInFrame new.index frame want got
+    pub ended : EndsInFrame new.index (source.place new.source) frame want got
 
   abbrev pub ReadStops : Key → FrameSource S → FrameSource S → WindowStop → Type 0
   ReadStops k old new (Read j) = (j ≡ k.node) × SourceFailed source old.source new.source

@@ -1,5 +1,5 @@
 -- What the calls of one worker leave of the core.
-use Rattle.std.specs.Prelude.{◌≡◌, ◌⊎◌, ℕ, ◌-◌, ◌<◌, ◌≤◌, true, List, [], ◌∷◌, ◌++◌, map, take, Option, Some, Result, Ok, Err}
+use Rattle.std.specs.Prelude.{◌≡◌, ◌⊎◌, ℕ, ◌-◌, ◌<◌, ◌≤◌, true, List, [], ◌∷◌, ◌++◌, map, take, Option, Some, Result, Ok, Err, IsErrOf}
 use Rattle.std.specs.Map.{keys_of}
 use Rattle.fv_plane.specs.declared.format.Info.{Info}
 use Rattle.fv_plane.specs.Picture.{Picture}
@@ -12,6 +12,7 @@ use Rattle.inst_table.specs.Lent.{Lent}
 use Rattle.serve_events.specs.declared.event.Event.{Event}
 use Rattle.serve_events.specs.declared.event.Event.TheVariants.{Publish}
 use Rattle.serve_events.specs.declared.event.WindowStop.{WindowStop}
+use Rattle.serve_events.specs.declared.event.WindowStop.TheVariants.{Read}
 use Rattle.serve_events.specs.Own.{has_got, has_got_all, may_fail, names_source}
 use Rattle.serve_events.specs.SerialRun.{serial_production_within, each_produced, leases, eviction_from}
 use Rattle.serve_core.specs.Calls.{left}
@@ -19,7 +20,7 @@ use Rattle.serve_core.specs.CoreValue.{CoreValue}
 use Rattle.serve_core.specs.Holds.{IsThere}
 use Rattle.serve_core.specs.Sources.{shape_at}
 use Rattle.serve_core.specs.Stands.{Book, Stands, StopFits, IsRight, EndShows}
-use Rattle.serve_worker.specs.Alone.{AllFree, held_in, Went, Ran}
+use Rattle.serve_worker.specs.Alone.{AllFree, held_in, counts_in, Went, Ran}
 use Rattle.serve_worker.specs.Works.{IsMade, MakeStops}
 
 module _ {I : Type 0} (holds : I → Option Info) (feed : I → Option (List Picture)) (faults : I → ℕ)
@@ -36,6 +37,7 @@ module _ {I : Type 0} (holds : I → Option Info) (feed : I → Option (List Pic
     pub core : d ≡ left c 0 l.place value
     pub feed_same : feed value ≡ feed l.value
     pub faults_more : faults l.value ≤ faults value
+    pub steady : (IsErrOf made (Read k.node) → ⊥) → faults value ≡ faults l.value
     pub holds_same : holds value ≡ holds l.value
     pub made_by : MadeBy k inputs l.value value made
 
@@ -61,6 +63,7 @@ module _ {I : Type 0} (holds : I → Option Info) (feed : I → Option (List Pic
     pub record Made (k : Key) (inputs : List Picture) (frame : Picture) (d : CoreValue I) : Type 0 where
       pub went : Went holds c d (leases plan 0 k.node)
       pub cache : d.cache ≡ c.cache
+      pub steady : counts_in faults d.table ≡ counts_in faults c.table
       pub shape : frame.shape ≡ shape_at plan k.node
       pub right : Keeps d (λ book numbers. AreRight (input_keys plan k) inputs book → IsRight book plan k frame)
 
@@ -83,6 +86,7 @@ module _ {I : Type 0} (holds : I → Option Info) (feed : I → Option (List Pic
       pub stop : d.stop ≡ c.stop
       pub free : AllFree d.table
       pub held : held_in holds d.table ≡ held_in holds c.table
+      pub steady : counts_in faults d.table ≡ counts_in faults c.table
       pub shape : frame.shape ≡ shape_at plan k.node
       pub right : (book : Book) (numbers : List ℕ) → Stands feed faults book numbers c
           → AreRight (input_keys plan k) inputs book → Stands feed faults book numbers d × IsRight book plan k frame
@@ -92,6 +96,7 @@ module _ {I : Type 0} (holds : I → Option Info) (feed : I → Option (List Pic
       pub ran : (most : ℕ) → k.node < most
           → Ran holds c d (serial_production_within most plan c.fixed.capacity (keys_of c.cache) k)
       pub got : has_got 0 k d.journal ≡ true
+      pub steady : counts_in faults d.table ≡ counts_in faults c.table
       pub shape : frame.shape ≡ shape_at plan k.node
       pub right : Keeps d (λ book numbers. IsRight book plan k frame)
 
@@ -100,6 +105,7 @@ module _ {I : Type 0} (holds : I → Option Info) (feed : I → Option (List Pic
       pub ran : (most : ℕ) → bound ≤ most
           → Ran holds c d (each_produced (serial_production_within most plan c.fixed.capacity) (keys_of c.cache) ks)
       pub got : has_got_all 0 ks d.journal ≡ true
+      pub steady : counts_in faults d.table ≡ counts_in faults c.table
       pub shapes : AreOfKeys plan ks frames
       pub right : Keeps d (λ book numbers. AreRight ks frames book)
 

@@ -14,7 +14,7 @@ use Rattle.serve_events.specs.Work.{CutShort, FailedWork}
 use Rattle.serve_core.specs.Calls.{next_output}
 use Rattle.serve_core.specs.CoreValue.{CoreValue}
 use Rattle.serve_core.specs.Stands.{StopFits, EndShows}
-use Rattle.serve_worker.specs.Alone.{AllFree, held_in}
+use Rattle.serve_worker.specs.Alone.{AllFree, held_in, counts_in}
 use Rattle.serve_worker.specs.Made.{Keeps, StopIs}
 
 -- between two outputs no claim is open, and the outputs are frames of the root
@@ -48,6 +48,7 @@ module _ {I : Type 0} (holds : I → Option Info) (feed : I → Option (List Pic
     pub stop : d.stop ≡ c.stop
     pub free : AllFree d.table
     pub held : held_in holds d.table ≡ held_in holds c.table
+    pub steady : counts_in faults d.table ≡ counts_in faults c.table
     pub taken : d.outputs.taken ≡ c.outputs.taken ++ 0 ∷ []
     pub frames : d.outputs.frames ≡ slice_set c.outputs.frames (length c.outputs.taken) (Some x)
     pub right : Keeps holds feed faults ends plan c d (λ book numbers. Unit {0})
@@ -80,7 +81,7 @@ module _ {I : Type 0} (holds : I → Option Info) (feed : I → Option (List Pic
   abbrev pub served : ℕ → Serial
   served count = serial_window plan c.fixed.root c.fixed.capacity (keys_of c.cache) c.fixed.first count
 
-  -- so many outputs were delivered, by exactly the events of the serial run
+  -- so many outputs were delivered, by exactly the events of the serial run, and no instance has failed
   pub record Served (count : ℕ) (d : CoreValue I) : Type 0 where
     pub journal : d.journal ≡ c.journal ++ (served count).events
     pub keys : keys_of d.cache ≡ (served count).keys
@@ -90,6 +91,7 @@ module _ {I : Type 0} (holds : I → Option Info) (feed : I → Option (List Pic
     pub stop : d.stop ≡ c.stop
     pub free : AllFree d.table
     pub held : held_in holds d.table ≡ held_in holds c.table
+    pub steady : counts_in faults d.table ≡ counts_in faults c.table
     pub taken : length d.outputs.taken ≡ count
     pub delivered : (j : ℕ) → j < count → (x : Picture) × (slice_get d.outputs.frames j ≡ Some (Some x))
     pub undelivered : (j : ℕ) → count ≤ j → j < c.fixed.count → slice_get d.outputs.frames j ≡ Some None

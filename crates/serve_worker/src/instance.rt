@@ -1,6 +1,7 @@
 // The instances of the nodes of a graph.
-ghost use Rattle.std.specs.Prelude.{◌≡◌, ◌<◌, ◌≤◌, false, length, slice_get, Some, IfOk, IfErr};
+ghost use Rattle.std.specs.Prelude.{◌≡◌, ◌<◌, ◌≤◌, false, length, slice_get, Some, IfOk, IfErr, IsErrOf};
 ghost use Rattle.std.specs.Option.{ForSome};
+ghost use Rattle.fv_io.specs.Source.{IsSteady};
 ghost use Rattle.fv_plane.specs.Picture.{IsPicture};
 ghost use Rattle.seq_source.specs.FrameSource.{frames_of, KeepsFrames};
 ghost use Rattle.clip_graph.specs.Plan.{application_at, is_source};
@@ -40,7 +41,7 @@ impl<S: Source> Held for Instance<S> {
 
     ghost holds = { λ it. holds_of it };
 
-    ghost ends = { λ it. Ends it };
+    ghost ends = { λ it. Ends S.Source it };
 }
 
 impl<S: Source> Works for Instance<S> {
@@ -72,6 +73,8 @@ fn read<S: Source>(source: &mut SeqSource<S>, key: Key) -> Result<Frame, WindowS
     ensures whole { IfOk result IsPicture }
     ensures stop { IfErr result (ReadStops S.Source key source.old source.new) }
     ensures keeps { KeepsFrames S.Source source.old source.new }
+    ensures steady { (IsErrOf result (WindowStop.Read key.node) → ⊥) →
+        IsSteady S.Source source.old.source source.new.source }
 {
     source.info();
     match source.frame(key.n) {

@@ -1,5 +1,5 @@
 // What a worker asks of an instance.
-ghost use Rattle.std.specs.Prelude.{◌≡◌, ◌≤◌, length, IfOk, IfErr};
+ghost use Rattle.std.specs.Prelude.{◌≡◌, ◌≤◌, length, IfOk, IfErr, IsErrOf};
 ghost use Rattle.clip_graph.specs.Unfolding.{input_keys};
 ghost use Rattle.clip_frames.specs.Asked.{AreOfKeys};
 ghost use Rattle.serve_events.specs.Keys.{IsKey};
@@ -15,7 +15,7 @@ use std::alloc::Global;
 /// An instance of a node at work.
 pub trait Works: Held {
     /// The frame of a key, from the frames that it is made of. A source reads it. An `Err` says why there is none; the
-    /// instance can be asked again.
+    /// instance can be asked again. No fault is counted but with `Read`.
     fn make(
         &mut self,
         alloc: Global,
@@ -30,5 +30,7 @@ pub trait Works: Held {
         ensures stop { IfErr result (MakeStops Self.feed Self.faults Self.ends graph.now key.node self.old self.new) }
         ensures feed { Self.feed self.new ≡ Self.feed self.old }
         ensures faults { Self.faults self.old ≤ Self.faults self.new }
+        ensures steady { (IsErrOf result (WindowStop.Read key.node) → ⊥) →
+            Self.faults self.new ≡ Self.faults self.old }
         ensures source { Self.holds self.new ≡ Self.holds self.old };
 }

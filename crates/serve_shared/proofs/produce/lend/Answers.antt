@@ -1,4 +1,4 @@
-use Rattle.std.proofs.Common.{◌≤◌, List, refl, ap, ◌∙◌, subst}
+use Rattle.std.proofs.Common.{◌≡◌, ◌≤◌, List, refl, ap, ◌∙◌, subst}
 use Rattle.clip_graph.specs.Plan.{Application}
 use Rattle.inst_table.specs.Lent.{Lent}
 use Rattle.serve_worker.specs.Works.{IsMade, MakeStops}
@@ -14,7 +14,8 @@ leave_turn-requires-clause-lent g c =
     let source = c.make.ensures.source ∙ ap g.I.Held.holds value in
     let feed = c.make.ensures.feed ∙ ap g.I.Held.feed value in
     let faults = subst (λ (v : g.row.I.Denot). g.I.Held.faults v ≤ g.I.Held.faults c.make.new.self) value c.make.ensures.faults in
-    lent_again g.I.Held.holds g.I.Held.feed g.I.Held.faults g.I.Held.ends me c.args.seat c.args.key c.args.frames.now c.requires.sits c.requires.key c.requires.right old c.requires.lent new refl source feed faults
+    let steady = subst (λ (v : g.row.I.Denot). g.I.Held.faults c.make.new.self ≡ g.I.Held.faults v) value (c.in-Ok.ensures.steady (λ bad. absurd (cc))) in
+    lent_again g.I.Held.holds g.I.Held.feed g.I.Held.faults g.I.Held.ends me c.args.seat c.args.key c.args.frames.now c.requires.sits c.requires.key c.requires.right old c.requires.lent new refl source feed faults steady
 
 pub give_back_turn-requires-clause-stopped : goal.give_back_turn-requires-clause-stopped
 give_back_turn-requires-clause-stopped g c =

@@ -3,7 +3,7 @@ use Rattle.serve_events.specs.Windows.{windows_of}
 use Rattle.serve_worker.specs.Instances.{holds_of}
 use Rattle.serve_worker.proofs.Tables.{all_free}
 use Rattle.prefetch.specs.Windows.{Stays}
-use Rattle.serve_stream.proofs.RenderLemmas.{stays_by, named_by}
+use Rattle.serve_stream.proofs.RenderLemmas.{stays_by, steady_by, named_by}
 use Rattle.serve_stream.proofs.StreamLemmas.{streamed, streamed_headless}
 use Rattle.serve_stream.proofs.stream.put_clip_alone.Goals as goal
 use Rattle.serve_stream.proofs.stream.put_clip_alone.Given.{Over}
@@ -42,3 +42,8 @@ returns-clause-held g c = let kept = stays g c in kept.held
 
 pub returns-clause-unclaimed : goal.returns-clause-unclaimed
 returns-clause-unclaimed g c = let kept = stays g c in kept.unclaimed
+
+pub returns-clause-steady : goal.returns-clause-steady
+returns-clause-steady g c =
+    steady_by g.S.Source c.args.core g.K.Sink c.put_head.new.out c.render_alone-core.new.out c.args.window (windows_of c.render_alone-core.new.journal) c.render_alone-core.result.0
+    c.render_alone-core.result.1 c.render_alone-core.result.0.fixed.plan c.node.result.now.info.frames c.args.kept c.whole_of-whole.result c.render_alone-core.ensures.ok c.whole_of-whole.ensures
