@@ -4,5 +4,6 @@ mod MeaningLemmas
 mod OptionLemmas
 mod PickLemmas
 mod PlayLemmas
+mod ReadsLemmas
 mod RunLemmas
 mod TextLemmas

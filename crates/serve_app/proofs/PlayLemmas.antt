@@ -1,5 +1,5 @@
 -- A clip that was put, and what a script means.
-use Rattle.std.proofs.Common.{◌≡◌, ◌∙◌, ◌⊎◌, ◌≤◌, ℕ, zero, suc, arith, Bool, true, false, IsTrue, List, [], ◌∷◌, ◌++◌, length, map, get_or, slice_get, Option, Some, None, Result, Ok, Err, refl, inl, inr, sym, ap, ap₂, subst}
+use Rattle.std.proofs.Common.{◌≡◌, ◌∙◌, ◌⊎◌, ℕ, zero, suc, arith, Bool, true, false, IsTrue, List, [], ◌∷◌, ◌++◌, length, map, get_or, slice_get, Option, Some, None, Result, Ok, Err, refl, inl, inr, sym, ap, ap₂, subst}
 use Rattle.std.proofs.lemmas.List.{take_all, length-map}
 use Rattle.std.proofs.lemmas.List.FromFn.{length-range_with_len}
 use Rattle.std.specs.List.{range_with_len}
@@ -45,7 +45,6 @@ use Rattle.serve_text.specs.StopKinds.{stop_of, Names}
 use Rattle.serve_app.specs.Meaning.{meaning_in, HasPictures, IsBookOf, MeansClip}
 use Rattle.serve_app.specs.Info.{IsInfoOf, IsToldInfo, InfoShows}
 use Rattle.serve_stream.specs.Clips.{book_told, IsClipOf, SomeFailed, PutsFrames, PutsSome, StreamShows}
-use Rattle.serve_app.specs.Closing.{CountsTable}
 use Rattle.serve_stream.specs.declared.staff.Staff.{Staff}
 use Rattle.serve_stream.specs.declared.stream.Whole.{Whole}
 use Rattle.serve_stream.specs.Staff.{hands}
@@ -343,12 +342,6 @@ before_tells told world script sink out failed before now of_stop.Write tells en
 before_tells told world script sink out failed before now of_stop.Memory tells ends fails = refl
 
 -- ---- what the render leaves
-
--- a failed instance of a table whose faults were counted
-pub count_rose : {I : Type 0} (faults : I → ℕ) (table : List (Place × Slot I)) (before mid now after : ℕ) → before ≤ mid → CountsTable faults table mid now → now ≤ after → SomeFailed faults table → HasRisen before after
-count_rose faults table before mid now after first counts last failed =
-    let counted = counts failed.place failed.instance failed.there in
-    omega (arith, first, counted, last, failed.failed)
 
 -- a script that was not evaluated leaves no journal
 pub before_render : {K : Type 0} (told : Bool) (world : World) (script : List ℕ) (sink : Ghosts K) (out : K) (failed : Type 0) (capacity : ℕ) (staff : Staff) (stop : Stop)

@@ -1,5 +1,5 @@
 -- What a run leaves, from what its parts show.
-use Rattle.std.proofs.Common.{◌≡◌, ◌⊎◌, ℕ, ◌≤◌, Bool, true, false, List, [], Option, Some, None, Result, Ok, Err, inl, inr, refl, sym, ◌∙◌, ap, ap₂, subst, codes, arith}
+use Rattle.std.proofs.Common.{◌≡◌, ◌⊎◌, ℕ, ◌≤◌, Bool, true, false, List, [], Option, Some, None, Result, Ok, Err, OnOk, inl, inr, refl, sym, ◌∙◌, ap, ap₂, subst, codes, arith}
 use Rattle.fv_io.specs.declared.files.Files as of_files
 use Rattle.fv_io.specs.declared.sink.Sink.{Ghosts}
 use Rattle.fv_io.specs.Files.{KeepsFiles, FilesFailed}
@@ -17,6 +17,7 @@ use Rattle.serve_text.specs.declared.stop.Stop.TheVariants.{Script, Input, Chang
 use Rattle.serve_text.specs.StopKinds.{status_of_stop, Names}
 use Rattle.serve_app.specs.Info.{IsInfoOf, IsToldInfo, InfoShows}
 use Rattle.serve_app.specs.Playing.{PutsClip, PutsInfo}
+use Rattle.serve_app.specs.Reads.{ReadsOnce}
 use Rattle.serve_app.specs.Meaning.{Meaning, a_clip, a_fault, MeansClip, Means, status_of, status_of_fault}
 use Rattle.prefetch.specs.Rendered.{PutsNothing}
 use Rattle.serve_stream.specs.Rendered.{PutsWholeFrames, EndsInFrame, PutsHead, PutsNoHead}
@@ -74,6 +75,10 @@ known_of Write = inr (omega arith, omega arith)
 known_of Memory = inr (omega arith, omega arith)
 
 module _ {F S K E : Type 0} (files : of_files.Ghosts F S) (sink : Ghosts K) (lines : Ghosts E) (f g : F) (out new : K) (err said : E) (script : List ℕ) where
+  -- no fault of the files was counted, and each was fetched as often as the script reads it
+  abbrev ReadsThem : Type 0
+  ReadsThem = ReadsOnce (files.world f) script (files.faults f) (files.faults g) (files.fetched f) (files.fetched g)
+
   -- ---- causes
 
   -- what a stop shows, whatever was to be put
@@ -208,23 +213,25 @@ module _ {F S K E : Type 0} (files : of_files.Ghosts F S) (sink : Ghosts K) (lin
     Ended asked status = Headline files sink lines f g out new err said script capacity staff journal asked status
 
     -- the whole text was put, and what is on `err` shows the status
-    headline_by : (asked : Bool) (status frames : ℕ) → InWorld (files.world f) (λ world. PutsClip sink world script out new frames) → ((status ≡ 0) ⊎ (status ≡ 5))
+    headline_by : (asked : Bool) (status frames : ℕ) → InWorld (files.world f) (λ world. PutsClip sink world script out new frames) → ReadsThem → ((status ≡ 0) ⊎ (status ≡ 5))
         → Causes files sink lines f g out new err said script (Well asked) (Failed asked) status → Ended asked status
-    headline_by asked status frames whole which causes = record {
+    headline_by asked status frames whole reads which causes = record {
       whole = λ zero. whole_of frames whole;
       prefix = prefix_of_whole frames whole;
       nothing = λ world is none. (let one = whole world is in absurd (none one.clip one.means));
       whole_frames = λ other. absurd (omega (arith, which, other));
+      steady = λ zero. reads.steady;
+      fetched = λ zero. reads.fetched;
       causes = causes;
     }
 
-    pub headline_of_whole : (asked : Bool) (frames : ℕ) → InWorld (files.world f) (λ world. PutsClip sink world script out new frames) → Well asked → Ended asked 0
-    headline_of_whole asked frames whole quiet = headline_by asked 0 frames whole (inl refl) (causes_of_whole (Well asked) (Failed asked) quiet (has_clip frames whole))
+    pub headline_of_whole : (asked : Bool) (frames : ℕ) → InWorld (files.world f) (λ world. PutsClip sink world script out new frames) → ReadsThem → Well asked → Ended asked 0
+    headline_of_whole asked frames whole reads quiet = headline_by asked 0 frames whole reads (inl refl) (causes_of_whole (Well asked) (Failed asked) quiet (has_clip frames whole))
 
-    pub headline_of_cut : (frames : ℕ) → InWorld (files.world f) (λ world. PutsClip sink world script out new frames)
+    pub headline_of_cut : (frames : ℕ) → InWorld (files.world f) (λ world. PutsClip sink world script out new frames) → ReadsThem
         → (text : List ℕ) → IsReport (files.world f) script capacity staff journal text → CutsReport lines err said text → Ended true 5
-    headline_of_cut frames whole text is cut =
-        headline_by true 5 frames whole (inr refl) (causes_of_cut (Well true) (Failed true) (inr (record { whole = whole_of frames whole; text = text; is = is; cut = cut })))
+    headline_of_cut frames whole reads text is cut =
+        headline_by true 5 frames whole reads (inr refl) (causes_of_cut (Well true) (Failed true) (inr (record { whole = whole_of frames whole; text = text; is = is; cut = cut })))
 
   module _ (stop : Stop) where
     abbrev Shown : Type 0
@@ -283,6 +290,8 @@ module _ {F S K E : Type 0} (files : of_files.Ghosts F S) (sink : Ghosts K) (lin
       prefix = prefix_of stop shown;
       nothing = nothing_of stop shown;
       whole_frames = frames_of stop shown;
+      steady = λ zero. absurd (never_zero stop zero);
+      fetched = λ zero. absurd (never_zero stop zero);
       causes = causes_of (Well capacity staff journal asked) (Failed capacity staff journal asked) (fails_by asked) stop (cause_of stop shown) says;
     }
 
@@ -297,15 +306,17 @@ module _ {F S K E : Type 0} (files : of_files.Ghosts F S) (sink : Ghosts K) (lin
       a.text_is ∙ ap₂ (λ p r. info_text p r (workers a.crew) (window a.crew)) plan root
       ∙ ap (λ c. info_text b.plan b.root (workers c) (window c)) crew ∙ sym b.text_is
 
-  pub info_of_whole : InWorld (files.world f) (λ world. PutsInfo sink world script out new) → ScriptHasClip (files.world f) script → said ≡ err
+  pub info_of_whole : InWorld (files.world f) (λ world. PutsInfo sink world script out new) → ScriptHasClip (files.world f) script → ReadsThem → said ≡ err
       → InfoEnds files sink lines f g out new err said script 0
-  info_of_whole whole has quiet = record {
+  info_of_whole whole has reads quiet = record {
     whole = λ zero world is. (let one = whole world is in (one.text, one.info, one.put));
     prefix = λ text is.
         (let one = whole is.world is.told_is in
         gets_all (sink.bytes out) (sink.bytes new) text (rw (one_info is.world one.text text one.info is.info) at one.put));
     nothing = λ world is none. (let one = has world is in absurd (none one.0 one.1));
     unwritten = λ which. absurd (omega (arith, which));
+    steady = λ zero. reads.steady;
+    fetched = λ zero. reads.fetched;
     by_input = λ is. absurd (omega (arith, is));
     causes = causes_of_whole (said ≡ err) Fails quiet has;
   }
@@ -363,6 +374,8 @@ module _ {F S K E : Type 0} (files : of_files.Ghosts F S) (sink : Ghosts K) (lin
     prefix = info_prefix stop shown;
     nothing = info_nothing stop shown;
     unwritten = info_unwritten stop shown;
+    steady = λ zero. absurd (never_zero stop zero);
+    fetched = λ zero. absurd (never_zero stop zero);
     by_input = info_input stop shown says;
     causes = causes_of (said ≡ err) Fails (λ failed. failed) stop (info_cause stop shown) says;
   }
@@ -582,22 +595,25 @@ module _ {F S K E : Type 0} (files : of_files.Ghosts F S) (sink : Ghosts K) (lin
 
   -- a render by what was done and what was said of it
   module _ (script : List ℕ) (options : RenderOptions) where
+    abbrev Reading : Type 0
+    Reading = ReadsOnce (files.world f) script (files.faults f) (files.faults g) (files.fetched f) (files.fetched g)
+
     abbrev Rendered : ℕ → Type 0
     Rendered status = Headline files sink lines f g out new err said script (cache_of options.cache) (by options) journal options.report status
 
-    quietly : (frames status : ℕ) → InWorld (files.world f) (λ world. PutsClip sink world script out new frames) → options.report ≡ false → status ≡ 0 → said ≡ err → Rendered status
-    quietly frames status whole unasked zero quiet =
-        subst Rendered (sym zero) (headline_of_whole files sink lines f g out new err said script (cache_of options.cache) (by options) journal options.report frames whole
+    quietly : (frames status : ℕ) → InWorld (files.world f) (λ world. PutsClip sink world script out new frames) → Reading → options.report ≡ false → status ≡ 0 → said ≡ err → Rendered status
+    quietly frames status whole reads unasked zero quiet =
+        subst Rendered (sym zero) (headline_of_whole files sink lines f g out new err said script (cache_of options.cache) (by options) journal options.report frames whole reads
         (subst (Quiet files sink lines f g out new err said script (cache_of options.cache) (by options) journal) (sym unasked) quiet))
 
-    reported : (frames status : ℕ) (text : List ℕ) → InWorld (files.world f) (λ world. PutsClip sink world script out new frames) → options.report ≡ true
+    reported : (frames status : ℕ) (text : List ℕ) → InWorld (files.world f) (λ world. PutsClip sink world script out new frames) → Reading → options.report ≡ true
         → IsReport (files.world f) script (cache_of options.cache) (by options) journal text → ((status ≡ 0) × Puts lines err said text) ⊎ ((status ≡ 5) × CutsReport lines err said text) → Rendered status
-    reported frames status text whole asked is (inl put) =
-        subst Rendered (sym put.0) (headline_of_whole files sink lines f g out new err said script (cache_of options.cache) (by options) journal options.report frames whole
+    reported frames status text whole reads asked is (inl put) =
+        subst Rendered (sym put.0) (headline_of_whole files sink lines f g out new err said script (cache_of options.cache) (by options) journal options.report frames whole reads
         (subst (Quiet files sink lines f g out new err said script (cache_of options.cache) (by options) journal) (sym asked) (record { text = text; is = is; put = put.1 })))
-    reported frames status text whole asked is (inr cut) =
+    reported frames status text whole reads asked is (inr cut) =
         subst Rendered (sym cut.0) (subst (λ b. Headline files sink lines f g out new err said script (cache_of options.cache) (by options) journal b 5) (sym asked)
-        (headline_of_cut files sink lines f g out new err said script (cache_of options.cache) (by options) journal frames whole text is cut.1))
+        (headline_of_cut files sink lines f g out new err said script (cache_of options.cache) (by options) journal frames whole reads text is cut.1))
 
     -- the report is that of the journal
     report_is : (log : Record) (plan : List Application) → journal ≡ Some log → IsRunOf (files.world f) script (cache_of options.cache) (by options) journal plan
@@ -613,13 +629,13 @@ module _ {F S K E : Type 0} (files : of_files.Ghosts F S) (sink : Ghosts K) (lin
       → RenderDoes files sink f g out new journal script options (by options) done → ScriptCuts (files.world f) script (cache_of options.cache) (by options) sink out new (TellsStop (stop_in done)) journal
       → HeadShows sink out new (HasInfo (files.world f) script) (stop_in done) journal
       → Finishes lines err said done log status → Leaves → Ends files sink lines f g out new err said by words status journal
-  ends_of_done script options (Ok None) log status there asked (unasked, whole, serial) cut head (none, quiet) leaves =
-      ends_of_render script options status asked (quietly script options whole.0 status whole.1 unasked none quiet)
+  ends_of_done script options (Ok None) log status there asked (unasked, whole, reads, serial) cut head (none, quiet) leaves =
+      ends_of_render script options status asked (quietly script options whole.0 status whole.1 reads unasked none quiet)
       (journal_of_whole files sink lines f g out new err said script (cache_of options.cache) (by options) journal status (inl none) serial cut)
       (unheaded sink out new _ None journal status head (λ bad. absurd (cc))) (headed_of sink out new _ None journal head) leaves
   ends_of_done script options (Ok (Some plan)) None status there asked done cut head said_so leaves = absurd said_so
-  ends_of_done script options (Ok (Some plan)) (Some log) status there asked (with_report, whole, is) cut head said_so leaves =
-      ends_of_render script options status asked (reported script options whole.0 status (report plan (windows_of log)) whole.1 with_report (report_is script options log plan there is) said_so.ends)
+  ends_of_done script options (Ok (Some plan)) (Some log) status there asked (with_report, whole, reads, is) cut head said_so leaves =
+      ends_of_render script options status asked (reported script options whole.0 status (report plan (windows_of log)) whole.1 reads with_report (report_is script options log plan there is) said_so.ends)
       (journal_of_whole files sink lines f g out new err said script (cache_of options.cache) (by options) journal status (zero_or_five status _ _ said_so.ends) is.run cut)
       (unheaded sink out new _ None journal status head (λ bad. absurd (cc))) (headed_of sink out new _ None journal head) leaves
   ends_of_done script options (Err stop) log status there asked shown cut head (is, says) leaves =
@@ -633,7 +649,7 @@ module _ {F S K E : Type 0} (files : of_files.Ghosts F S) (sink : Ghosts K) (lin
   ends_of (c.Render script options) done status asked (does, cut, head) empty said_so leaves = ends_of_done script options done journal status refl asked does cut head said_so leaves
   ends_of (c.Info script) (Ok None) status asked done empty said_so leaves =
       ends_of_info script status asked (subst (λ n. InfoEnds files sink lines f g out new err said script n) (sym said_so.0)
-      (info_of_whole files sink lines f g out new err said script done.0 done.1 said_so.1)) empty leaves
+      (info_of_whole files sink lines f g out new err said script done.0 done.1 done.2 said_so.1)) empty leaves
   ends_of (c.Info script) (Ok (Some plan)) status asked done empty said_so leaves = absurd done
   ends_of (c.Info script) (Err stop) status asked done empty said_so leaves =
       ends_of_info script status asked (subst (λ n. InfoEnds files sink lines f g out new err said script n) (sym said_so.0)
@@ -650,11 +666,12 @@ module _ {F S K E : Type 0} (files : of_files.Ghosts F S) (sink : Ghosts K) (lin
 module _ {F S K : Type 0} (files : of_files.Ghosts F S) (sink : Ghosts K) (f g : F) (out new : K) (journal : Option Record) (by : RenderOptions → Staff) where
   by_report : (script : List ℕ) (options : RenderOptions) (report : Bool) (done : Result Whole Stop) → options.report ≡ report
       → IsScriptRender (files.world f) script (cache_of options.cache) (by options) (FilesFailed files f g) sink out new journal done
+      → OnOk done (ReadsOnce (files.world f) script (files.faults f) (files.faults g) (files.fetched f) (files.fetched g))
       → RenderDoes files sink f g out new journal script options (by options) (graph_in report done)
-  by_report script options true (Ok all) asked is = (asked, (all.frames, is.whole), is.rendered)
-  by_report script options false (Ok all) asked is = (asked, (all.frames, is.whole), (let of = is.rendered in of.run))
-  by_report script options true (Err stop) asked is = is.stop
-  by_report script options false (Err stop) asked is = is.stop
+  by_report script options true (Ok all) asked is reads = (asked, (all.frames, is.whole), reads, is.rendered)
+  by_report script options false (Ok all) asked is reads = (asked, (all.frames, is.whole), reads, (let of = is.rendered in of.run))
+  by_report script options true (Err stop) asked is reads = is.stop
+  by_report script options false (Err stop) asked is reads = is.stop
 
   same_stop : (report : Bool) (done : Result Whole Stop) → stop_in done ≡ stop_in (graph_in report done)
   same_stop true (Ok all) = refl
@@ -664,10 +681,11 @@ module _ {F S K : Type 0} (files : of_files.Ghosts F S) (sink : Ghosts K) (f g :
 
   pub render_does : (script : List ℕ) (options : RenderOptions) (done : Result Whole Stop)
       → IsScriptRender (files.world f) script (cache_of options.cache) (by options) (FilesFailed files f g) sink out new journal done
+      → OnOk done (ReadsOnce (files.world f) script (files.faults f) (files.faults g) (files.fetched f) (files.fetched g))
       → Does files sink f g out new journal by (c.Render script options) (graph_in options.report done)
-  render_does script options done is =
+  render_does script options done is reads =
       let same = same_stop options.report done in (
-        by_report script options options.report done refl is,
+        by_report script options options.report done refl is reads,
         rw same at is.cut,
         rw same at is.head,
       )
@@ -677,14 +695,14 @@ module _ {F S K : Type 0} (files : of_files.Ghosts F S) (sink : Ghosts K) (f g :
   pub has_log : (command : Command) (done : Result (Option (List Application)) Stop) → Does files sink f g out new journal by command done → HasLog done journal
   has_log command (Ok None) does = tt
   has_log command (Err stop) does = tt
-  has_log (c.Render script options) (Ok (Some plan)) does = let is = does.0.2 in let run = is.run in let serial = run.rendered in subst (HasLog (Ok (Some plan))) (sym serial.there) tt
+  has_log (c.Render script options) (Ok (Some plan)) does = let is = does.0.3 in let run = is.run in let serial = run.rendered in subst (HasLog (Ok (Some plan))) (sym serial.there) tt
   has_log (c.Info script) (Ok (Some plan)) does = absurd does
   has_log (c.SelfTest number) (Ok (Some plan)) does = absurd does
 
 module _ {F S K E : Type 0} (files : of_files.Ghosts F S) (sink : Ghosts K) (lines : Ghosts E) (f : F) (out : K) (err said : E) (by : RenderOptions → Staff) (words : List (List ℕ)) where
   -- what is left untouched
   untouched : KeepsFiles files f f
-  untouched = record { world = refl; given = refl; later = omega arith }
+  untouched = record { world = refl; given = refl; fetched = omega arith; later = omega arith }
 
   -- memory ran out before anything was done
   memory_done : (command : Command) → Does files sink f f out out None by command (Err Memory)

@@ -1,7 +1,7 @@
 -- The headline: what a run of the program promises. A render that ends with status 0 has written exactly the text of
 -- the clip that the script means. Any other ending has written a prefix of that text, or nothing where there is no
 -- clip. Each status has the cause that it names.
-use Rattle.std.specs.Prelude.{◌≡◌, ◌⊎◌, ℕ, ◌≤◌, Bool, true, false, List, Option, Some, None}
+use Rattle.std.specs.Prelude.{◌≡◌, ◌⊎◌, ℕ, ◌+◌, ◌≤◌, Bool, true, false, List, Option, Some, None}
 use Rattle.fv_io.specs.declared.files.Files as of_files
 use Rattle.fv_io.specs.declared.sink.Sink.{Ghosts}
 use Rattle.fv_io.specs.Files.{KeepsFiles, FilesFailed}
@@ -23,6 +23,7 @@ use Rattle.serve_app.specs.Words.{IsRender, IsInfo, IsSelfTest}
 use Rattle.serve_app.specs.Meaning.{Meaning, MeansClip, Means, status_of}
 use Rattle.serve_app.specs.Info.{IsInfoOf, IsToldInfo}
 use Rattle.serve_app.specs.Journals.{cache_of, IsScriptRendered, IsReport, ScriptCuts}
+use Rattle.serve_app.specs.Reads.{files_in}
 use Rattle.serve_text.specs.Reports.{CutsReport}
 use Rattle.serve_app.specs.SelfTest.{SelfTestEnds}
 use Rattle.prefetch.specs.Rendered.{PutsNothing}
@@ -127,6 +128,10 @@ module _ {F S K E : Type 0} (files : of_files.Ghosts F S) (sink : Ghosts K) (lin
             ((clip : Clip) → MeansClip world script clip → ⊥) → PutsNothing sink out new)
         pub whole_frames : (status ≡ 4) ⊎ (status ≡ 6)
             → PutsWholeFrames sink out new (IsOfScript (files.world f) script) (ScriptHasClip (files.world f) script)
+        -- no fault was counted, so nothing that failed was tried again; as many files were fetched as the script reads
+        pub steady : status ≡ 0 → files.faults g ≡ files.faults f
+        pub fetched : status ≡ 0 → InWorld (files.world f) (λ world.
+            files.fetched g ≡ files.fetched f + files_in world script)
         pub causes : Causes (Quiet report) (Unwritten report) status
 
       -- the journal: that of the whole render, or the beginning of it up to a stop, which the status and the line tell
@@ -143,6 +148,10 @@ module _ {F S K E : Type 0} (files : of_files.Ghosts F S) (sink : Ghosts K) (lin
       pub nothing : InWorld (files.world f) (λ world.
           ((clip : Clip) → MeansClip world script clip → ⊥) → PutsNothing sink out new)
       pub unwritten : (status ≡ 4) ⊎ (status ≡ 6) → PutsNothing sink out new
+      -- no fault was counted, so nothing that failed was tried again; as many files were fetched as the script reads
+      pub steady : status ≡ 0 → files.faults g ≡ files.faults f
+      pub fetched : status ≡ 0 → InWorld (files.world f) (λ world.
+          files.fetched g ≡ files.fetched f + files_in world script)
       -- no input changes
       pub by_input : status ≡ 3 → EndsByInput
       pub causes : Causes (said ≡ err) WriteFails status

@@ -1,10 +1,10 @@
 pub mod Words
 pub mod Meaning
 pub mod Stop
-pub mod Closing
 pub mod Journals
 pub mod Renders
 pub mod Playing
+pub mod Reads
 pub mod Info
 pub mod SelfTest
 pub mod Run

@@ -27,12 +27,12 @@ Tells meaning (Err of_stop.Read) = Unit {0}
 Tells meaning (Err of_stop.Write) = ⊥
 Tells meaning (Err of_stop.Memory) = Unit {0}
 
--- a read failed only where the count of faults rose, nothing was written, and no file has changed
+-- a failed read counts a fault, and nothing else does; nothing was written, and no file has changed
 abbrev pub EndsBefore : {X : Type 0} → ℕ → ℕ → Result X Stop → Type 0
 EndsBefore before now (Err of_stop.Read) = HasRisen before now
 EndsBefore before now (Err of_stop.Write) = ⊥
 EndsBefore before now (Err (of_stop.Changed name frame want got)) = ⊥
-EndsBefore before now _ = Unit {0}
+EndsBefore before now _ = now ≡ before
 
 -- ---- what was put
 

@@ -21,6 +21,7 @@ use Rattle.serve_app.specs.Info.{InfoShows}
 use Rattle.serve_app.specs.Journals.{cache_of, IsScriptRendered, IsRunOf, ScriptCuts}
 use Rattle.serve_text.specs.Lines.{Says, stop_line}
 use Rattle.serve_app.specs.Playing.{PutsClip, PutsInfo}
+use Rattle.serve_app.specs.Reads.{ReadsOnce}
 use Rattle.serve_text.specs.Reports.{Reports}
 use Rattle.serve_app.specs.SelfTest.{PutsSelfLine, SelfTestShows}
 use Rattle.serve_app.specs.Stop.{RenderShows, ScriptHasClip, HasInfo}
@@ -54,10 +55,14 @@ module _ {F S K : Type 0} (files : of_files.Ghosts F S) (sink : Ghosts K) (f g :
   abbrev pub PutsAll : List ℕ → Type 0
   PutsAll script = (frames : ℕ) × InWorld (files.world f) (λ world. PutsClip sink world script out new frames)
 
+  -- no fault of the files was counted, and each was fetched as often as the script reads it
+  abbrev pub Reads : List ℕ → Type 0
+  Reads script = ReadsOnce (files.world f) script (files.faults f) (files.faults g) (files.fetched f) (files.fetched g)
+
   abbrev pub RenderDoes : List ℕ → RenderOptions → Staff → Result (Option (List Application)) Stop → Type 0
-  RenderDoes script options staff (Ok None) = (options.report ≡ false) × PutsAll script
+  RenderDoes script options staff (Ok None) = (options.report ≡ false) × PutsAll script × Reads script
       × IsScriptRendered (files.world f) script (cache_of options.cache) staff journal
-  RenderDoes script options staff (Ok (Some plan)) = (options.report ≡ true) × PutsAll script
+  RenderDoes script options staff (Ok (Some plan)) = (options.report ≡ true) × PutsAll script × Reads script
       × IsRunOf (files.world f) script (cache_of options.cache) staff journal plan
   RenderDoes script options staff (Err stop) = RenderShows (FilesFailed files f g) sink (files.world f) script out new stop
 
@@ -67,6 +72,7 @@ module _ {F S K : Type 0} (files : of_files.Ghosts F S) (sink : Ghosts K) (f g :
       (TellsStop (stop_in done)) journal × HeadShows sink out new (HasInfo (files.world f) script) (stop_in done) journal
   Does staff (Info script) (Ok None) =
       InWorld (files.world f) (λ world. PutsInfo sink world script out new) × ScriptHasClip (files.world f) script
+      × Reads script
   Does staff (Info script) (Ok (Some plan)) = ⊥
   Does staff (Info script) (Err stop) = InfoShows (FilesFailed files f g) sink (files.world f) script out new stop
   Does staff (SelfTest number) (Ok None) = PutsSelfLine sink out new number × (g ≡ f)

@@ -1,10 +1,9 @@
 // What is closed after a run: the sources of instances, and those of a host.
-ghost use Rattle.std.specs.Prelude.{◌≡◌, ◌≤◌, ◌-◌, length};
+ghost use Rattle.std.specs.Prelude.{◌≡◌, ◌-◌, length};
+ghost use Rattle.avs_files.specs.Closed.{CountsFaults};
 ghost use Rattle.avs_files.specs.Opened.{told_of};
 ghost use Rattle.serve_worker.specs.Alone.{AllFree};
 ghost use Rattle.serve_worker.specs.Furnishing.{sources_in};
-ghost use Rattle.serve_worker.specs.Instances.{faults_of};
-ghost use Rattle.serve_app.specs.Closing.{CountsTable};
 
 use avs_files::{FileHost, HeldFiles, Known, close_all};
 use inst_table::InstTable;
@@ -14,8 +13,8 @@ use serve_worker::Instance;
 pub(crate) fn close_table<H: HeldFiles>(files: &mut H, mut table: InstTable<Instance<H::Src>>)
     requires free { AllFree table }
     ensures given { H.given files.new ≡ H.given files.old - length (sources_in table) }
-    ensures faults { CountsTable (faults_of H.Src.Source) table (H.faults files.old) (H.faults files.new) }
-    ensures later { H.faults files.old ≤ H.faults files.new }
+    ensures faults { CountsFaults H.Src.Source (sources_in table) (H.faults files.old) (H.faults files.new) }
+    ensures fetched { H.fetched files.new ≡ H.fetched files.old }
     ensures world { H.world files.new ≡ H.world files.old }
     ensures borrow { H.borrow files.new ≡ H.borrow files.old }
 {
@@ -34,7 +33,8 @@ pub(crate) fn close_host<H: HeldFiles, W: Known>(host: FileHost<H, W>) -> H
     ensures world { H.world result ≡ told_of W.told W.world }
     ensures borrow { H.borrow result ≡ W.borrow }
     ensures given { H.given result ≡ W.given }
-    ensures later { H.faults host.files ≤ H.faults result }
+    ensures steady { H.faults result ≡ H.faults host.files }
+    ensures fetched { H.fetched result ≡ H.fetched host.files }
 {
     let FileHost {
         alloc: _,

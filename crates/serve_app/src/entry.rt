@@ -154,6 +154,7 @@ fn finish<E: Sink>(err: &mut E, done: Result<Option<Shared>, Stop>, journal: &Op
 /// The status is 0 where the whole text was written; 1 where the words break the rules; 2 for a fault of the script; 3 for
 /// a fault of an input; 4 where a read failed; 5 where a write failed; 6 where it is out of memory. Each status but 0 puts
 /// one line on `err`. A fault of `err` changes no status, but for that of a render whose report can't be put: that is 5.
+/// A read that failed isn't tried again: where the status is 0 no fault of the files was counted.
 pub fn run<R: Threads + Wait + Sync, F: Files, K: Sink, E: Sink, G: Gate>(
     rt: &R,
     alloc: Global,

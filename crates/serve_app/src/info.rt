@@ -7,6 +7,7 @@ ghost use Rattle.fv_io.specs.World.{InWorld};
 ghost use Rattle.avs_files.specs.Opened.{told_of};
 ghost use Rattle.serve_app.specs.Info.{InfoShows};
 ghost use Rattle.serve_app.specs.Playing.{PutsInfo};
+ghost use Rattle.serve_app.specs.Reads.{ReadsOnce};
 ghost use Rattle.serve_app.specs.Stop.{ScriptHasClip};
 
 use crate::closing::close_host;
@@ -32,12 +33,15 @@ fn tell_in<H: HeldFiles, W: Known, K: Sink>(
     ensures whole { OnOk answer.new (InWorld (told_of W.told W.world) (λ world.
         PutsInfo K.Sink world script.now out.old out.new)) }
     ensures clip { OnOk answer.new (ScriptHasClip (told_of W.told W.world) script.now) }
+    ensures reads { OnOk answer.new (ReadsOnce (told_of W.told W.world) script.now
+        (H.faults files) (H.faults result) (H.fetched files) (H.fetched result)) }
     ensures stop { IfErr answer.new (InfoShows (HasRisen (H.faults files) (H.faults result)) K.Sink
         (told_of W.told W.world) script.now out.old out.new) }
     ensures world { H.world result ≡ told_of W.told W.world }
     ensures borrow { H.borrow result ≡ W.borrow }
     ensures given { H.given result ≡ W.given }
     ensures later { H.faults files ≤ H.faults result }
+    ensures more { H.fetched files ≤ H.fetched result }
     ensures later_sink { IsLater K.Sink out.old out.new }
 {
     let mut host = FileHost::new(alloc, files, of);
@@ -57,12 +61,15 @@ fn tell_held<H: HeldFiles, K: Sink>(
     ensures whole { OnOk answer.new (InWorld (H.world files) (λ world.
         PutsInfo K.Sink world script.now out.old out.new)) }
     ensures clip { OnOk answer.new (ScriptHasClip (H.world files) script.now) }
+    ensures reads { OnOk answer.new (ReadsOnce (H.world files) script.now
+        (H.faults files) (H.faults result) (H.fetched files) (H.fetched result)) }
     ensures stop { IfErr answer.new (InfoShows (HasRisen (H.faults files) (H.faults result)) K.Sink
         (H.world files) script.now out.old out.new) }
     ensures world { H.world result ≡ H.world files }
     ensures borrow { H.borrow result ≡ H.borrow files }
     ensures given { H.given result ≡ H.given files }
     ensures later { H.faults files ≤ H.faults result }
+    ensures more { H.fetched files ≤ H.fetched result }
     ensures later_sink { IsLater K.Sink out.old out.new }
 {
     tell_in::<H, Brand, K>(alloc, answer, files, PhantomData, out, script)
@@ -79,6 +86,8 @@ pub(crate) fn put_info<F: Files, K: Sink>(
     ensures whole { OnOk result (InWorld (F.world files.old) (λ world.
         PutsInfo K.Sink world script.now out.old out.new)) }
     ensures clip { OnOk result (ScriptHasClip (F.world files.old) script.now) }
+    ensures reads { OnOk result (ReadsOnce (F.world files.old) script.now
+        (F.faults files.old) (F.faults files.new) (F.fetched files.old) (F.fetched files.new)) }
     ensures stop { IfErr result (InfoShows (FilesFailed F.Files files.old files.new) K.Sink (F.world files.old)
         script.now out.old out.new) }
     ensures keeps { KeepsFiles F.Files files.old files.new }

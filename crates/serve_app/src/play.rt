@@ -4,19 +4,20 @@ ghost use Rattle.fv_io.specs.Sink.{IsLater};
 ghost use Rattle.fv_io.specs.Faults.{HasRisen};
 ghost use Rattle.fv_io.specs.World.{InWorld};
 ghost use Rattle.avs_meaning.specs.Crews.{window, workers};
-ghost use Rattle.avs_meaning.specs.Meaning.{meaning};
+ghost use Rattle.avs_meaning.specs.Meaning.{meaning, files_of};
 ghost use Rattle.serve_text.specs.InfoText as t;
 ghost use Rattle.avs_eval.specs.OutsideBy.{outside_by};
 ghost use Rattle.avs_eval.specs.Evaluates.{Opens};
 ghost use Rattle.avs_files.specs.Opened.{told_of};
 ghost use Rattle.serve_app.specs.Info.{InfoShows};
 ghost use Rattle.serve_app.specs.Playing.{Tells, EndsBefore, PutsInfo};
+ghost use Rattle.serve_app.specs.Reads.{ReadsOnce};
 ghost use Rattle.serve_app.specs.Stop.{ScriptHasClip};
 
 use avs_eval::{Opened, eval};
 use avs_files::{FileHost, HeldFiles, Known};
-use avs_meaning::{Crew, ScriptKind};
-use avs_state::{Host, HostFault};
+use avs_meaning::Crew;
+use avs_state::{Host, stop_of};
 use fv_io::{Failed, Sink, Text};
 use serve_text::{Stop, info_text};
 use std::alloc::{AllocError, Global};
@@ -28,24 +29,13 @@ pub(crate) fn evaluate<H: Host>(alloc: Global, host: &mut H, script: &Text) -> R
     ensures opened { IfOk result (λ opened. Opens opened (H.opened host.new)) }
     ensures later { H.faults host.old ≤ H.faults host.new }
     ensures before { EndsBefore (H.faults host.old) (H.faults host.new) result }
+    ensures more { H.fetched host.old ≤ H.fetched host.new }
+    ensures fetched { IsTrue H.told → OnOk result (H.fetched host.new ≡
+        H.fetched host.old + files_of (outside_by H.clips H.scripts) script.now) }
 {
     let text = match host.script(script) {
         Ok(text) => text,
-        Err(HostFault::Script(kind)) => {
-            return Err(Stop::Script {
-                kind: ScriptKind::File(kind),
-                name: Text::from_str(alloc, script.as_str())?,
-                line: 0,
-            });
-        }
-        Err(HostFault::Input(fault)) => {
-            return Err(Stop::Input {
-                name: Text::from_str(alloc, script.as_str())?,
-                fault,
-            });
-        }
-        Err(HostFault::Read) => return Err(Stop::Read),
-        Err(HostFault::Memory) => return Err(Stop::Memory),
+        Err(fault) => return Err(Stop::from(stop_of(alloc, fault, script, script, 0))),
     };
     let opened = eval(alloc, host, script, &text)?;
     Ok(opened)
@@ -83,9 +73,12 @@ pub(crate) fn tell<H: HeldFiles, W: Known, K: Sink>(
     ensures whole { OnOk result (InWorld (told_of W.told W.world) (λ world.
         PutsInfo K.Sink world script.now out.old out.new)) }
     ensures clip { OnOk result (ScriptHasClip (told_of W.told W.world) script.now) }
+    ensures reads { OnOk result (ReadsOnce (told_of W.told W.world) script.now (H.faults host.old.files)
+        (H.faults host.new.files) (H.fetched host.old.files) (H.fetched host.new.files)) }
     ensures stop { IfErr result (InfoShows (HasRisen (H.faults host.old.files) (H.faults host.new.files)) K.Sink
         (told_of W.told W.world) script.now out.old out.new) }
     ensures later { H.faults host.old.files ≤ H.faults host.new.files }
+    ensures more { H.fetched host.old.files ≤ H.fetched host.new.files }
     ensures later_sink { IsLater K.Sink out.old out.new }
 {
     let opened = evaluate(alloc, host, script)?;

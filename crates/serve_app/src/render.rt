@@ -1,12 +1,13 @@
 // The clip of a script, rendered over files. What may wait for threads is a function of its own, beside the one for a
 // render by one worker.
-ghost use Rattle.std.specs.Prelude.{◌≡◌, ◌≤◌, ◌<◌, None};
+ghost use Rattle.std.specs.Prelude.{◌≡◌, ◌≤◌, ◌<◌, None, OnOk};
 ghost use Rattle.fv_io.specs.Faults.{HasRisen};
 ghost use Rattle.fv_io.specs.Files.{KeepsFiles, FilesFailed};
 ghost use Rattle.fv_io.specs.Sink.{IsLater};
 ghost use Rattle.avs_files.specs.Opened.{told_of};
 ghost use Rattle.serve_stream.specs.declared.staff.Staff.TheVariants.{One};
 ghost use Rattle.serve_stream.specs.Staff.{IsStaff};
+ghost use Rattle.serve_app.specs.Reads.{ReadsOnce};
 ghost use Rattle.serve_app.specs.Renders.{IsScriptRender};
 
 use crate::closing::{close_host, close_table};
@@ -40,10 +41,13 @@ fn render_in_alone<H: HeldFiles, W: Known, K: Sink>(
     requires none { journal.old ≡ None }
     ensures render { IsScriptRender (told_of W.told W.world) script.now cache One
         (HasRisen (H.faults files) (H.faults result)) K.Sink out.old out.new journal.new answer.new }
+    ensures reads { OnOk answer.new (ReadsOnce (told_of W.told W.world) script.now
+        (H.faults files) (H.faults result) (H.fetched files) (H.fetched result)) }
     ensures world { H.world result ≡ told_of W.told W.world }
     ensures borrow { H.borrow result ≡ W.borrow }
     ensures given { H.given result ≡ W.given }
     ensures later { H.faults files ≤ H.faults result }
+    ensures more { H.fetched files ≤ H.fetched result }
     ensures later_sink { IsLater K.Sink out.old out.new }
 {
     let mut host = FileHost::new(alloc, files, of);
@@ -98,10 +102,13 @@ fn render_held_alone<H: HeldFiles, K: Sink>(
     requires none { journal.old ≡ None }
     ensures render { IsScriptRender (H.world files) script.now cache One
         (HasRisen (H.faults files) (H.faults result)) K.Sink out.old out.new journal.new answer.new }
+    ensures reads { OnOk answer.new (ReadsOnce (H.world files) script.now
+        (H.faults files) (H.faults result) (H.fetched files) (H.fetched result)) }
     ensures world { H.world result ≡ H.world files }
     ensures borrow { H.borrow result ≡ H.borrow files }
     ensures given { H.given result ≡ H.given files }
     ensures later { H.faults files ≤ H.faults result }
+    ensures more { H.fetched files ≤ H.fetched result }
     ensures later_sink { IsLater K.Sink out.old out.new }
 {
     render_in_alone::<H, Brand, K>(
@@ -131,6 +138,8 @@ pub(crate) fn render_alone<F: Files, K: Sink>(
     requires none { journal.old ≡ None }
     ensures render { IsScriptRender (F.world files.old) script.now cache One
         (FilesFailed F.Files files.old files.new) K.Sink out.old out.new journal.new result }
+    ensures reads { OnOk result (ReadsOnce (F.world files.old) script.now
+        (F.faults files.old) (F.faults files.new) (F.fetched files.old) (F.fetched files.new)) }
     ensures keeps { KeepsFiles F.Files files.old files.new }
     ensures later { IsLater K.Sink out.old out.new }
 {
@@ -173,10 +182,13 @@ where
     requires none { journal.old ≡ None }
     ensures render { IsScriptRender (told_of W.told W.world) script.now cache staff
         (HasRisen (H.faults files) (H.faults result)) K.Sink out.old out.new journal.new answer.new }
+    ensures reads { OnOk answer.new (ReadsOnce (told_of W.told W.world) script.now
+        (H.faults files) (H.faults result) (H.fetched files) (H.fetched result)) }
     ensures world { H.world result ≡ told_of W.told W.world }
     ensures borrow { H.borrow result ≡ W.borrow }
     ensures given { H.given result ≡ W.given }
     ensures later { H.faults files ≤ H.faults result }
+    ensures more { H.fetched files ≤ H.fetched result }
     ensures later_sink { IsLater K.Sink out.old out.new }
 {
     let mut host = FileHost::new(alloc, files, of);
@@ -239,10 +251,13 @@ where
     requires none { journal.old ≡ None }
     ensures render { IsScriptRender (H.world files) script.now cache staff
         (HasRisen (H.faults files) (H.faults result)) K.Sink out.old out.new journal.new answer.new }
+    ensures reads { OnOk answer.new (ReadsOnce (H.world files) script.now
+        (H.faults files) (H.faults result) (H.fetched files) (H.fetched result)) }
     ensures world { H.world result ≡ H.world files }
     ensures borrow { H.borrow result ≡ H.borrow files }
     ensures given { H.given result ≡ H.given files }
     ensures later { H.faults files ≤ H.faults result }
+    ensures more { H.fetched files ≤ H.fetched result }
     ensures later_sink { IsLater K.Sink out.old out.new }
 {
     render_in_together::<R, G, H, Brand, K>(
@@ -277,6 +292,8 @@ pub(crate) fn render_together<R: Threads + Wait + Sync, G: Gate, F: Files, K: Si
     requires none { journal.old ≡ None }
     ensures render { IsScriptRender (F.world files.old) script.now cache staff
         (FilesFailed F.Files files.old files.new) K.Sink out.old out.new journal.new result }
+    ensures reads { OnOk result (ReadsOnce (F.world files.old) script.now
+        (F.faults files.old) (F.faults files.new) (F.fetched files.old) (F.fetched files.new)) }
     ensures keeps { KeepsFiles F.Files files.old files.new }
     ensures later { IsLater K.Sink out.old out.new }
 {

@@ -1,5 +1,5 @@
 -- What the taking of one instance leaves is a lemma on tables. Of an instance that is no source the numbers stay.
-use Rattle.std.proofs.Common.{◌≡◌, ◌+◌, ◌-◌, ◌^◌, ◌≤◌, min, length, refl, ap, ◌∙◌, subst, arith}
+use Rattle.std.proofs.Common.{◌≡◌, ◌-◌, length, refl, ap, ◌∙◌, arith}
 use Rattle.inst_table.proofs.CallerLemmas.{fewer_left}
 use Rattle.serve_worker.specs.Furnishing.{source_of}
 use Rattle.serve_worker.specs.Instances.{faults_of}
@@ -9,6 +9,7 @@ use Rattle.serve_app.proofs.closing.close_table.Goals as goal
 pub loop-instance-init : goal.loop-instance-init
 loop-instance-init g c = record {
   taken = taken_none g.H.Src.Source c.args.table (g.H.HeldFiles.given c.args.files.now) (g.H.HeldFiles.faults c.args.files.now) c.requires.free;
+  fetched = refl;
   world = refl;
   borrow = refl;
 }
@@ -24,14 +25,14 @@ loop-instance-preserved-in-Source g c =
     rw one c.close.ensures.given in
     let same : g.H.Src.Source.faults c.into_source.result ≡ faults_of g.H.Src.Source c.in-Some.instance =
     rw c.in-Source.is (ap g.H.Src.Source.faults c.into_source.ensures) in
-    let counts : min (g.H.HeldFiles.faults c.loop-instance.files + faults_of g.H.Src.Source c.in-Some.instance) (2 ^ 64 - 1) ≤ g.H.HeldFiles.faults c.close.new.self =
-    subst (λ n. min (g.H.HeldFiles.faults c.loop-instance.files + n) (2 ^ 64 - 1) ≤ g.H.HeldFiles.faults c.close.new.self) same c.close.ensures.faults in
+    let counts = rw same at c.close.ensures.faults in
     record {
       taken = taken_more g.H.Src.Source c.args.table (g.H.HeldFiles.given c.args.files.now) (g.H.HeldFiles.faults c.args.files.now)
           c.loop-instance.table c.take_any.new.self c.in-Some.instance
           (g.H.HeldFiles.given c.loop-instance.files) (g.H.HeldFiles.faults c.loop-instance.files)
           (g.H.HeldFiles.given c.close.new.self) (g.H.HeldFiles.faults c.close.new.self)
-          c.loop-instance.invariant.taken c.in-Some.ensures.some given counts c.close.ensures.later;
+          c.loop-instance.invariant.taken c.in-Some.ensures.some given counts;
+      fetched = cc;
       world = cc;
       borrow = cc;
     }
@@ -49,7 +50,8 @@ loop-instance-preserved-in-Scratch g c =
           c.loop-instance.table c.take_any.new.self c.in-Some.instance
           (g.H.HeldFiles.given c.loop-instance.files) (g.H.HeldFiles.faults c.loop-instance.files)
           (g.H.HeldFiles.given c.loop-instance.files) (g.H.HeldFiles.faults c.loop-instance.files)
-          c.loop-instance.invariant.taken c.in-Some.ensures.some (omega arith) (omega arith) (omega arith);
+          c.loop-instance.invariant.taken c.in-Some.ensures.some (omega arith) (omega (arith, faultless));
+      fetched = c.loop-instance.invariant.fetched;
       world = c.loop-instance.invariant.world;
       borrow = c.loop-instance.invariant.borrow;
     }
@@ -67,7 +69,8 @@ loop-instance-preserved g c =
           c.loop-instance.table c.take_any.new.self c.in-Some.instance
           (g.H.HeldFiles.given c.loop-instance.files) (g.H.HeldFiles.faults c.loop-instance.files)
           (g.H.HeldFiles.given c.loop-instance.files) (g.H.HeldFiles.faults c.loop-instance.files)
-          c.loop-instance.invariant.taken c.in-Some.ensures.some (omega arith) (omega arith) (omega arith);
+          c.loop-instance.invariant.taken c.in-Some.ensures.some (omega arith) (omega (arith, faultless));
+      fetched = c.loop-instance.invariant.fetched;
       world = c.loop-instance.invariant.world;
       borrow = c.loop-instance.invariant.borrow;
     }

@@ -10,4 +10,4 @@ returns-in-Render-clause-does g c =
     let cache : c.unwrap_or-cache.result ≡ cache_of c.in-Render.options.cache = search rules in
     rw c.in-Render.is (rw c.graph_of.ensures
     (render_does g.F.Files g.K.Sink c.args.files.now c.render_alone-done.new.files c.args.out.now c.render_alone-done.new.out c.render_alone-done.new.journal plain_staff c.in-Render.script
-    c.in-Render.options c.render_alone-done.result (rw cache at c.render_alone-done.ensures.render)))
+    c.in-Render.options c.render_alone-done.result (rw cache at c.render_alone-done.ensures.render) c.render_alone-done.ensures.reads))

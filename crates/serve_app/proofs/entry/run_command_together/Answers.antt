@@ -10,4 +10,4 @@ returns-in-Render-clause-does g c =
     let cache : c.unwrap_or-cache.result ≡ cache_of c.in-Render.options.cache = search rules in
     rw c.in-Render.is (rw c.graph_of.ensures
     (render_does g.F.Files g.K.Sink c.args.files.now c.render_together-done.new.files c.args.out.now c.render_together-done.new.out c.render_together-done.new.journal staff_by c.in-Render.script
-    c.in-Render.options c.render_together-done.result (rw (cache, c.staff_of.ensures) at c.render_together-done.ensures.render)))
+    c.in-Render.options c.render_together-done.result (rw (cache, c.staff_of.ensures) at c.render_together-done.ensures.render) c.render_together-done.ensures.reads))
