@@ -62,7 +62,7 @@ fn a_render_leaves_its_journal(rt: HostRuntime) -> Result<(), Fail> {
     ] as [(&[Trip], &str, u8, &[Event]); 3]
     {
         let script = b"Y4MSource(\"m4.y4m\").Trim(2, 2)";
-        let mut files = files_of(alloc, script, &[], trips)?;
+        let mut files = files_of(alloc, script, trips)?;
         let words = ["render", "--cache", cache, "s.avs"];
         let (ending, _, _) = run(alloc, &words, &mut files, (99, 99))?;
         assert_eq!(rt; ending.status, status);
@@ -98,7 +98,7 @@ fn a_render_tells_its_report(rt: HostRuntime) -> Result<(), Fail> {
         ("1", (99, 0), 5, small),
         ("1", (60, 999), 5, "write fault\n"),
     ] {
-        let mut files = files_of(alloc, TWICE, &[], &[])?;
+        let mut files = files_of(alloc, TWICE, &[])?;
         let words = ["render", "--report", "--cache", cache, "s.avs"];
         let (ending, out, err) = run(alloc, &words, &mut files, room)?;
         assert_eq!(rt; ending.status, status);
@@ -113,7 +113,7 @@ fn a_render_tells_its_report(rt: HostRuntime) -> Result<(), Fail> {
 fn what_isnt_rendered_has_no_journal(rt: HostRuntime) -> Result<(), Fail> {
     let alloc = rt.alloc();
     for (script, room) in [(b"1".as_slice(), 99), (COPY, 20)] {
-        let mut files = files_of(alloc, script, &[], &[])?;
+        let mut files = files_of(alloc, script, &[])?;
         let (ending, _, _) = run(alloc, &["render", "s.avs"], &mut files, (room, 99))?;
         assert!(rt; ending.journal.is_none());
     }

@@ -19,19 +19,32 @@ pub fn start(bytes: &[u8], count: usize) -> &[u8] {
     &bytes[..count.min(bytes.len())]
 }
 
-// The script as `s.avs` and the clip as `m4.y4m`, whose reads fail at these places. Each read gives at most five bytes.
-pub fn files_of(
+// A file, and the places at which its reads and rewinds fail.
+pub type Failing<'a> = (&'a [u8], &'a [Trip]);
+
+// The script as `s.avs` and the clip as `m4.y4m`. Each read gives at most so many bytes.
+pub fn files_over(
     alloc: Global,
-    script: &[u8],
-    in_script: &[Trip],
-    in_clip: &[Trip],
+    script: Failing,
+    clip: Failing,
+    piece: usize,
 ) -> Result<MemFiles, AllocError> {
     let mut files = MemFiles::new(alloc);
-    for (name, bytes, trips) in [("s.avs", script, in_script), ("m4.y4m", CLIP, in_clip)] {
+    for (name, (bytes, trips)) in [("s.avs", script), ("m4.y4m", clip)] {
         let name = Text::from_str(alloc, name)?;
-        files.add(name, bytes.to_vec(alloc)?, 5, trips.to_vec(alloc)?)?;
+        files.add(
+            name,
+            bytes.to_vec(alloc)?,
+            piece.max(1),
+            trips.to_vec(alloc)?,
+        )?;
     }
     Ok(files)
+}
+
+// The script, and the clip of four frames whose source fails at these places, with at most five bytes a read.
+pub fn files_of(alloc: Global, script: &[u8], trips: &[Trip]) -> Result<MemFiles, AllocError> {
+    files_over(alloc, (script, &[]), (CLIP, trips), 5)
 }
 
 // A run into outputs with this much room.

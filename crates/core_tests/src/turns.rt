@@ -1,10 +1,14 @@
-// Two seats that take turns over a list of notes, each in its thread.
+// Four seats that take turns over a list of notes, each in its thread.
 ghost use Rattle.std.specs.Prelude.{◌≡◌};
 
+use std::hint::spin_loop;
 use std::sync::Wait;
 use std::test::*;
-use std::thread;
+use std::thread::{self, Threads};
 use turn_lock::{Booked, LockSeat, TurnLock};
+
+// How many turns each seat takes.
+const TURNS: u32 = 25_000;
 
 #[derive(Clone, Copy, PartialEq, Debug)]
 struct Note {
@@ -33,58 +37,103 @@ impl Booked for Notes {
     ghost stands_for = { λ s tag. s.year ≡ tag };
 }
 
-// Takes this number of turns, with one note in each while memory lasts.
-fn take_turns<R: Wait>(
-    rt: &R,
-    lock: &TurnLock<Notes>,
-    mut seat: LockSeat<Notes>,
-    turns: u32,
-) -> LockSeat<Notes>
+// Waits for a time that differs from step to step: mostly not at all, and sometimes longer than a thread looks before it
+// sleeps.
+fn pause(number: u32, turn: u32, step: u32) {
+    let rounds = match (turn % 1_009 * 31 + number % 4 * 7 + step % 3 * 3) % 97 {
+        0 => 20_000,
+        1..=9 => 100,
+        _ => 0,
+    };
+    for _ in 0..rounds {
+        spin_loop();
+    }
+}
+
+// Takes the turns with a pause at every step, and one note in each turn while memory lasts.
+fn take_turns<R: Wait>(rt: &R, lock: &TurnLock<Notes>, mut seat: LockSeat<Notes>) -> LockSeat<Notes>
     requires { seat.lock ≡ lock.now }
     ensures { result ≡ record seat { seen = result.seen; own = result.own } }
 {
     let number = seat.number();
-    for turn in 0..turns {
+    for turn in 0..TURNS {
         let (mut value, held) = lock.enter(rt, seat);
+        pause(number, turn, 0);
         let _ = value.notes.push(Note { by: number, turn });
+        pause(number, turn, 1);
         seat = lock.leave(held, value);
+        pause(number, turn, 2);
     }
     seat
 }
 
+// Two seats take their turns, each in its thread.
+fn both_take_turns<R: Threads + Wait + Sync>(
+    rt: &R,
+    lock: &TurnLock<Notes>,
+    first: LockSeat<Notes>,
+    second: LockSeat<Notes>,
+) -> (LockSeat<Notes>, LockSeat<Notes>)
+    requires first { first.lock ≡ lock.now }
+    requires second { second.lock ≡ lock.now }
+    ensures first { result.0 ≡ record first { seen = result.0.seen; own = result.0.own } }
+    ensures second { result.1 ≡ record second { seen = result.1.seen; own = result.1.own } }
+{
+    thread::join(
+        rt,
+        move || -> LockSeat<Notes>
+            requires { first.lock ≡ lock.now }
+            ensures { result ≡ record first { seen = result.seen; own = result.own } }
+        { take_turns(rt, lock, first) },
+        move || -> LockSeat<Notes>
+            requires { second.lock ≡ lock.now }
+            ensures { result ≡ record second { seen = result.seen; own = result.own } }
+        { take_turns(rt, lock, second) },
+    )
+}
+
+// A waiter that slept at its own turn, or that nobody woke, would never come to its end.
 #[test]
-fn two_threads_take_turns(rt: HostRuntime) -> Result<(), Fail> {
+fn four_threads_take_turns(rt: HostRuntime) -> Result<(), Fail> {
     let notes = Notes {
         year: 2026,
         notes: Vec::new(rt.alloc()),
     };
-    let Ok((lock, seat)) = TurnLock::new(rt.alloc(), notes, 2) else {
+    let Ok((lock, seat)) = TurnLock::new(rt.alloc(), notes, 4) else {
         panic!(&rt; "no memory")
     };
-    let (first, second) = lock.split(seat);
+    let (seat, first) = lock.split(seat);
+    let (seat, second) = lock.split(seat);
+    let (seat, third) = lock.split(seat);
     let (host, shared) = (&rt, &lock);
-    let (first, second) = thread::join(
+    let ((seat, first), (second, third)) = thread::join(
         host,
-        move || -> LockSeat<Notes>
-            requires { first.lock ≡ shared.now }
-            ensures { result ≡ record first { seen = result.seen; own = result.own } }
-        { take_turns(host, shared, first, 1_000) },
-        move || -> LockSeat<Notes>
-            requires { second.lock ≡ shared.now }
-            ensures { result ≡ record second { seen = result.seen; own = result.own } }
-        { take_turns(host, shared, second, 1_000) },
+        move || -> (LockSeat<Notes>, LockSeat<Notes>)
+            requires seat { seat.lock ≡ shared.now }
+            requires first { first.lock ≡ shared.now }
+            ensures seat { result.0 ≡ record seat { seen = result.0.seen; own = result.0.own } }
+            ensures first { result.1 ≡ record first { seen = result.1.seen; own = result.1.own } }
+        { both_take_turns(host, shared, seat, first) },
+        move || -> (LockSeat<Notes>, LockSeat<Notes>)
+            requires second { second.lock ≡ shared.now }
+            requires third { third.lock ≡ shared.now }
+            ensures second { result.0 ≡ record second { seen = result.0.seen; own = result.0.own } }
+            ensures third { result.1 ≡ record third { seen = result.1.seen; own = result.1.own } }
+        { both_take_turns(host, shared, second, third) },
     );
-    let seat = lock.join(first, second);
+    let seat = lock.join(seat, first);
+    let seat = lock.join(seat, second);
+    let seat = lock.join(seat, third);
     let Notes { year: _, notes } = lock.close(seat);
-    assert_eq!(&rt; notes.len(), 2_000);
-    for number in [0, 1] {
-        let mut expected = 0..1_000;
-        for note in &notes {
-            if note.by == number {
-                assert_eq!(&rt; Some(note.turn), expected.next());
-            }
-        }
-        assert_eq!(&rt; expected.next(), None);
+    assert_eq!(&rt; notes.len(), 4 * TURNS as usize);
+    let mut next = [0, 0, 0, 0];
+    for note in &notes {
+        let Some(turn) = next.get_mut(note.by as usize) else {
+            panic!(&rt; "a number that was not given out")
+        };
+        assert_eq!(&rt; note.turn, *turn);
+        *turn = turn.saturating_add(1);
     }
+    assert!(&rt; next == [TURNS, TURNS, TURNS, TURNS]);
     Ok(())
 }

@@ -55,6 +55,8 @@ impl Files for PausedFiles {
 
     ghost faults = { λ f. f.files.faults };
 
+    ghost fetched = { λ f. f.files.sources };
+
     ghost given = { λ f. f.files.given };
 
     fn fetch(&mut self, name: &Text) -> Result<PausedSource, FetchFault> {

@@ -1,7 +1,7 @@
 // Renders by several workers.
 use crate::meeting::Meeting;
 use crate::paused::PausedFiles;
-use crate::runs::{BOTH, CLIP, Left, files_of, run_one, run_together};
+use crate::runs::{BOTH, CLIP, Left, files_in_pieces, files_of, run_one, run_together};
 use fv_io::Trip;
 use serve_app::OpenGate;
 use std::sync::Arc;
@@ -73,30 +73,31 @@ fn each_frame_is_made_by_its_events(rt: HostRuntime) -> Result<(), Fail> {
     Ok(())
 }
 
-// A source of which a read fails at frame 3: one worker writes the window before, and two may come to it in an order in which
-// that place isn't read after one rewind.
+// A source of which a read fails at frame 3: one worker writes the windows before that of the frame, and two may come to it in
+// an order in which that place isn't read after one rewind.
 #[test]
 fn a_source_that_fails_ends_a_window(rt: HostRuntime) -> Result<(), Fail> {
     let alloc = rt.alloc();
-    for (script, may_pass) in [
-        (b"Y4MSource(\"m4.y4m\").Prefetch(1, 2)", false),
-        (b"Y4MSource(\"m4.y4m\").Prefetch(2, 2)", true),
-    ] as [(&[u8], bool); 2]
+    for (script, place, put, may_pass) in [
+        (b"Y4MSource(\"m4.y4m\").Prefetch(1, 2)", 56, 50, false),
+        (b"Y4MSource(\"m4.y4m\").Prefetch(1, 4)", 63, 36, false),
+        (b"Y4MSource(\"m4.y4m\").Prefetch(2, 2)", 56, 50, true),
+    ] as [(&[u8], u64, usize, bool); 3]
     {
-        let trip = Trip::Read {
-            rewinds: 1,
-            place: 56,
-        };
-        let mut files = files_of(alloc, script, &[trip])?;
-        let left = run_together(&rt, alloc, &["render", "s.avs"], &mut files, 999, &OpenGate)?;
-        if left.status == 0 {
-            assert!(rt; may_pass && left.out.bytes() == CLIP);
-        } else {
-            assert_eq!(rt; left.status, 4);
-            assert!(rt; left.out.bytes() == &CLIP[..50]);
-            assert!(rt; left.err.bytes() == b"read fault\n".as_slice());
+        for piece in [1, 5] {
+            let trip = Trip::Read { rewinds: 1, place };
+            let mut files = files_in_pieces(alloc, script, &[trip], piece)?;
+            let words = ["render", "s.avs"];
+            let left = run_together(&rt, alloc, &words, &mut files, 999, &OpenGate)?;
+            if left.status == 0 {
+                assert!(rt; may_pass && left.out.bytes() == CLIP);
+            } else {
+                assert_eq!(rt; left.status, 4);
+                assert!(rt; left.out.bytes() == &CLIP[..put]);
+                assert!(rt; left.err.bytes() == b"read fault\n".as_slice());
+            }
+            assert_eq!(rt; files.fetched(), files.closed());
         }
-        assert_eq!(rt; files.given(), 0);
     }
     Ok(())
 }
@@ -128,7 +129,7 @@ fn faults_end_a_run_of_several(rt: HostRuntime) -> Result<(), Fail> {
             assert!(rt; INTERLEAVED.starts_with(left.out.bytes()));
             assert!(rt; !whole || left.out.bytes() == INTERLEAVED);
             assert!(rt; left.err.bytes() == if whole { b"" } else { line.as_bytes() });
-            assert_eq!(rt; files.given(), 0);
+            assert_eq!(rt; files.fetched(), files.closed());
         }
     }
     Ok(())

@@ -13,8 +13,14 @@ pub const CLIP: &[u8] =
 pub const BOTH: &[u8] =
     b"a = Y4MSource(\"m4.y4m\")\nb = Y4MSource(\"m4.y4m\").Reverse\nInterleave(a, b).Prefetch(4)";
 
-// The script as `s.avs` and the clip as `m4.y4m`, whose reads and rewinds fail at these places.
-pub fn files_of(alloc: Global, script: &[u8], trips: &[Trip]) -> Result<MemFiles, AllocError> {
+// The script as `s.avs` and the clip as `m4.y4m`, whose reads and rewinds fail at these places. Each read gives at most so many
+// bytes.
+pub fn files_in_pieces(
+    alloc: Global,
+    script: &[u8],
+    trips: &[Trip],
+    piece: usize,
+) -> Result<MemFiles, AllocError> {
     let mut files = MemFiles::new(alloc);
     for (name, bytes, trips) in [("s.avs", script, &[]), ("m4.y4m", CLIP, trips)] as [(
         &str,
@@ -23,9 +29,19 @@ pub fn files_of(alloc: Global, script: &[u8], trips: &[Trip]) -> Result<MemFiles
     ); 2]
     {
         let name = Text::from_str(alloc, name)?;
-        files.add(name, bytes.to_vec(alloc)?, 5, trips.to_vec(alloc)?)?;
+        files.add(
+            name,
+            bytes.to_vec(alloc)?,
+            piece.max(1),
+            trips.to_vec(alloc)?,
+        )?;
     }
     Ok(files)
+}
+
+// The same with at most five bytes a read.
+pub fn files_of(alloc: Global, script: &[u8], trips: &[Trip]) -> Result<MemFiles, AllocError> {
+    files_in_pieces(alloc, script, trips, 5)
 }
 
 // What a run leaves: its status, and what is on both outputs.
