@@ -10,7 +10,7 @@ trap 'rm -rf "$room"' EXIT
 cp examples/tiny.y4m "$room"
 cd "$room"
 usage='usage: avsserve render SCRIPT [--cache C] [--threads T] [--report] [--plain] | info SCRIPT | selftest NUMBER'
-for script in s.avs -x.avs --plain --report -- - render; do
+for script in s.avs -x.avs --plain --report -- - render ' s.avs ' $'a\nb.avs' s.avs=8; do
     echo 'Y4MSource("tiny.y4m").Reverse' >"./$script"
 done
 "$program" render s.avs >wanted.y4m
@@ -53,6 +53,9 @@ accepts render s.avs --report
 accepts render --report s.avs --plain
 accepts render -- --report
 accepts render --report -- --report
+accepts render ' s.avs '
+accepts render $'a\nb.avs' --plain
+accepts render s.avs=8 --cache 8
 
 refuses
 refuses render
@@ -94,4 +97,29 @@ refuses selftest x
 refuses selftest 4294967296
 refuses selftest 1 2
 refuses selftest 1 --report
+# words that are empty, that have blanks around them, that are no text, and too many of them
+refuses ""
+refuses " render" s.avs
+refuses "render " s.avs
+refuses "render s.avs"
+refuses render s.avs ""
+refuses render "" s.avs
+refuses render s.avs " --plain"
+refuses render s.avs --cache " 8"
+refuses render s.avs --cache "8 "
+refuses render s.avs "--cache= 8"
+refuses selftest " 1"
+refuses $'\xff' s.avs
+refuses render $'\xff'
+refuses render s.avs $'--cache=\xff'
+refuses render s.avs --cache 8 $'\xc3'
+refuses info s.avs $'\xff'
+for count in 3 30 300; do
+    mapfile -t words < <(yes s.avs | head -n "$count")
+    refuses render "${words[@]}"
+    mapfile -t words < <(yes "" | head -n "$count")
+    refuses render "${words[@]}"
+    mapfile -t words < <(yes -- --plain | head -n "$count")
+    refuses render s.avs "${words[@]}"
+done
 echo "words: $runs runs ended as they should"
