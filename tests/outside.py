@@ -244,25 +244,25 @@ def fault_of_cut(ended, place):
 
 
 def memory(t):
-    """Memory for a tenth of what the cache needs, and for less and less: a whole stream, or no memory."""
-    # 200 frames of a megabyte, of which the cache holds 64.
-    t.put("m.avs", 'BlankClip(length=200, width=1024, height=1024, pixel_type="Y8").Invert.Reverse')
-    whole = t.run(["render", "m.avs"])[1]
-    tenth = 64 * LIMIT // 10
-    status, out, _ = ended = limited(t, ["render", "m.avs", "--cache", "64"], 12 * tenth)
-    for limit in range(12 * tenth, 40 * tenth, 2 * tenth):
+    """Memory for a tenth of what the cache needs, which is too little, and for more and more: no memory, or a whole stream."""
+    # 300 frames of a mebibyte, of which the cache holds 256.
+    t.put("m.avs", 'BlankClip(length=300, width=1024, height=1024, pixel_type="Y8").Invert')
+    words = ["render", "m.avs", "--cache", "256"]
+    whole = t.run(words)[1]
+    head = whole.index(b"\n") + 1
+    needs = 256 * LIMIT
+    for tenths in range(1, 20, 2):
         for crew in ([], ["--threads", "4"]):
-            status, out, line = ended = limited(t, ["render", "m.avs", "--cache", "256", *crew], limit)
-            right = (status == 0 and out == whole) or (status == 6 and whole.startswith(out) and line == "no memory\n")
-            in_frames = (len(out) - whole.index(b"\n") - 1) % (LIMIT + 6) == 0 or out == b""
-            t.judge(f"{limit} bytes of memory", (right, in_frames, *short(ended)), (True, True, *short(ended)))
-    status, out, line = limited(t, ["render", "m.avs", "--cache", "256"], 60_000_000)
-    t.judge("a tenth of the cache's memory", (status, line), (6, "no memory\n"))
+            status, out, line = limited(t, words + crew, tenths * needs // 10)
+            statuses = (6,) if tenths == 1 else (0, 6)
+            in_frames = out == b"" or (len(out) - head) % (LIMIT + 6) == 0
+            right = out == whole and line == "" if status == 0 else whole.startswith(out) and in_frames and line == "no memory\n"
+            what = f"{tenths} tenths of the cache's memory {' '.join(crew)}: status {status}, {len(out)} bytes, {line!r}"
+            t.judge(what, (status in statuses, right), (True, True))
 
 
 def limited(t, words, limit):
-    """A run in so many bytes of memory beside what the program takes at its start."""
-    limit += 64 << 20
+    """A run in so many bytes of memory."""
     return t.run(words, preexec_fn=lambda: resource.setrlimit(resource.RLIMIT_AS, (limit, limit)))
 
 
