@@ -1,5 +1,5 @@
 #!/usr/bin/env python3
-"""The measured figures of the README: avsserve beside cat and ffmpeg, on the same files in one run.
+"""The measured figures of docs/benchmarks.md: avsserve beside cat and ffmpeg, on the same files in one run.
 
     bench/measure.py [--rounds N] [PROGRAM ..]
 

@@ -1,7 +1,7 @@
 #!/usr/bin/env bash
 # Renders each script of examples/ with the built program, and looks at the head and the length of its stream; where ffmpeg
 # is installed, it must read as many frames. The scripts read examples/clip.y4m, which examples/make_clip.py writes. What
-# info says of one of them must be what docs/manual.md shows.
+# info says of one of them must be what docs/manual/command-line.md shows.
 set -eu
 cd "$(dirname "$0")/.."
 [ -n "${AVSSERVE:-}" ] || ./build
@@ -52,8 +52,8 @@ done
 status=0
 found=$("$program" info examples/compare.avs 2>"$room/err.txt") || status=$?
 [ "$status" = 0 ] || fail "info examples/compare.avs: status $status, $(cat "$room/err.txt")"
-wanted=$(sed -n '/^    clip 100x36/,/^    prefetch/s/^    //p' docs/manual.md)
-[ -n "$wanted" ] || fail "docs/manual.md shows no info of compare.avs"
+wanted=$(sed -n '/^clip 100x36/,/^prefetch/p' docs/manual/command-line.md)
+[ -n "$wanted" ] || fail "docs/manual/command-line.md shows no info of compare.avs"
 [ "$found" = "$wanted" ] || fail "info examples/compare.avs says:
 $found"
 

@@ -6,7 +6,7 @@
 `memory` refuses each allocation of renders, of `info` and of `selftest`, one in each run: the status is 0 or 6, or that of a
 read that fails in the same run. With --step N it refuses every Nth one. `faults` refuses each open, read, seek and write in
 turn, and each thread, with pieces of one byte, so that every place of every file has its turn. Each run ends with the status
-and the line that docs/manual.md gives, has written the beginning of the right stream, in whole frames but where the write
+and the line that docs/manual/errors.md gives, has written the beginning of the right stream, in whole frames but where the write
 failed, and has closed what it opened.
 
 How many runs there were of each case, and how they ended, is printed. A case in which no call was refused is wrong. The program

@@ -1,7 +1,7 @@
 #!/usr/bin/env python3
 """Runs the program where the system fails: full disks, readers that end, files that change, and inputs that are no files.
 
-Each run ends with the status and the line that docs/manual.md gives, within its time, and has written the beginning of the
+Each run ends with the status and the line that docs/manual/errors.md gives, within its time, and has written the beginning of the
 right stream. A case whose tool or right isn't here is skipped with a line. The program is built first, unless the environment
 names one as AVSSERVE.
 """

@@ -1,6 +1,6 @@
 #!/usr/bin/env bash
-# The words of the command line, by the rules of docs/manual.md: what is accepted gives the same stream whatever the options,
-# and what is refused gives the usage line, status 1 and no stream.
+# The arguments of the command line, by the rules of docs/manual/command-line.md: what is accepted gives the same stream
+# whatever the options, and what is refused gives the usage line, status 1 and no stream.
 set -eu
 cd "$(dirname "$0")/.."
 [ -n "${AVSSERVE:-}" ] || ./build
