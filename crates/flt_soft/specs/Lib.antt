@@ -1,3 +1,4 @@
 pub mod Pictures
 pub mod Rows
 pub mod Scratch
+pub mod Squares

@@ -36,6 +36,11 @@ pub record IsSmall (sum : ℤ) : Type 0 where
 abbrev pub AreSmall : List ℤ → Type 0
 AreSmall sums = (x : ℕ) → IsSmall (slice_index_or sums x (pos 0))
 
+-- a bias is from -255 to 255
+pub record IsBias (bias : ℤ) : Type 0 where
+  pub low : negsuc 254 ≤ℤ bias
+  pub high : bias ≤ℤ pos 255
+
 -- a quotient by this divisor of a number below 2^23 is the number times the factor, without the lowest bits
 pub record IsReciprocal (divisor factor bits : ℕ) : Type 0 where
   pub some : 0 < divisor

@@ -8,6 +8,7 @@ mod convolve;
 mod kernels;
 mod make;
 mod matrix;
+mod narrow;
 mod reciprocal;
 mod rows;
 mod scratch;
