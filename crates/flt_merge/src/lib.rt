@@ -12,3 +12,4 @@ mod stack;
 
 pub use clip_check::check_join;
 pub use join::make_join;
+pub use kernels::merge_row;

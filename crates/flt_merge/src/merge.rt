@@ -3,7 +3,7 @@ ghost use Rattle.std.specs.Prelude.{◌≡◌, IfOk};
 ghost use Rattle.fv_plane.specs.Look.{picture_from};
 ghost use Rattle.flt_merge.specs.Rows.{look_of_means};
 
-use crate::kernels::average;
+use crate::kernels::merge_row;
 use fv_plane::{Frame, FrameBuilder};
 use std::alloc::{AllocError, Global};
 
@@ -19,7 +19,7 @@ pub fn merge(alloc: Global, a: &Frame, b: &Frame) -> Result<Frame, AllocError>
         let mut buffer = vec![in alloc; 0u8; shape.row_bytes(plane) as usize]?;
         let row = buffer.as_mut_slice();
         for y in 0..shape.plane_height(plane) {
-            average(a.row(plane, y), b.row(plane, y), row);
+            merge_row(a.row(plane, y), b.row(plane, y), row);
             made.put_row(plane, y, row);
         }
     }

@@ -13,9 +13,9 @@ loop-y-preserved c =
     let b = c.args.b.now in
     let rows : rows_of_means a b c.loop-plane.plane c.loop-y.y ≡ zip2 mean c.row.result.now c.row-in-loop-y.result.now = rw (c.row.ensures.row, c.row-in-loop-y.ensures.row) in
     record {
-      long = c.average.auto.out ∙ c.loop-y.invariant.long;
-      filled = filled_put (rows_of_means a b) c.shape-shape.result c.loop-y.made c.put_row.new.self c.loop-plane.plane c.loop-y.y c.average.new.out c.loop-y.invariant.filled
-          c.put_row.ensures.sizes c.put_row.ensures.shape c.put_row.ensures.rows (c.average.ensures ∙ sym rows) (search rules) (search rules);
+      long = c.merge_row.auto.out ∙ c.loop-y.invariant.long;
+      filled = filled_put (rows_of_means a b) c.shape-shape.result c.loop-y.made c.put_row.new.self c.loop-plane.plane c.loop-y.y c.merge_row.new.out c.loop-y.invariant.filled
+          c.put_row.ensures.sizes c.put_row.ensures.shape c.put_row.ensures.rows (c.merge_row.ensures ∙ sym rows) (search rules) (search rules);
     }
 
 pub loop-plane-preserved : goal.loop-plane-preserved
