@@ -5,7 +5,7 @@ ghost use Rattle.clip_term.specs.declared.op.SpaceOp.TheVariants as op;
 ghost use Rattle.clip_term.specs.Refusals.{nat_of, beyond};
 ghost use Rattle.clip_term.specs.Space.{space_picture, space_refusals, is_among, swapped};
 
-use crate::kernels::{invert_row, limit_row};
+use crate::kernels::{copy_inverted, copy_limited};
 use crate::rows::{RowFilter, make_by_rows};
 use clip_term::Channels;
 use fv_plane::{Frame, FrameBuilder};
@@ -36,7 +36,7 @@ impl RowFilter for InvertRows {
     }
 
     fn fill_row(&self, input: &Frame, plane: u32, y: u32, out: &mut [u8]) {
-        invert_row(input.row(plane, y), out);
+        copy_inverted(input.row(plane, y), out);
     }
 }
 
@@ -74,9 +74,9 @@ impl RowFilter for LimitRows {
     fn fill_row(&self, input: &Frame, plane: u32, y: u32, out: &mut [u8]) {
         let row = input.row(plane, y);
         if plane == 0 {
-            limit_row(row, bound(self.min_luma), bound(self.max_luma), out);
+            copy_limited(row, bound(self.min_luma), bound(self.max_luma), out);
         } else {
-            limit_row(row, bound(self.min_chroma), bound(self.max_chroma), out);
+            copy_limited(row, bound(self.min_chroma), bound(self.max_chroma), out);
         }
     }
 }

@@ -1,26 +1,57 @@
 // What is done to the samples of a row, or of a block. Plain loops over slices, which the compiler turns into vector
 // instructions.
-ghost use Rattle.std.specs.Prelude.{◌≡◌, ◌-◌, ◌+◌, ◌*◌, ◌<◌, ◌≤◌, ℕ, EachIndex, length, slice_index};
+ghost use Rattle.std.specs.Prelude.{◌≡◌, ◌-◌, ◌+◌, ◌*◌, ◌<◌, ◌≤◌, ℕ, EachIndex, length, map, slice_index};
 ghost use Rattle.clip_term.specs.Space.{limited};
 ghost use Rattle.flt_space.specs.Rows.{padded, covered};
 
-/// The complement of each sample.
-pub fn invert_row(row: &[u8], out: &mut [u8])
+fn complement(sample: u8) -> u8
+    ensures { result ≡ 255 - sample }
+{
+    255 - sample
+}
+
+fn limited(sample: u8, low: u8, high: u8) -> u8
+    ensures { result ≡ limited low high sample }
+{
+    sample.max(low).min(high)
+}
+
+/// Turns each sample of 8 bits into its complement: x becomes 255 - x. The row may have any length.
+pub fn invert_row(row: &mut [u8])
+    ensures { row.new ≡ map (λ sample. 255 - sample) row.old }
+{
+    for x in 0..row.len() {
+        row[x] = complement(row[x]);
+    }
+}
+
+/// Brings each sample of 8 bits into the bounds `low` to `high`. Where `low` is the greater, each becomes `high`. The row
+/// may have any length.
+pub fn limit_row(row: &mut [u8], low: u8, high: u8)
+    ensures { row.new ≡ map (limited low high) row.old }
+{
+    for x in 0..row.len() {
+        row[x] = limited(row[x], low, high);
+    }
+}
+
+/// The complement of each sample. A maker writes its row so in one pass, where a copy that is then inverted takes two.
+pub fn copy_inverted(row: &[u8], out: &mut [u8])
     requires { length row.now ≡ length out.old }
     ensures { EachIndex out.new (λ x. slice_index out.new x ≡ 255 - slice_index row.now x) }
 {
     for x in 0..out.len() {
-        out[x] = 255 - row[x];
+        out[x] = complement(row[x]);
     }
 }
 
-/// Each sample, brought into bounds.
-pub fn limit_row(row: &[u8], low: u8, high: u8, out: &mut [u8])
+/// Each sample, brought into bounds, in one pass too.
+pub fn copy_limited(row: &[u8], low: u8, high: u8, out: &mut [u8])
     requires { length row.now ≡ length out.old }
     ensures { EachIndex out.new (λ x. slice_index out.new x ≡ limited low high (slice_index row.now x)) }
 {
     for x in 0..out.len() {
-        out[x] = row[x].max(low).min(high);
+        out[x] = limited(row[x], low, high);
     }
 }
 

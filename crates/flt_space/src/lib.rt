@@ -14,4 +14,5 @@ mod rows;
 mod turn;
 
 pub use clip_check::check_space;
+pub use kernels::{invert_row, limit_row};
 pub use make::make_space;

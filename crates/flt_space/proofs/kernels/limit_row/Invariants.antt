@@ -1,6 +1,9 @@
-use Rattle.std.proofs.Common.{◌≡◌, ℕ, ◌<◌, get_or}
+use Rattle.std.proofs.Common.{◌≡◌, ℕ, ◌<◌, ◌≤◌, get_or}
 use Rattle.clip_term.specs.Space.{limited}
 use Rattle.flt_space.proofs.kernels.limit_row.Given as goal
 
 abbrev pub invariant-loop-x : goal.invariant-loop-x
-invariant-loop-x l = (x : ℕ) → x < l.x → get_or l.out x 0 ≡ limited l.low l.high (get_or l.row x 0)
+invariant-loop-x l = record {
+  done : (k : ℕ) → k < l.x → get_or l.row k 0 ≡ limited l.low l.high (get_or l.fn.row k 0);
+  left : (k : ℕ) → l.x ≤ k → get_or l.row k 0 ≡ get_or l.fn.row k 0;
+}

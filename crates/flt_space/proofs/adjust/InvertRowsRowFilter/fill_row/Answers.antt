@@ -13,5 +13,5 @@ returns c =
     let channels = c.args.self.now.channels in
     let input = c.args.input.now in
     let named : is_among channels c.args.plane ≡ true = negated (is_among channels c.args.plane) true c.requires.changed in
-    row_listed c.invert_row.new.out (space_at (op.Invert channels) input.shape (look_in input)) c.args.plane (length c.args.out.now) c.args.y (search rules)
-    (λ x within. c.invert_row.ensures x (search rules) ∙ rw (c.row.ensures.row, named) refl)
+    row_listed c.copy_inverted.new.out (space_at (op.Invert channels) input.shape (look_in input)) c.args.plane (length c.args.out.now) c.args.y (search rules)
+    (λ x within. c.copy_inverted.ensures x (search rules) ∙ rw (c.row.ensures.row, named) refl)

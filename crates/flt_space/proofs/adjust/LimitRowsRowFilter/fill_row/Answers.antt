@@ -18,8 +18,8 @@ returns-then-plane-eq0 c =
     let luma : (c.args.plane == 0) ≡ true = search rules in
     let low : c.bound.result ≡ nat_of bounds.min_luma * scale input.shape = (let told : c.bound.result ≡ nat_of bounds.min_luma = search rules in omega (arith, told)) in
     let high : c.bound-then-plane-eq0.result ≡ nat_of bounds.max_luma * scale input.shape = (let told : c.bound-then-plane-eq0.result ≡ nat_of bounds.max_luma = search rules in omega (arith, told)) in
-    row_listed c.limit_row.new.out (space_at (Limiter bounds.min_luma bounds.max_luma bounds.min_chroma bounds.max_chroma) input.shape (look_in input)) c.args.plane (length c.args.out.now) c.args.y (search rules)
-    (λ x within. c.limit_row.ensures x (search rules) ∙ rw (low, high, c.row-row.ensures.row) (sym (first_of (c.args.plane == 0) _ _ luma)))
+    row_listed c.copy_limited.new.out (space_at (Limiter bounds.min_luma bounds.max_luma bounds.min_chroma bounds.max_chroma) input.shape (look_in input)) c.args.plane (length c.args.out.now) c.args.y (search rules)
+    (λ x within. c.copy_limited.ensures x (search rules) ∙ rw (low, high, c.row-row.ensures.row) (sym (first_of (c.args.plane == 0) _ _ luma)))
 
 pub returns-else-plane-eq0 : goal.returns-else-plane-eq0
 unfolding bytes_of_row
@@ -29,5 +29,5 @@ returns-else-plane-eq0 c =
     let chroma : (c.args.plane == 0) ≡ false = search rules in
     let low : c.bound-else-plane-eq0.result ≡ nat_of bounds.min_chroma * scale input.shape = (let told : c.bound-else-plane-eq0.result ≡ nat_of bounds.min_chroma = search rules in omega (arith, told)) in
     let high : c.bound-else-plane-eq0-2.result ≡ nat_of bounds.max_chroma * scale input.shape = (let told : c.bound-else-plane-eq0-2.result ≡ nat_of bounds.max_chroma = search rules in omega (arith, told)) in
-    row_listed c.limit_row-else-plane-eq0.new.out (space_at (Limiter bounds.min_luma bounds.max_luma bounds.min_chroma bounds.max_chroma) input.shape (look_in input)) c.args.plane (length c.args.out.now) c.args.y (search rules)
-    (λ x within. c.limit_row-else-plane-eq0.ensures x (search rules) ∙ rw (low, high, c.row-row.ensures.row) (sym (second_of (c.args.plane == 0) _ _ chroma)))
+    row_listed c.copy_limited-else-plane-eq0.new.out (space_at (Limiter bounds.min_luma bounds.max_luma bounds.min_chroma bounds.max_chroma) input.shape (look_in input)) c.args.plane (length c.args.out.now) c.args.y (search rules)
+    (λ x within. c.copy_limited-else-plane-eq0.ensures x (search rules) ∙ rw (low, high, c.row-row.ensures.row) (sym (second_of (c.args.plane == 0) _ _ chroma)))
