@@ -19,4 +19,6 @@ mod ops;
 #[cfg(test)]
 mod plans;
 #[cfg(test)]
+mod rows;
+#[cfg(test)]
 mod terms;
