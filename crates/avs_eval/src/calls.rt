@@ -1,4 +1,4 @@
-// Calls.
+// Calls of the script's functions, of built-in functions and of filters, by name and with bound arguments.
 ghost use Rattle.std.specs.Prelude.{◌≡◌, ◌<◌};
 ghost use Rattle.avs_tree.specs.Tree as t;
 ghost use Rattle.avs_values.specs.Views.{bound_view};
@@ -13,10 +13,11 @@ ghost use Rattle.avs_calls.specs.Views.{callee_view};
 ghost use Rattle.avs_eval.specs.At as r;
 ghost use Rattle.avs_eval.specs.Walks.{Deeper, Keeps, stop_in};
 
-use crate::ranges::{range_in, unnamed_of};
+use crate::ranges::{positional_args, range_in};
 use crate::walker::Walker;
 use avs_calls::{
-    Callee, callee_of, filter, fit_callee, parameters, plain, prefetch, ranged, set_mode, told,
+    Callee, callee_of, clip_property, filter, fit_callee, parameters, plain, prefetch, ranged,
+    set_mode,
 };
 use avs_meaning::{Builtin, ScriptKind, ScriptStop, Table, Variable};
 use avs_state::{ByName, Definition, Host, Machine, stop_of};
@@ -144,7 +145,7 @@ impl<
             Builtin::ApplyRange => Err(self.fault(ScriptKind::NoMatch, line)),
             Builtin::Plain(function) => plain(self.alloc, function, given, self.here, line),
             Builtin::Clip(function) => {
-                told(
+                clip_property(
                     self.alloc,
                     machine,
                     function,
@@ -224,7 +225,7 @@ impl<
             return Err(self.fault(ScriptKind::NoMatch, line));
         };
         let callee = self.called(machine, range.name, line)?;
-        let args = unnamed_of(self.alloc, range.clip, &given.rest)?;
+        let args = positional_args(self.alloc, range.clip, &given.rest)?;
         let shown = match self.apply(machine, host, &callee, args, None, line) {
             Ok(shown) => shown,
             Err(stop) => return Err(stop),

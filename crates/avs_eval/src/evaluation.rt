@@ -1,4 +1,4 @@
-// The evaluation of a script.
+// The public call `eval`: a text becomes the graph of its clip, or a stop.
 ghost use Rattle.std.specs.Prelude.{◌≡◌, ◌≤◌, ◌<◌, ◌+◌, [], length, IsTrue, IfOk, OnOk};
 ghost use Rattle.avs_tree.specs.View.{block_view};
 ghost use Rattle.avs_values.specs.Outcome.{text_limit};

@@ -1,4 +1,4 @@
-// The values of expressions.
+// The value of an expression: one method for each kind of list that an expression holds.
 ghost use Rattle.std.specs.Prelude.{◌≡◌, ◌∷◌, [], map};
 ghost use Rattle.avs_tree.specs.Tree as t;
 ghost use Rattle.avs_tree.specs.View.{expr_view, arg_view, method_call_view, step_view, args_of, method_calls_of, steps_of};

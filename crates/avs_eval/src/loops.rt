@@ -1,4 +1,4 @@
-// Parts of loops.
+// The numbers of `for`, and the conditions of `if` and `while`.
 ghost use Rattle.std.specs.Prelude.{◌≡◌, ℤ, ◌+ℤ◌, OnOk, option_map};
 ghost use Rattle.avs_tree.specs.View.{expr_view};
 ghost use Rattle.avs_meaning.specs.Loops as l;

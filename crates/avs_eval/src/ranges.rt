@@ -38,7 +38,7 @@ pub(crate) fn range_in(values: &[Value]) -> Option<Range<'_>>
 }
 
 /// A clip and values, as arguments without names. An `Err` is out of memory.
-pub(crate) fn unnamed_of(
+pub(crate) fn positional_args(
     alloc: Global,
     clip: u32,
     values: &[Value],

@@ -1,4 +1,4 @@
-// What statements do.
+// The execution of statements and blocks: assignments, `return`, `if`, `while` and `for`.
 ghost use Rattle.std.specs.Prelude.{◌≡◌, OnOk, map, option_map};
 ghost use Rattle.avs_tree.specs.Tree as t;
 ghost use Rattle.avs_tree.specs.View.{expr_view, arm_view, statement_view, kind_view, block_view, arms_of};

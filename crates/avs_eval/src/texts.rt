@@ -1,4 +1,4 @@
-// Texts that are executed.
+// Texts that a run executes beside the script: those of `Eval`, `Import` and functions.
 ghost use Rattle.std.specs.Prelude.{◌≡◌, ◌<◌, ◌≤◌, length, OnOk};
 ghost use Rattle.avs_tree.specs.View.{block_view};
 ghost use Rattle.avs_values.specs.Outcome.{text_limit};

@@ -1,4 +1,4 @@
-// The script of a file.
+// The script of a file, read as a text of at most 1,048,576 bytes.
 ghost use Rattle.std.specs.Prelude.{◌≡◌, ◌≤◌, ◌+◌, ◌^◌, length, Some, IfOk, OnOk, IsErrOf};
 ghost use Rattle.std.specs.Option.{ForSome};
 ghost use Rattle.fv_io.specs.Faults.{HasRisen};

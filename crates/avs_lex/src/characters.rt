@@ -1,4 +1,4 @@
-// Classes of characters.
+// Classes of characters: letters, digits, blanks.
 ghost use Rattle.std.specs.Prelude.{◌≡◌};
 ghost use Rattle.avs_lex.specs.Characters as c;
 

@@ -1,4 +1,4 @@
-// A script, read into tokens.
+// The lexer: a text becomes its tokens, or the first lexical fault.
 ghost use Rattle.std.specs.Prelude.{◌≡◌, ◌+◌, ◌-◌, ◌<◌, ◌≤◌, ◌^◌, length, IfOk, IfErr};
 ghost use Rattle.avs_lex.specs.TokenList.{IsTokenList};
 ghost use Rattle.avs_lex.specs.Tokens.{Tokens, IsFault, open_parentheses_after};

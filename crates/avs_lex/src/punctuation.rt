@@ -1,4 +1,4 @@
-// Punctuation.
+// Operators, brackets and separators at the start of a text.
 ghost use Rattle.std.specs.Prelude.{◌≡◌, ◌<◌, [], ◌∷◌, length};
 ghost use Rattle.avs_lex.specs.Spelling.{pairs, singles, first_of};
 ghost use Rattle.avs_lex.specs.Piece as s;

@@ -1,4 +1,4 @@
-// Tokens.
+// A token: its kind, and the line on which it begins.
 
 /// What a token is.
 #[derive(Clone, Copy, Debug, PartialEq, Eq)]

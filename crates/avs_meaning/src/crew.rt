@@ -1,4 +1,4 @@
-// The workers of a render.
+// How many workers and outputs a window `Prefetch` asks for.
 ghost use Rattle.std.specs.Prelude.{◌≡◌, ◌≤◌};
 ghost use Rattle.avs_meaning.specs.Crews as d;
 

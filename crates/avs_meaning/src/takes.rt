@@ -1,4 +1,4 @@
-// What the built-in functions take.
+// The parameters of each built-in function and filter.
 ghost use Rattle.std.specs.Prelude.{◌≡◌, ◌∷◌, [], IfOk, map};
 ghost use Rattle.avs_values.specs.Functions as v;
 ghost use Rattle.avs_values.specs.Views.{signature_view};

@@ -1,4 +1,4 @@
-// The rules for expressions.
+// The parser of expressions: a function for each level of precedence.
 ghost use Rattle.std.specs.Prelude.{◌≡◌, ◌-◌, ◌<◌, ◌≤◌, [], map, length, option_map, IfOk};
 ghost use Rattle.avs_parse.specs.ParsesExpr.{ParsesDeeper, ParsesLower};
 ghost use Rattle.avs_parse.specs.ParsingExpr as r;

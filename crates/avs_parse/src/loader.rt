@@ -1,4 +1,4 @@
-// The tree of a text.
+// `load`: the tree of a text, with the line of its end.
 ghost use Rattle.std.specs.Prelude.{◌≡◌, ◌<◌, ◌-◌, ◌^◌, length};
 ghost use Rattle.avs_parse.specs.Load.{script_of, last_line};
 ghost use Rattle.avs_parse.specs.Loads.{Loads};

@@ -1,4 +1,4 @@
-// The rules for statements.
+// The parser of statements and blocks.
 ghost use Rattle.std.specs.Prelude.{◌≡◌, ◌-◌, ◌<◌, [], map, length, option_map};
 ghost use Rattle.avs_parse.specs.ParsesInside.{ParsesInside};
 ghost use Rattle.avs_parse.specs.ParsingExpr.{below};

@@ -1,4 +1,4 @@
-// Scripts as text.
+// The printer: a tree becomes a text that has this tree.
 ghost use Rattle.std.specs.List.{list_any};
 ghost use Rattle.std.specs.Prelude.{◌≡◌, ◌==◌, ◌<◌, ◌++◌, ◌∷◌, [], map, length, codes, true, option_map, OnOk, IfOk};
 ghost use Rattle.avs_lex.specs.Spelling.{spelling};

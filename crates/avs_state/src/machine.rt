@@ -1,4 +1,4 @@
-// The state of a run.
+// `Machine`: the variables, functions, settings and graph of a run.
 ghost use Rattle.std.specs.Prelude.{◌≡◌, ◌↔◌, IsTrue, ◌+◌, ◌^◌, Some, ◌∷◌, ◌++◌, ◌<◌, [], length, map, IfOk, Ok, OnOk, option_map};
 ghost use Rattle.std.specs.List.{All};
 ghost use Rattle.fv_plane.specs.Info.{IsLawful};

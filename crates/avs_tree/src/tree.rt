@@ -1,4 +1,4 @@
-// Trees of scripts.
+// The types of the trees of scripts: expressions, statements, functions.
 use crate::words::TypeWord;
 use fv_io::Text;
 

@@ -1,4 +1,4 @@
-// The functions on any value.
+// Functions on values of any kind: `Select`, `Defined`, `Default`, `Assert` and the tests of kinds.
 ghost use Rattle.std.specs.Prelude.{◌≡◌};
 ghost use Rattle.avs_values.specs.Functions as s;
 ghost use Rattle.avs_values.specs.Outcome.{Gives};

@@ -1,4 +1,4 @@
-// What a function takes.
+// A signature: the parameters of a function, each with its kind and name.
 ghost use Rattle.std.specs.Prelude.{◌≡◌, IfOk};
 ghost use Rattle.avs_values.specs.Functions as s;
 

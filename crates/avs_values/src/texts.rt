@@ -1,4 +1,4 @@
-// The functions on texts.
+// Functions on texts: lengths, cases, parts, searches and the reversed text.
 ghost use Rattle.std.specs.Prelude.{◌≡◌, ◌+◌, ◌≤◌, ◌++◌, length, pos, reverse, Ok, IfOk, string_bytes};
 ghost use Rattle.std.specs.Str.{chars, encode_utf8_all};
 ghost use Rattle.avs_values.specs.Outcome as o;

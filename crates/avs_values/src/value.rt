@@ -1,4 +1,4 @@
-// Values and their kinds.
+// A value of a script: a number, a text, a truth value, a clip, or none.
 ghost use Rattle.std.specs.Prelude.{◌≡◌, IfOk};
 ghost use Rattle.avs_values.specs.Values.{has_kind, is_undefined};
 

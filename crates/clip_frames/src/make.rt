@@ -18,6 +18,7 @@ fn shown(frame: &Frame) -> Result<Frame, AllocError>
     ensures frame { IfOk result (λ shown. shown ≡ frame.now) }
     ensures whole { IsPicture frame.now }
 {
+    // Called for what its contract says.
     let _ = frame.shape();
     frame.share()
 }

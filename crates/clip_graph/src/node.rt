@@ -1,4 +1,4 @@
-// A filter of a graph.
+// A node of a graph: a filter with its arguments, its inputs and its mode.
 use clip_term::Op;
 use fv_plane::Info;
 

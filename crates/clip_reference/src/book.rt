@@ -1,4 +1,4 @@
-// The frames of each source.
+// The frames of each source, by the source's number, for tests.
 ghost use Rattle.std.specs.Prelude.{◌≡◌, ◌<◌, [], ◌∷◌, ◌++◌, length, slice_index_or, IfOk, OnOk, OnErr};
 ghost use Rattle.fv_plane.specs.declared.format.Shape.{Shape};
 ghost use Rattle.clip_term.specs.Terms.{frame_in};

@@ -1,4 +1,4 @@
-// Frames, sample by sample.
+// The frame of a term by its definition, sample by sample.
 ghost use Rattle.std.specs.Prelude.{◌≡◌, ℕ, ◌<◌, ◌^◌, List, [], length, map, IfOk};
 ghost use Rattle.fv_plane.specs.Format.{IsLegal};
 ghost use Rattle.fv_plane.specs.Picture.{Picture};

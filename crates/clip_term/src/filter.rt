@@ -1,4 +1,4 @@
-// The filters by name.
+// `Filter`: every filter, by its name, with the mode that it has unless a script sets one.
 
 /// A filter that a script can call.
 #[derive(Clone, Copy, Debug, PartialEq, Eq)]

@@ -1,4 +1,4 @@
-// What the words ask for.
+// `Command`: a render, `info` or the self test, with its options.
 use fv_io::Text;
 
 /// What the words of the command line ask for.

@@ -1,4 +1,4 @@
-// What the words ask for.
+// `command_of`: what the words of the command line ask for.
 ghost use Rattle.std.specs.Prelude.{◌≡◌, IfOk, OnOk, map, option_map};
 ghost use Rattle.std.specs.List.{All};
 ghost use Rattle.std.specs.Str.{IsUtf8};

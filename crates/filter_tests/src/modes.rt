@@ -1,4 +1,4 @@
-// Settings of modes.
+// Settings of threading modes, one after the other.
 use clip_term::Filter;
 use fv_io::Text;
 use mt_modes::{ModeFault, ModeTable};

@@ -1,4 +1,4 @@
-// The mean of two pictures.
+// `Merge`: the mean of two pictures, sample by sample.
 ghost use Rattle.std.specs.Prelude.{◌≡◌, IfOk};
 ghost use Rattle.fv_plane.specs.Look.{picture_from};
 ghost use Rattle.flt_merge.specs.Rows.{look_of_means};
@@ -13,6 +13,7 @@ pub fn merge(alloc: Global, a: &Frame, b: &Frame) -> Result<Frame, AllocError>
     ensures { IfOk result (λ made. made ≡ picture_from a.now.shape (look_of_means a.now b.now)) }
 {
     let shape = a.shape();
+    // Called for what its contract says.
     let _ = b.shape();
     let mut made = FrameBuilder::new(alloc, shape)?;
     for plane in 0..shape.kind.planes() {

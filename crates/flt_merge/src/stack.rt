@@ -1,4 +1,4 @@
-// Pictures one after the other.
+// `StackVertical` and `StackHorizontal`: pictures below each other, or side by side.
 ghost use Rattle.std.specs.Prelude.{◌≡◌, ◌<◌, ◌≤◌, IfOk, length};
 ghost use Rattle.std.specs.List.{All};
 ghost use Rattle.fv_plane.specs.Format.{IsLegal, planes, plane_height};

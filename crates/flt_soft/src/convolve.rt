@@ -317,6 +317,7 @@ fn convolve_in(
     ensures sums { vec_len sums.new ≡ vec_len sums.old }
     ensures padded { vec_len padded.new ≡ vec_len padded.old }
 {
+    // Called for what its contract says.
     let _ = input.shape();
     let (padded, _) = padded.as_mut_slice().split_at_mut(out.len() + 4);
     let (sums, _) = sums.as_mut_slice().split_at_mut(out.len());
@@ -345,6 +346,7 @@ impl RowFilter for ConvolveRows<'_> {
         out: &mut [u8],
     ) {
         let input = &inputs[0];
+        // Called for what its contract says.
         let _ = input.shape();
         let weights = self.matrix.entries.as_slice();
         let padded = &mut scratch.padded;

@@ -1,4 +1,4 @@
-// Division by multiplication.
+// Division by a multiplication and a shift, which the compiler turns into vector instructions.
 ghost use Rattle.std.specs.Prelude.{◌≡◌, ◌/◌, ◌^◌, ◌<◌, ◌≤◌, int_div, unsigned_abs};
 ghost use Rattle.flt_soft.specs.Rows.{IsReciprocal, IsSmall};
 

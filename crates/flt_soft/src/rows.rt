@@ -64,6 +64,7 @@ fn fill_planes<F: RowFilter>(
     let first = &inputs[0];
     let middle = &inputs[inputs.len() / 2];
     let shape = first.shape();
+    // Called for what its contract says.
     let _ = middle.shape();
     for plane in 0..shape.kind.planes() {
         if filter.keeps_plane(plane) {

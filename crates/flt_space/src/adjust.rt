@@ -1,4 +1,4 @@
-// Samples changed where they are.
+// `Invert`, `Limiter`, `Greyscale` and `SwapUV`: samples that stay where they are.
 ghost use Rattle.std.specs.Prelude.{◌≡◌, None, IfOk, false};
 ghost use Rattle.fv_plane.specs.Refusals.{first_fault};
 ghost use Rattle.clip_term.specs.declared.op.SpaceOp.TheVariants as op;

@@ -1,4 +1,4 @@
-// Pictures turned over.
+// `FlipVertical` and `FlipHorizontal`: pictures turned over.
 ghost use Rattle.std.specs.Prelude.{◌≡◌, ◌-◌, IfOk};
 ghost use Rattle.clip_term.specs.declared.op.SpaceOp.TheVariants.{FlipHorizontal, FlipVertical, Turn180};
 ghost use Rattle.clip_term.specs.Space.{space_picture};

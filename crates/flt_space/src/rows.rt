@@ -44,6 +44,7 @@ fn fill_planes<F: RowFilter>(
     requires sizes { IsPicture made.old }
     ensures { OnOk result (made.new ≡ space_picture (F.op filter.now) input.now) }
 {
+    // Called for what its contract says.
     let _ = input.shape();
     for plane in 0..shape.kind.planes() {
         if filter.keeps_plane(plane) {

@@ -1,4 +1,4 @@
-// Pictures turned on their side.
+// `TurnLeft`, `TurnRight` and `Turn180`: pictures turned on their side, or upside down.
 ghost use Rattle.std.specs.Prelude.{◌≡◌, ◌<◌, ◌≤◌, ◌+◌, ◌*◌, ◌-◌, ◌%◌, ◌^◌, ℕ, None, IfOk, length, slice_index};
 ghost use Rattle.fv_plane.specs.Format.{IsLegal, planes, plane_width, plane_height};
 ghost use Rattle.fv_plane.specs.Look.{look_in};

@@ -1,4 +1,4 @@
-// Files by name.
+// `Files`: files by name, each fetched as a source and closed again.
 ghost use Rattle.std.specs.Prelude.{◌≡◌, ◌≤◌, ◌+◌, ◌-◌, ℕ, Option, None, IfOk, OnOk, OnErr, IsErrOf};
 ghost use Rattle.std.specs.FinMap.{get};
 ghost use Rattle.fv_io.specs.Faults.{with_faults, HasRisen};

@@ -1,4 +1,4 @@
-// Rates in lowest terms.
+// A frame rate in lowest terms.
 ghost use Rattle.std.specs.Prelude.{◌≡◌, ◌<◌};
 ghost use Rattle.fv_plane.specs.Rate.{gcd, lowest};
 

@@ -1,4 +1,4 @@
-// The files of the system.
+// `RealFiles`: the files of the system, by their paths.
 ghost use Rattle.std.specs.Prelude.{None, ◌≡◌, ◌≤◌};
 
 use crate::RealSource;

@@ -1,4 +1,4 @@
-// The filters by their names.
+// The number and the name of each filter.
 ghost use Rattle.std.specs.Prelude.{◌≡◌};
 ghost use Rattle.mt_modes.specs.Names.{filter_named, has_name, number_of};
 

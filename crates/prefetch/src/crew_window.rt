@@ -1,4 +1,4 @@
-// A window by several workers.
+// A window whose outputs several workers make, while the frames of the last one are put.
 ghost use Rattle.std.specs.Prelude.{◌≡◌, ◌+◌, ◌-◌, ◌<◌, ◌≤◌, ℕ, min, [], length, All, IfOk, IfSome, OnErr};
 ghost use Rattle.std.specs.Arc.{arc_value};
 ghost use Rattle.std.specs.Vec.{vec_len};
@@ -178,6 +178,7 @@ pub(crate) fn run_crew_window<R: Threads + Wait + Sync, I: Works + Send, K: Sink
     let chore = PutFrames { out, frames };
     let (mut core, (out, put)) = run_crew(rt, alloc, core, threads.min(count), gate, chore);
     take_back(out);
+    // Called for what its contract says.
     core.instances();
     core.account();
     let finished = core.end_window();

@@ -1,4 +1,4 @@
-// Why a render ends early.
+// `RenderStop`: the stop of a window, a failed write, or out of memory.
 use serve_events::WindowStop;
 
 /// Why not all frames were put.

@@ -1,4 +1,4 @@
-// A source of frames.
+// `SeqSource`: a source of bytes and its index, read frame by frame in any order.
 ghost use Rattle.std.specs.Prelude.{◌≡◌, ◌<◌, ◌≤◌, length, Some, None, IsSome, IfSome, IfOk, IfErr, OnOk, OnErr, IsErrOf, slice_get, slice_index};
 ghost use Rattle.std.specs.Option.{ForSome};
 ghost use Rattle.fv_io.specs.Source.{IsSteady};

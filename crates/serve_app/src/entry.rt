@@ -1,4 +1,4 @@
-// The top call.
+// `run` and `run_plain`: the program as a call over words, files and streams.
 ghost use Rattle.std.specs.Prelude.{◌≡◌, None};
 ghost use Rattle.fv_io.specs.Files.{KeepsFiles};
 ghost use Rattle.fv_io.specs.Sink.{IsLater};

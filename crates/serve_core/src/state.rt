@@ -1,4 +1,4 @@
-// The core and its calls.
+// `Core`: the cache, claims, instances, outputs and journal of a window, and the calls on them.
 ghost use Rattle.std.specs.Prelude.{◌≡◌, ◌+◌, ◌-◌, ◌<◌, ◌≤◌, ◌++◌, ℕ, List, [], length, slice_get, replicate};
 ghost use Rattle.std.specs.Prelude.{None, Some, IfOk, IfSome, OnOk, OnErr, true, false};
 ghost use Rattle.std.specs.Arc.{arc_value};
@@ -126,6 +126,7 @@ impl<I: Held> Core<I> {
         requires leases { leases_out table ≡ 0 }
         ensures { result ≡ made (arc_value graph) root cache workers table }
     {
+        // Called for what its contract says.
         graph.len();
         Core {
             alloc,

@@ -1,4 +1,4 @@
-// What happens in a core.
+// `Event`: each thing that a worker does in a call of the core; and why a window stops.
 ghost use Rattle.std.specs.Prelude.{◌≡◌};
 ghost use Rattle.serve_events.specs.Events.{worker_of, key_of, node_of, source_of};
 

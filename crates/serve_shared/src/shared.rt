@@ -1,4 +1,4 @@
-// One worker among others.
+// `run_shared`: a worker that takes turns at the core with others.
 ghost use Rattle.std.specs.Prelude.{◌≡◌, [], IfSome};
 ghost use Rattle.turn_lock.specs.Entries.{entries_of};
 ghost use Rattle.serve_events.specs.Events.{worker_of};

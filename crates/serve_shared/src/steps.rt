@@ -40,6 +40,7 @@ fn give_up<I: Held>(core: &mut Core<I>, bell: &Bell, number: u32)
     requires window { 0 < core.old.fixed.count }
     ensures { core.new ≡ closed number core.old }
 {
+    // Called for what its contract says.
     core.account();
     'claims: while let Some(key) = core.newest_claim(number) {
         core.abandon(number, key);

@@ -43,6 +43,7 @@ pub(crate) fn ask_turn<R: Wait, I: Held>(
     ensures { TurnAsks I.holds I.feed I.faults worker.now seat key result.1 result.0 }
 {
     let (mut core, turn) = lock.enter(rt, seat);
+    // Called for what its contract says.
     core.account();
     let found = ask(&mut core, lock.bell(), worker.number(), key);
     let seat = lock.leave(turn, core);
@@ -66,6 +67,7 @@ pub(crate) fn enter_turn<R: Wait, I: Held>(
     ensures { TurnEnters I.holds I.feed I.faults worker.now seat key.node result.1 result.0 }
 {
     let (mut core, turn) = lock.enter(rt, seat);
+    // Called for what its contract says.
     core.account();
     let entry = enter(&mut core, lock.bell(), worker.number(), key.node);
     let seat = lock.leave(turn, core);
@@ -88,6 +90,7 @@ pub(crate) fn leave_turn<R: Wait, I: Held>(
     ensures { Adds (Leave worker.now.number lease.place.node lease.place.instance ∷ []) seat result }
 {
     let (mut core, turn) = lock.enter(rt, seat);
+    // Called for what its contract says.
     core.account();
     core.leave(worker.number(), lease);
     lock.bell().strike();
@@ -114,6 +117,7 @@ pub(crate) fn give_back_turn<R: Wait, I: Held>(
 {
     let number = worker.number();
     let (mut core, turn) = lock.enter(rt, seat);
+    // Called for what its contract says.
     core.account();
     core.leave(number, lease);
     fail(&mut core, lock.bell(), number, stop);
@@ -134,6 +138,7 @@ pub(crate) fn fail_turn<R: Wait, I: Held>(
     ensures { StopsNow worker.now Memory [] seat result }
 {
     let (mut core, turn) = lock.enter(rt, seat);
+    // Called for what its contract says.
     core.account();
     fail(&mut core, lock.bell(), worker.number(), WindowStop::Memory);
     let seat = lock.leave(turn, core);
@@ -159,6 +164,7 @@ pub(crate) fn publish_turn<R: Wait, I: Held>(
     ensures { TurnPublishes worker.now seat key result.1 result.0 }
 {
     let (mut core, turn) = lock.enter(rt, seat);
+    // Called for what its contract says.
     core.account();
     let done = publish(&mut core, lock.bell(), worker.number(), key, frame);
     let seat = lock.leave(turn, core);
@@ -178,6 +184,7 @@ pub(crate) fn take_turn<R: Wait, I: Held>(
     ensures { TurnTakes worker.now seat result.1 result.0 }
 {
     let (mut core, turn) = lock.enter(rt, seat);
+    // Called for what its contract says.
     core.account();
     let taken = take(&mut core, lock.bell(), worker.number());
     let seat = lock.leave(turn, core);
@@ -204,6 +211,7 @@ pub(crate) fn deliver_turn<R: Wait, I: Held>(
     ensures { Adds (Deliver worker.now.number key.n ∷ []) seat result }
 {
     let (mut core, turn) = lock.enter(rt, seat);
+    // Called for what its contract says.
     core.account();
     core.deliver(worker.number(), key.n, frame);
     lock.leave(turn, core)

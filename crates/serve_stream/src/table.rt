@@ -47,6 +47,7 @@ fn open_core<S: Source>(
     ensures left { IfErr result (λ table.
         length sources.old.items ≡ length sources.new.items + length (sources_in table)) }
 {
+    // Called for what its contract says.
     graph.len();
     let mut table = InstTable::new(alloc);
     let Ok(_) = furnish(alloc, &mut table, &graph, sources, hands.workers) else {

@@ -1,4 +1,4 @@
-// Why a render ends early.
+// `Stop`: why a run ends early, with its exit status.
 ghost use Rattle.std.specs.Prelude.{◌≡◌};
 ghost use Rattle.serve_text.specs.StopKinds.{refusal, status_of_stop};
 

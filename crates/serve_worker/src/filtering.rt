@@ -1,4 +1,4 @@
-// The frame of a filter.
+// The frame that a filter makes, for an instance without a source.
 ghost use Rattle.std.specs.Prelude.{◌≡◌, false, List, Option, IfOk, IfErr};
 ghost use Rattle.fv_plane.specs.Picture.{Picture};
 ghost use Rattle.clip_graph.specs.Plan.{application_at, is_source};
@@ -30,6 +30,7 @@ pub fn filtered(
 {
     match make_frame(alloc, graph, key, inputs, scratch) {
         Ok(frame) => {
+            // Called for what its contract says.
             frame.shape();
             Ok(frame)
         }

@@ -76,9 +76,11 @@ fn read<S: Source>(source: &mut SeqSource<S>, key: Key) -> Result<Frame, WindowS
     ensures steady { (IsErrOf result (WindowStop.Read key.node) → ⊥) →
         IsSteady S.Source source.old.source source.new.source }
 {
+    // Called for what its contract says.
     source.info();
     match source.frame(key.n) {
         Ok(frame) => {
+            // Called for what its contract says.
             frame.shape();
             Ok(frame)
         }

@@ -1,4 +1,4 @@
-// Seats and turns.
+// `LockSeat` and `Turn`: a thread's right to take turns, and the turn that it has.
 ghost use Rattle.std.specs.Prelude.{◌≡◌, IsSome};
 
 use crate::booked::Booked;

@@ -1,4 +1,4 @@
-// The lock.
+// `TurnLock`: a value that threads use in turns, in the order in which they asked.
 ghost use Rattle.std.specs.Prelude.{◌≡◌, ℕ, ◌+◌, ◌%◌, ◌^◌, ◌<◌, ◌≤◌, List, [], ◌∷◌, ◌++◌, All, Some, None, IsSome, IfOk, IfErr, IfSome};
 ghost use Rattle.turn_lock.specs.Entries.{IsPrefix, entries_of, AddsOnly};
 ghost use Rattle.turn_lock.specs.SeatView.{first_seat, joined_seat, HasAllNumbers};

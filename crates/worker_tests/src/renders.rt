@@ -1,4 +1,4 @@
-// Renders by several workers.
+// Renders by several workers, compared with the render by one.
 use crate::meeting::Meeting;
 use crate::paused::PausedFiles;
 use crate::runs::{BOTH, CLIP, Left, files_in_pieces, files_of, run_one, run_together};

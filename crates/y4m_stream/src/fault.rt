@@ -1,4 +1,4 @@
-// Faults of a stream.
+// `Y4mFault`: what is wrong with a stream; and why it can't be indexed.
 use fv_io::Failed;
 use std::alloc::{AllocError, AllocFailed};
 use thiserror::Error;

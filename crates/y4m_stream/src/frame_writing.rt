@@ -1,4 +1,4 @@
-// A frame, written.
+// `write_frame`: the head of a frame and its planes, put into a sink.
 ghost use Rattle.std.specs.Prelude.{◌≡◌, ◌≤◌, ◌<◌, ◌+◌, ◌^◌, ◌++◌, length, take, IfOk, OnOk, OnErr};
 ghost use Rattle.fv_io.specs.Sink.{Puts, PutsPrefix, IsLater, SinkFailed};
 ghost use Rattle.fv_plane.specs.Format.{planes, row_bytes, frame_bytes};

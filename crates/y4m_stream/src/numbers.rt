@@ -1,4 +1,4 @@
-// Numbers of a head's parameters.
+// Numbers and ratios in the parameters of a stream's head.
 ghost use Rattle.std.specs.Prelude.{◌≡◌, ◌<◌, ◌^◌, length, IfSome};
 ghost use Rattle.std.specs.Char.{is_ascii_digit};
 ghost use Rattle.std.specs.List.{list_all, position, before_first, after_first};

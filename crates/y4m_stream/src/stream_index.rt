@@ -1,4 +1,4 @@
-// The index of a stream.
+// `Index`: the info of a stream, and where each frame's samples begin.
 ghost use Rattle.std.specs.Prelude.{◌≡◌, ◌<◌, slice_index};
 ghost use Rattle.y4m_stream.specs.Index.{IsIndex};
 
