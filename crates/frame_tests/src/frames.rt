@@ -1,8 +1,8 @@
 // Frames share their bytes, and give them back.
-use fv_plane::{Colour, Frame, PixelType, Shape};
+use fv_plane::{Colour, Frame, PixelType, Shape, Window};
 use std::test::Fail;
 
-// More shares than memory would hold as copies.
+// More shares and windows than memory would hold as copies.
 #[test]
 fn shares_frames(rt: HostRuntime) -> Result<(), Fail> {
     let alloc = rt.alloc();
@@ -15,7 +15,14 @@ fn shares_frames(rt: HostRuntime) -> Result<(), Fail> {
     let mut shares = Vec::new(alloc);
     for _ in 0..1_000 {
         shares.push(frame.share()?)?;
+        shares.push(frame.window(Window {
+            x: 1,
+            y: 0,
+            width: 4095,
+            height: 4096,
+        })?)?;
     }
+    assert_eq!(rt; shares.len(), 2_000);
     assert!(rt; frame.into_vec().is_none());
     Ok(())
 }
