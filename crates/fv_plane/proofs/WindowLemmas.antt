@@ -12,7 +12,7 @@ use Rattle.fv_plane.specs.declared.format.PixelType.TheVariants.{Y8, YV12, YV16,
 use Rattle.fv_plane.specs.declared.format.Shape.{Shape}
 use Rattle.fv_plane.specs.declared.format.Window.{Window}
 use Rattle.fv_plane.specs.Format.{IsLegal, IsWindow, planes, sub_w, sub_h, plane_width, plane_height, sample_bytes, largest_sample, window_shape, shape_of_plane}
-use Rattle.fv_plane.specs.Rows.{IsPlane, rows_of, rows_part, width_of}
+use Rattle.fv_plane.specs.Rows.{IsPlane, rows_of, rows_part}
 use Rattle.fv_plane.specs.Picture.{Picture, IsPicture}
 use Rattle.fv_plane.specs.Bytes.{row_of_bytes, decoded_rows, chroma_list, frame_of}
 use Rattle.fv_plane.specs.Look.{Look, across, down, look_in, row_from, plane_from, picture_from, picture_in, plane_alone}
@@ -46,12 +46,12 @@ part-rows_of bytes offset stride width height x y w h wide high =
     = ap (take h) (drop-rows_of all stride width height y (omega arith)) ∙ take-rows_of (drop (y * stride) all) stride width (height - y) h (omega arith) in
     ap (λ (l : List ℕ). rows_of l stride w h) start ∙ sym (ap (map (λ row. take w (drop x row))) rows ∙ narrow-rows_of (drop (y * stride) all) stride width x w h wide)
 
--- the rows of a plane whose bytes are all there have its width
-pub width-rows_of : (bytes : List ℕ) (offset stride width height : ℕ) → 0 < height → ((y : ℕ) → y < height → offset + y * stride + width ≤ length bytes)
-    → width_of (rows_of (drop offset bytes) stride width height) ≡ width
-width-rows_of bytes offset stride width height some ends =
-    ap length (row-rows_of (drop offset bytes) stride width height 0 some)
-    ∙ length-take-le width (drop (0 * stride) (drop offset bytes)) (let first = ends 0 some in rw (drop-drop, length-drop) (omega arith))
+-- a row of a plane whose bytes are all there has its width
+pub width-rows_of : (bytes : List ℕ) (offset stride width height y : ℕ) → y < height → ((k : ℕ) → k < height → offset + k * stride + width ≤ length bytes)
+    → length (get_or (rows_of (drop offset bytes) stride width height) y []) ≡ width
+width-rows_of bytes offset stride width height y within ends =
+    ap length (row-rows_of (drop offset bytes) stride width height y within)
+    ∙ length-take-le width (drop (y * stride) (drop offset bytes)) (let end = ends y within in rw (drop-drop, length-drop) (omega arith))
 
 -- the rows of a part are inside the bytes
 pub part_ends : (offset stride width height x y w h size : ℕ) → ((k : ℕ) → k < height → offset + k * stride + width ≤ size) → x + w ≤ width → y + h ≤ height

@@ -1,8 +1,8 @@
-// A plane is its rows of bytes, inside shared bytes, with an offset and a stride.
+// A plane is its rows of bytes, inside shared bytes, with an offset and a stride, seen from the top or from the bottom.
 ghost use Rattle.std.specs.Prelude.{◌≡◌, ◌<◌, ◌≤◌, ◌*◌, ◌+◌, ◌-◌, IfOk};
-ghost use Rattle.std.specs.Prelude.{[], length, slice_index_or, take, drop};
+ghost use Rattle.std.specs.Prelude.{[], length, reverse, slice_index_or, take, drop};
 ghost use Rattle.std.specs.Arc.{arc_value};
-ghost use Rattle.fv_plane.specs.Rows.{flat_rows, rows_of, rows_part, width_of};
+ghost use Rattle.fv_plane.specs.Rows.{flat_rows, first_stored, rows_of, rows_part, width_of};
 
 use std::alloc::AllocError;
 use std::marker::Model;
@@ -28,7 +28,15 @@ fn rows_in(bytes: &[u8], offset: usize, width: usize, height: usize, y: usize) -
     &bytes[at..at + size]
 }
 
-/// Rows inside shared bytes.
+// Where some rows that are seen from row `y` on begin, among rows that are stored from the top.
+fn first_stored(upwards: bool, height: usize, y: usize, count: usize) -> usize
+    requires { y + count ≤ height }
+    ensures { result ≡ first_stored upwards height y count }
+{
+    if upwards { height - y - count } else { y }
+}
+
+/// Rows inside shared bytes. If they run `upwards`, the last one in the bytes is the first one of the plane.
 #[derive(Drop)]
 pub struct Plane {
     bytes: Arc<Vec<u8>>,
@@ -36,16 +44,18 @@ pub struct Plane {
     stride: usize,
     width: usize,
     height: usize,
+    upwards: bool,
 }
 
 impl Model for Plane {
     ghost use Rattle.std.specs.Prelude.{ℕ, List, ◌+◌, ◌*◌, ◌<◌, ◌≤◌, length, drop};
     ghost use Rattle.std.specs.Arc.{arc_value};
-    ghost use Rattle.fv_plane.specs.Rows.{rows_of};
+    ghost use Rattle.fv_plane.specs.Rows.{rows_of, seen};
 
     ghost Value = { List (List ℕ) };
 
-    ghost view = { λ p. rows_of (drop p.offset (arc_value p.bytes).items) p.stride p.width p.height };
+    ghost view = { λ p. seen p.upwards
+        (rows_of (drop p.offset (arc_value p.bytes).items) p.stride p.width p.height) };
 
     ghost invariant = { λ p. (y : ℕ) → y < p.height
         → p.offset + y * p.stride + p.width ≤ length (arc_value p.bytes).items };
@@ -53,6 +63,7 @@ impl Model for Plane {
 
 impl Plane {
     /// The plane of `height` rows of `width` bytes, which begin at `offset` and have no bytes between them.
+    #[tactic(auto, using(crate::proofs::FlipLemmas::seen_down))]
     pub fn new(bytes: Arc<Vec<u8>>, offset: usize, width: usize, height: usize) -> Plane
         requires { offset + height * width ≤ length (arc_value bytes).items }
         ensures { result ≡ rows_of (drop offset (arc_value bytes).items) width width height }
@@ -63,6 +74,7 @@ impl Plane {
             stride: width,
             width,
             height,
+            upwards: false,
         }
     }
 
@@ -75,19 +87,19 @@ impl Plane {
             self.offset,
             self.stride,
             self.width,
-            y,
+            first_stored(self.upwards, self.height, y, 1),
         )
     }
 
     /// The bytes of rows from `y` on with no bytes between them, and the number of these rows: all of them where the
-    /// stride is the width.
+    /// stride is the width and the rows don't run upwards.
     pub fn rows_from(&self, y: usize) -> (&[u8], usize)
         requires { y < length self.now }
         ensures some { 0 < result.1 }
         ensures inside { y + result.1 ≤ length self.now }
         ensures rows { result.0.now ≡ flat_rows (take result.1 (drop y self.now)) }
     {
-        if self.stride != self.width {
+        if self.upwards || self.stride != self.width {
             return (self.row(y), 1);
         }
         let bytes = rows_in(
@@ -110,6 +122,22 @@ impl Plane {
             stride: self.stride,
             width: self.width,
             height: self.height,
+            upwards: self.upwards,
+        })
+    }
+
+    /// The rows from the bottom up, over the same bytes.
+    #[tactic(auto, using(crate::proofs::FlipLemmas::seen_flipped))]
+    pub fn flipped(&self) -> Result<Plane, AllocError>
+        ensures { IfOk result (λ plane. plane ≡ reverse self.now) }
+    {
+        Ok(Plane {
+            bytes: Arc::try_clone(&self.bytes)?,
+            offset: self.offset,
+            stride: self.stride,
+            width: self.width,
+            height: self.height,
+            upwards: !self.upwards,
         })
     }
 
@@ -128,12 +156,14 @@ impl Plane {
     {
         // The part lies inside the bytes, whose number fits, so its offset fits too.
         let _ = self.bytes.len();
+        let first = first_stored(self.upwards, self.height, y, height);
         Ok(Plane {
             bytes: Arc::try_clone(&self.bytes)?,
-            offset: self.offset + y * self.stride + x,
+            offset: self.offset + first * self.stride + x,
             stride: self.stride,
             width,
             height,
+            upwards: self.upwards,
         })
     }
 
