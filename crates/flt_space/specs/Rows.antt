@@ -2,13 +2,9 @@
 use Rattle.std.specs.Prelude.{◌≡◌, ℕ, ◌+◌, ◌*◌, ◌-◌, ◌<◌, List, ◌++◌, length, replicate, take, drop, slice_index}
 use Rattle.fv_plane.specs.Format.{plane_width, plane_height}
 use Rattle.fv_plane.specs.Look.{Look, look_in}
-use Rattle.fv_plane.specs.Picture.{Picture, row_of, sample_of}
+use Rattle.fv_plane.specs.Picture.{Picture, sample_of}
 use Rattle.clip_term.specs.declared.op.SpaceOp.{SpaceOp}
 use Rattle.clip_term.specs.Space.{space_at}
-
--- by plane and place
-abbrev pub rows_upside_down : Picture → ℕ → ℕ → List ℕ
-rows_upside_down input p z = row_of input.planes p (plane_height input.shape p - 1 - z)
 
 -- a row of this width that is another row between samples of one value
 abbrev pub padded : ℕ → ℕ → List ℕ → ℕ → List ℕ

@@ -1,26 +1,18 @@
 // `FlipVertical` and `FlipHorizontal`: pictures turned over.
-ghost use Rattle.std.specs.Prelude.{◌≡◌, ◌-◌, IfOk};
+ghost use Rattle.std.specs.Prelude.{◌≡◌, IfOk};
 ghost use Rattle.clip_term.specs.declared.op.SpaceOp.TheVariants.{FlipHorizontal, FlipVertical, Turn180};
 ghost use Rattle.clip_term.specs.Space.{space_picture};
 
 use crate::kernels::reverse_row;
 use crate::rows::{RowFilter, make_by_rows};
-use fv_plane::{Frame, FrameBuilder};
+use fv_plane::Frame;
 use std::alloc::{AllocError, Global};
 
-/// `FlipVertical`: the picture upside down. An `Err` is out of memory.
-pub fn flip_vertical(alloc: Global, input: &Frame) -> Result<Frame, AllocError>
+/// `FlipVertical`: the picture upside down, over the bytes of the input. An `Err` is more shares than can be counted.
+pub fn flip_vertical(input: &Frame) -> Result<Frame, AllocError>
     ensures { IfOk result (λ made. made ≡ space_picture FlipVertical input.now) }
 {
-    let shape = input.shape();
-    let mut made = FrameBuilder::new(alloc, shape)?;
-    for plane in 0..shape.kind.planes() {
-        let height = shape.plane_height(plane);
-        for y in 0..height {
-            made.put_row(plane, y, input.row(plane, height - 1 - y));
-        }
-    }
-    made.finish()
+    input.flipped()
 }
 
 #[derive(Drop)]

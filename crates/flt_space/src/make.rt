@@ -13,8 +13,8 @@ use clip_term::SpaceOp;
 use fv_plane::Frame;
 use std::alloc::{AllocError, Global};
 
-/// The picture that a filter makes of its input, which its check accepted. Parts, single planes and planes that stay
-/// share the bytes of the input. An `Err` is out of memory, or more shares than can be counted.
+/// The picture that a filter makes of its input, which its check accepted. Parts, single planes, planes that stay and
+/// pictures upside down share the bytes of the input. An `Err` is out of memory, or more shares than can be counted.
 pub fn make_space(alloc: Global, op: &SpaceOp, input: &Frame) -> Result<Frame, AllocError>
     requires accepted { first_fault (space_refusals op.now input.now.shape) ≡ None }
     requires legal { IsLegal (space_shape op.now input.now.shape) }
@@ -43,7 +43,7 @@ pub fn make_space(alloc: Global, op: &SpaceOp, input: &Frame) -> Result<Frame, A
             color_yuv,
         } => letter_box(alloc, input, *top, *bottom, *x1, *x2, *color_yuv),
         SpaceOp::FlipHorizontal => flip_horizontal(alloc, input),
-        SpaceOp::FlipVertical => flip_vertical(alloc, input),
+        SpaceOp::FlipVertical => flip_vertical(input),
         SpaceOp::Turn180 => turn_180(alloc, input),
         SpaceOp::TurnLeft => turn_left(alloc, input),
         SpaceOp::TurnRight => turn_right(alloc, input),
