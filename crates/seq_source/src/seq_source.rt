@@ -13,6 +13,7 @@ use fv_io::Source;
 use fv_plane::{Frame, Info};
 use std::alloc::Global;
 use std::marker::Model;
+use std::mem;
 use y4m_stream::Index;
 
 /// A source of bytes that is read frame by frame, in any order. Frames are counted from 0.
@@ -23,8 +24,8 @@ pub struct SeqSource<S: Source> {
     index: Index,
     // Where the source's next read begins. It isn't known at first, nor after a fault.
     place: Option<u64>,
-    // The last frame. Its memory is used again once no caller has the frame.
-    last: Option<Frame>,
+    // The memory of the next frame. What it holds has no meaning.
+    memory: Vec<u8>,
 }
 
 impl<S: Source> Model for SeqSource<S> {
@@ -38,16 +39,6 @@ impl<S: Source> Model for SeqSource<S> {
     ghost invariant = { λ s. IfSome s.place (IsAt S.Source s.source) };
 }
 
-// The memory of a frame that no caller has any more, or else none. Its bytes have no meaning.
-fn memory_of(alloc: Global, frame: Option<Frame>) -> Vec<u8> {
-    if let Some(frame) = frame {
-        if let Some(bytes) = frame.into_vec() {
-            return bytes;
-        }
-    }
-    Vec::new(alloc)
-}
-
 impl<S: Source> SeqSource<S> {
     /// The frames of a source. The index is the one that `y4m_stream::index` made of this source. It allocates nothing,
     /// and the first call of `frame` rewinds the source.
@@ -59,7 +50,7 @@ impl<S: Source> SeqSource<S> {
             source,
             index,
             place: None,
-            last: None,
+            memory: Vec::new(alloc),
         }
     }
 
@@ -71,6 +62,14 @@ impl<S: Source> SeqSource<S> {
         self.index.info()
     }
 
+    /// Takes memory for the next frame, whose bytes are overwritten. A frame for which none was given is made in new
+    /// memory.
+    pub fn use_memory(&mut self, memory: Vec<u8>)
+        ensures { self.new ≡ self.old }
+    {
+        self.memory = memory;
+    }
+
     /// Gives the source back, at any place.
     pub fn into_source(self) -> S
         ensures { result ≡ self.source }
@@ -80,7 +79,7 @@ impl<S: Source> SeqSource<S> {
             alloc: _,
             index: _,
             place: _,
-            last: _,
+            memory: _,
         } = self;
         source
     }
@@ -121,9 +120,8 @@ impl<S: Source> SeqSource<S> {
         ensures keeps { KeepsFrames S.Source self.old self.new }
     {
         let known = self.place.take();
-        let memory = memory_of(self.alloc, self.last.take());
+        let memory = mem::replace(&mut self.memory, Vec::new(self.alloc));
         let (frame, end) = read_indexed(&mut self.source, &self.index, known, n, memory)?;
-        self.last = Some(frame.share()?);
         self.place = Some(end);
         Ok(frame)
     }
