@@ -18,6 +18,7 @@ use clip_graph::Graph;
 use flt_soft::Scratch;
 use fv_io::Source;
 use fv_plane::{Frame, Key};
+use fv_spares::Spares;
 use inst_table::Held;
 use seq_source::{SeqFault, SeqSource};
 use serve_events::WindowStop;
@@ -42,6 +43,15 @@ impl<S: Source> Held for Instance<S> {
     ghost holds = { λ it. holds_of it };
 
     ghost ends = { λ it. Ends S.Source it };
+
+    fn take_memory(&mut self, spares: &mut Spares) {
+        if let Instance::Source(source) = self {
+            let size = source.info().shape.bytes() as usize;
+            if let Some(memory) = spares.take(size) {
+                source.use_memory(memory);
+            }
+        }
+    }
 }
 
 impl<S: Source> Works for Instance<S> {
