@@ -4,6 +4,7 @@ ghost use Rattle.std.specs.Map.{keys_of};
 ghost use Rattle.frame_cache.specs.Cached.{at_key, fronted, put_first, dropped_key, Differ};
 
 use fv_plane::{Frame, Key};
+use fv_spares::Spares;
 use lru::LruCache;
 use std::alloc::{AllocError, Global};
 use std::marker::Model;
@@ -81,9 +82,15 @@ impl FrameCache {
         self.frames.iter().map(|(key, _)| *key).collect(self.alloc)
     }
 
-    /// Puts a frame to the front, under a key that isn't there. A full cache drops its last frame, and answers that
-    /// frame's key. An `Err` is out of memory, and then nothing is dropped.
-    pub fn put(&mut self, key: Key, frame: Frame) -> Result<Option<Key>, AllocError>
+    /// Puts a frame to the front, under a key that isn't there. A full cache drops its last frame, whose memory is then
+    /// spare if nothing else shares it, and answers that frame's key. An `Err` is out of memory, and then nothing is
+    /// dropped.
+    pub fn put(
+        &mut self,
+        key: Key,
+        frame: Frame,
+        spares: &mut Spares,
+    ) -> Result<Option<Key>, AllocError>
         requires { at_key key self.old.pairs ≡ None }
         ensures dropped { IfOk result (λ dropped. dropped ≡ dropped_key self.old.capacity self.old.pairs) }
         ensures pairs { OnOk result (self.new.pairs ≡ put_first self.old.capacity key frame self.old.pairs) }
@@ -91,7 +98,10 @@ impl FrameCache {
         ensures capacity { self.new.capacity ≡ self.old.capacity }
     {
         match self.frames.push(key, frame) {
-            Ok(Some((dropped, _))) => Ok(Some(dropped)),
+            Ok(Some((dropped, frame))) => {
+                spares.keep(frame);
+                Ok(Some(dropped))
+            }
             Ok(None) => Ok(None),
             Err(_) => Err(AllocError),
         }

@@ -26,6 +26,7 @@ use crate::claims::{claimant, close, newest_of};
 use clip_graph::Graph;
 use frame_cache::FrameCache;
 use fv_plane::{Frame, Key};
+use fv_spares::Spares;
 use inst_table::{Entered, Held, InstTable, Lease};
 use serve_events::{Event, WindowStop};
 use std::alloc::{AllocError, Global};
@@ -59,6 +60,8 @@ pub struct Core<I: Held> {
     journal: Vec<Event>,
     // The events that may still have to come, for which the journal has room.
     owed: usize,
+    // The memory of frames that were evicted or handed back.
+    spares: Spares,
 }
 
 impl<I: Held> Model for Core<I> {
@@ -145,6 +148,7 @@ impl<I: Held> Core<I> {
             stop: None,
             journal: Vec::new(alloc),
             owed: 0,
+            spares: Spares::new(alloc),
         }
     }
 
@@ -293,7 +297,7 @@ impl<I: Held> Core<I> {
     }
 
     /// Asks for the worker's instance of a node, whose mode isn't 1, for a worker that has a claim on a frame of the
-    /// node and has no lease.
+    /// node and has no lease. An instance that makes its frame in memory of its own gets some that is spare.
     pub fn enter(&mut self, worker: u32, node: u32) -> Result<Admitted<I>, AllocError>
         requires worker { worker < self.old.fixed.workers }
         requires node { node < length self.old.fixed.plan }
@@ -318,7 +322,7 @@ impl<I: Held> Core<I> {
                     node,
                     instance,
                 });
-                Ok(Admitted::Leased(lease))
+                Ok(Admitted::Leased(with_memory(lease, &mut self.spares)))
             }
             Entered::Busy { holder } => Ok(Admitted::Busy { holder }),
         }
@@ -343,7 +347,8 @@ impl<I: Held> Core<I> {
     }
 
     /// Caches the frame of the worker's claim, for a worker that got the frames that it is made of and has no lease. A
-    /// full cache drops its last frame first. After an `Err` the claim is still there.
+    /// full cache drops its last frame first, whose memory is kept for frames to come. After an `Err` the claim is still
+    /// there.
     pub fn publish(&mut self, worker: u32, key: Key, frame: Frame) -> Result<(), AllocError>
         requires worker { worker < self.old.fixed.workers }
         requires claim { at_key key self.old.claims ≡ Some worker }
@@ -355,7 +360,7 @@ impl<I: Held> Core<I> {
     {
         // There are no more frames than the capacity.
         self.cache.len();
-        let dropped = self.cache.put(key, frame)?;
+        let dropped = self.cache.put(key, frame, &mut self.spares)?;
         close(&mut self.claims, key);
         self.owed -= 2;
         note_evicted(&mut self.journal, worker, dropped);
@@ -435,6 +440,14 @@ impl<I: Held> Core<I> {
         }
     }
 
+    /// Keeps the memory of frames that are no longer needed for frames to come, where nothing else shares it. No contract
+    /// sees that memory.
+    pub fn keep_memory(&mut self, frames: Vec<Option<Frame>>)
+        ensures { self.new ≡ self.old }
+    {
+        self.spares.keep_all(frames);
+    }
+
     /// The instances, with no claim and no lease open.
     pub fn into_table(self) -> InstTable<I>
         requires claims { self.claims ≡ [] }
@@ -458,9 +471,19 @@ impl<I: Held> Core<I> {
             stop: _,
             journal: _,
             owed: _,
+            spares: _,
         } = self;
         table
     }
+}
+
+// The instance, with spare memory if it takes some.
+fn with_memory<I: Held>(lease: Lease<I>, spares: &mut Spares) -> Lease<I>
+    ensures { result ≡ lease }
+{
+    let mut lease = lease;
+    lease.value().take_memory(spares);
+    lease
 }
 
 // The stop that is kept.
