@@ -17,7 +17,7 @@ pub(crate) trait Chore: Drop {
         ensures { gives self result };
 }
 
-/// Puts these frames, and gives the sink back.
+/// Puts these frames, and gives them back with the sink.
 #[derive(Drop)]
 pub(crate) struct PutFrames<'a, K> {
     pub(crate) out: &'a mut K,
@@ -25,14 +25,14 @@ pub(crate) struct PutFrames<'a, K> {
 }
 
 impl<'a, K: Sink> Chore for PutFrames<'a, K> {
-    type Output = (&'a mut K, Result<(), Failed>);
+    type Output = (&'a mut K, Vec<Option<Frame>>, Result<(), Failed>);
 
     ghost gives = { λ p r. (r.0.ghost_name ≡ p.out.ghost_name)
-        × PutsFrames K.Sink p.out.now r.0.now p.frames.items r.1 };
+        × PutsFrames K.Sink p.out.now r.0.now p.frames.items r.2 };
 
-    fn run(self) -> (&'a mut K, Result<(), Failed>) {
+    fn run(self) -> (&'a mut K, Vec<Option<Frame>>, Result<(), Failed>) {
         let PutFrames { out, frames } = self;
         let ended = put_frames(out, &frames);
-        (out, ended)
+        (out, frames, ended)
     }
 }

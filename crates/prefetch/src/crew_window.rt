@@ -140,7 +140,7 @@ fn take_back<T>(x: &mut T)
 {}
 
 /// A window by several workers, but no more than it has outputs, from its beginning to its end. The caller puts these
-/// frames meanwhile, before it works itself.
+/// frames meanwhile, before it works itself. In the end the core gets their memory.
 pub(crate) fn run_crew_window<R: Threads + Wait + Sync, I: Works + Send, K: Sink, G: Gate>(
     rt: &R,
     alloc: Global,
@@ -176,11 +176,12 @@ pub(crate) fn run_crew_window<R: Threads + Wait + Sync, I: Works + Send, K: Sink
         }
     }
     let chore = PutFrames { out, frames };
-    let (mut core, (out, put)) = run_crew(rt, alloc, core, threads.min(count), gate, chore);
+    let (mut core, (out, frames, put)) = run_crew(rt, alloc, core, threads.min(count), gate, chore);
     take_back(out);
     // Called for what its contract says.
     core.instances();
     core.account();
     let finished = core.end_window();
+    core.keep_memory(frames);
     (core, Ok(finished), put)
 }

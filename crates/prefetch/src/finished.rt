@@ -8,7 +8,8 @@ ghost use Rattle.prefetch.specs.OneWindow.{with_window, PutsFinished, PutStops};
 use crate::frames::put_frames;
 use crate::stops::RenderStop;
 use fv_io::{Failed, Sink};
-use serve_core::Finished;
+use inst_table::Held;
+use serve_core::{Core, Finished};
 use serve_events::{Event, Record, Windowed};
 
 /// Keeps the events of a window in the journal, which has room for one.
@@ -23,8 +24,10 @@ pub(crate) fn keep_events(first: u32, count: u32, events: Vec<Event>, journal: &
     });
 }
 
-/// Keeps the events of a window in the journal, which has room for one, and puts the frames where no stop is kept.
-pub(crate) fn put_finished<K: Sink>(
+/// Keeps the events of a window in the journal, which has room for one, and puts the frames where no stop is kept. Then
+/// the core gets their memory.
+pub(crate) fn put_finished<I: Held, K: Sink>(
+    core: &mut Core<I>,
     first: u32,
     count: u32,
     finished: Finished,
@@ -36,6 +39,7 @@ pub(crate) fn put_finished<K: Sink>(
     ensures ok { OnOk result (PutsFinished K.Sink out.old out.new finished) }
     ensures stop { IfErr result (PutStops K.Sink out.old out.new finished) }
     ensures later { IsLater K.Sink out.old out.new }
+    ensures core { core.new ≡ core.old }
 {
     let Finished {
         frames,
@@ -46,7 +50,9 @@ pub(crate) fn put_finished<K: Sink>(
     if let Some(stop) = stop {
         return Err(RenderStop::Stopped(stop));
     }
-    match put_frames(out, &frames) {
+    let put = put_frames(out, &frames);
+    core.keep_memory(frames);
+    match put {
         Ok(()) => Ok(()),
         Err(Failed) => Err(RenderStop::Write),
     }

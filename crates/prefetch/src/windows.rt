@@ -78,7 +78,7 @@ fn render_window<I: Works, K: Sink>(
         return Err(RenderStop::Memory);
     };
     match run_window(alloc, core, worker, first, count) {
-        Ok(finished) => put_finished(first, count, finished, out, journal),
+        Ok(finished) => put_finished(core, first, count, finished, out, journal),
         Err(AllocError) => Err(RenderStop::Memory),
     }
 }

@@ -29,5 +29,5 @@ pub returns-clause-ends : goal.returns-clause-ends
 returns-clause-ends g c =
     let e = c.end_window-finished.ensures in
     let several : 0 < c.args.core.fixed.workers = omega (arith, c.requires.workers, c.requires.some_workers) in
-    crew_ends g.I.Held.holds g.I.Held.feed g.I.Held.faults g.I.Held.ends c.args.core c.begin_window.new.self c.run_crew-core.result.0 c.args.first c.args.count c.requires.plan c.requires.root c.in-Ok.ensures.ok c.run_crew-core.ensures.worked (run g (goal.at.returns-clause-ends g c).After-account)
-    c.end_window-finished.new.self e.core c.end_window-finished.result e.frames e.events e.stop e.stopped e.size e.shapes several c.in-Ok.ensures.between.unlent c.instances.ensures.differ c.instances.ensures.sources c.instances-2.ensures.differ c.instances-2.ensures.sources
+    rw c.keep_memory.ensures (crew_ends g.I.Held.holds g.I.Held.feed g.I.Held.faults g.I.Held.ends c.args.core c.begin_window.new.self c.run_crew-core.result.0 c.args.first c.args.count c.requires.plan c.requires.root c.in-Ok.ensures.ok c.run_crew-core.ensures.worked (run g (goal.at.returns-clause-ends g c).After-account)
+    c.end_window-finished.new.self e.core c.end_window-finished.result e.frames e.events e.stop e.stopped e.size e.shapes several c.in-Ok.ensures.between.unlent c.instances.ensures.differ c.instances.ensures.sources c.instances-2.ensures.differ c.instances-2.ensures.sources)
