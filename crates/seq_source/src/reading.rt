@@ -2,12 +2,13 @@
 ghost use Rattle.std.specs.Prelude.{◌≡◌, ◌+◌, ◌<◌, ◌≤◌, ◌^◌, ℕ, length, take, drop, IfSome, IfOk, IfErr, OnOk, IsErrOf, slice_index};
 ghost use Rattle.std.specs.Option.{ForSome};
 ghost use Rattle.fv_io.specs.Source.{KeepsSource, IsSteady};
+ghost use Rattle.fv_plane.specs.Format.{IsLegal};
 ghost use Rattle.seq_source.specs.FrameSource.{IsAt, ReadsFrame, RewindsOnce, end_of};
 ghost use Rattle.seq_source.specs.Faults.{FaultShows};
 
 use crate::fault::SeqFault;
 use fv_io::{Source, read_full};
-use fv_plane::Frame;
+use fv_plane::{Frame, Shape};
 use y4m_stream::Index;
 
 /// At most this many bytes before a frame are read with it. More are skipped. The head of a stream and the head of a
@@ -121,6 +122,19 @@ fn read_up_to<S: Source>(
     Ok(end)
 }
 
+// The memory that a frame of this shape is to be read into. New memory gets room for all that may lie before a frame, so
+// that it need not be moved where it serves again and more lies before the frame.
+fn with_room(memory: Vec<u8>, shape: Shape) -> Vec<u8>
+    requires { IsLegal shape }
+{
+    let mut memory = memory;
+    if memory.is_empty() {
+        // Where there is none, the caller meets that again.
+        let _ = memory.reserve_exact((MOST_BEFORE + shape.bytes()) as usize);
+    }
+    memory
+}
+
 /// Reads frame `n` from a source that is at the known place, or anywhere. Answers the frame and the offset just past
 /// it. The frame is made in `memory`, whose bytes are overwritten.
 pub(crate) fn read_indexed<S: Source>(
@@ -144,7 +158,7 @@ pub(crate) fn read_indexed<S: Source>(
     let start = index.offset(n);
     let place = approach(source, n, known, start, start + shape.bytes())?;
     let before = (start - place) as usize;
-    let mut bytes = memory;
+    let mut bytes = with_room(memory, shape);
     bytes.resize(before + shape.bytes() as usize, 0)?;
     let end = read_up_to(source, n, place, &mut bytes)?;
     let frame = Frame::from_vec(bytes, before, shape)?;
