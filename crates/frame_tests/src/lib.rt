@@ -1,4 +1,4 @@
-//! Tests of the outside in memory, of frames, of streams and of sources of frames: what no clause says.
+//! Tests of the outside in memory, of frames and their memory, of streams and of sources of frames: what no clause says.
 //!
 //! They stand apart from the crates that they call, so that those are proved once.
 #![tactic(auto)]
@@ -7,3 +7,5 @@
 mod frames;
 #[cfg(test)]
 mod sources;
+#[cfg(test)]
+mod spares;

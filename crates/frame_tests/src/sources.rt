@@ -73,6 +73,20 @@ fn gives_frames_in_any_order(rt: HostRuntime) -> Result<(), Fail> {
     Ok(())
 }
 
+// Whatever the memory holds, and however much of it there is.
+#[test]
+fn gives_frames_in_used_memory(rt: HostRuntime) -> Result<(), Fail> {
+    let alloc = rt.alloc();
+    let mut clip = clip(alloc, 4_096, &[])?;
+    for size in [0, 1, 6, 7, 8, 100] {
+        let mut memory = Vec::new(alloc);
+        memory.resize(size, 255)?;
+        clip.use_memory(memory);
+        gives(&rt, alloc, &mut clip, &[(2, None), (3, None)])?;
+    }
+    Ok(())
+}
+
 // In order the source is rewound once, though the second rewind would fail; after its fault the frame comes. A read that
 // fails just past frame 1 doesn't touch frame 1.
 #[test]
