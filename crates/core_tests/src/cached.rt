@@ -1,7 +1,6 @@
 // A cache of two frames, call by call.
 use frame_cache::FrameCache;
 use fv_plane::{Colour, Frame, Key, PixelType, Shape};
-use fv_spares::Spares;
 use std::alloc::{AllocError, Global};
 use std::test::Fail;
 
@@ -26,14 +25,14 @@ fn dot(alloc: Global) -> Result<Frame, AllocError> {
 fn drops_the_least_recently_used(rt: HostRuntime) -> Result<(), Fail> {
     let alloc = rt.alloc();
     let mut cache = FrameCache::new(alloc, 2)?;
-    let mut spares = Spares::new(alloc);
-    cache.put(FIRST, dot(alloc)?, &mut spares)?;
-    cache.put(SECOND, dot(alloc)?, &mut spares)?;
+    cache.put(FIRST, dot(alloc)?)?;
+    cache.put(SECOND, dot(alloc)?)?;
     assert!(rt; cache.get(FIRST)?.is_some());
-    assert_eq!(rt; spares.len(), 0);
-    let dropped = cache.put(THIRD, dot(alloc)?, &mut spares)?;
+    assert!(rt; cache.take_dropped().is_none());
+    let dropped = cache.put(THIRD, dot(alloc)?)?;
     assert_eq!(rt; dropped, Some(SECOND));
-    assert_eq!(rt; spares.len(), 1);
+    assert!(rt; cache.take_dropped().is_some());
+    assert!(rt; cache.take_dropped().is_none());
     let keys = cache.keys()?;
     assert_eq!(rt; keys.as_slice(), [THIRD, FIRST].as_slice());
     Ok(())

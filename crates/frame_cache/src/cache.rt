@@ -4,7 +4,6 @@ ghost use Rattle.std.specs.Map.{keys_of};
 ghost use Rattle.frame_cache.specs.Cached.{at_key, fronted, put_first, dropped_key, Differ};
 
 use fv_plane::{Frame, Key};
-use fv_spares::Spares;
 use lru::LruCache;
 use std::alloc::{AllocError, Global};
 use std::marker::Model;
@@ -17,6 +16,8 @@ use std::num::NonZeroUsize;
 pub struct FrameCache {
     alloc: Global,
     frames: LruCache<Key, Frame>,
+    // The frame that was dropped last, until it is taken.
+    dropped: Option<Frame>,
 }
 
 impl Model for FrameCache {
@@ -37,6 +38,7 @@ impl FrameCache {
         Ok(FrameCache {
             alloc,
             frames: LruCache::new(alloc, capacity)?,
+            dropped: None,
         })
     }
 
@@ -82,15 +84,9 @@ impl FrameCache {
         self.frames.iter().map(|(key, _)| *key).collect(self.alloc)
     }
 
-    /// Puts a frame to the front, under a key that isn't there. A full cache drops its last frame, whose memory is then
-    /// spare if nothing else shares it, and answers that frame's key. An `Err` is out of memory, and then nothing is
-    /// dropped.
-    pub fn put(
-        &mut self,
-        key: Key,
-        frame: Frame,
-        spares: &mut Spares,
-    ) -> Result<Option<Key>, AllocError>
+    /// Puts a frame to the front, under a key that isn't there. A full cache drops its last frame, and answers that
+    /// frame's key. An `Err` is out of memory, and then nothing is dropped.
+    pub fn put(&mut self, key: Key, frame: Frame) -> Result<Option<Key>, AllocError>
         requires { at_key key self.old.pairs ≡ None }
         ensures dropped { IfOk result (λ dropped. dropped ≡ dropped_key self.old.capacity self.old.pairs) }
         ensures pairs { OnOk result (self.new.pairs ≡ put_first self.old.capacity key frame self.old.pairs) }
@@ -99,11 +95,18 @@ impl FrameCache {
     {
         match self.frames.push(key, frame) {
             Ok(Some((dropped, frame))) => {
-                spares.keep(frame);
+                self.dropped = Some(frame);
                 Ok(Some(dropped))
             }
             Ok(None) => Ok(None),
             Err(_) => Err(AllocError),
         }
+    }
+
+    /// Hands out the frame that was dropped last, if it wasn't taken yet: its memory may serve for others.
+    pub fn take_dropped(&mut self) -> Option<Frame>
+        ensures { self.new ≡ self.old }
+    {
+        self.dropped.take()
     }
 }

@@ -360,7 +360,8 @@ impl<I: Held> Core<I> {
     {
         // There are no more frames than the capacity.
         self.cache.len();
-        let dropped = self.cache.put(key, frame, &mut self.spares)?;
+        let dropped = self.cache.put(key, frame)?;
+        keep_dropped(&mut self.cache, &mut self.spares);
         close(&mut self.claims, key);
         self.owed -= 2;
         note_evicted(&mut self.journal, worker, dropped);
@@ -474,6 +475,15 @@ impl<I: Held> Core<I> {
             spares: _,
         } = self;
         table
+    }
+}
+
+// Keeps the memory of the frame that the cache dropped.
+fn keep_dropped(cache: &mut FrameCache, spares: &mut Spares)
+    ensures { cache.new ≡ cache.old }
+{
+    if let Some(frame) = cache.take_dropped() {
+        spares.keep(frame);
     }
 }
 

@@ -1,7 +1,7 @@
 use Rattle.std.proofs.Common.{◌≡◌, ◌+◌, ◌-◌, ◌<◌, ◌≤◌, ◌++◌, [], ◌∷◌, true, Some, refl, sym, ap, ◌∙◌, subst, arith, append_assoc}
 use Rattle.std.specs.Vec.{vec_len}
 use Rattle.serve_core.specs.CoreValue.{CoreValue}
-use Rattle.frame_cache.specs.Cached.{at_key}
+use Rattle.frame_cache.specs.Cached.{Cached, at_key}
 use Rattle.clip_graph.specs.Unfolding.{input_keys}
 use Rattle.serve_events.specs.declared.event.Event.TheVariants.{Publish}
 use Rattle.serve_events.specs.Own.{has_got_all}
@@ -23,5 +23,7 @@ invariant_of-self-2 g c =
     let items = c.push_reserved.ensures.items
     ∙ (ap (λ es. es ++ Publish c.args.worker c.args.key ∷ []) c.note_evicted.ensures.items
     ∙ append_assoc c.self.inside.journal.items (eviction c.args.worker c.in_ok-dropped.dropped) (Publish c.args.worker c.args.key ∷ [])) in
-    published_kept c.self.invariant c.args.worker c.args.key c.args.frame _ _ c.in_ok-dropped.dropped _ _ _ (c.self.inside.owed - 2) _ _ few at hands got c.len.ensures.bounded c.len.ensures.some c.in_ok-dropped.ensures.capacity refl c.in_ok-dropped.ensures.dropped shape c.in_ok-dropped.ensures.pairs c.close.ensures items len (omega arith)
+    let capacity = ap (λ (v : Cached). v.capacity) c.keep_dropped.ensures ∙ c.in_ok-dropped.ensures.capacity in
+    let pairs = ap (λ (v : Cached). v.pairs) c.keep_dropped.ensures ∙ c.in_ok-dropped.ensures.pairs in
+    published_kept c.self.invariant c.args.worker c.args.key c.args.frame _ _ c.in_ok-dropped.dropped _ _ _ (c.self.inside.owed - 2) _ _ few at hands got c.len.ensures.bounded c.len.ensures.some capacity refl c.in_ok-dropped.ensures.dropped shape pairs c.close.ensures items len (omega arith)
     (c.push_reserved.ensures.capacity ∙ c.note_evicted.ensures.capacity)
