@@ -43,3 +43,21 @@ fn gives_back_what_it_was_made_of(rt: HostRuntime) -> Result<(), Fail> {
     assert_eq!(rt; kept.map_or(0, |bytes| bytes.len()), 8);
     Ok(())
 }
+
+// A flip is a view: it takes no bytes of its own.
+#[test]
+fn shows_its_bytes_upside_down(rt: HostRuntime) -> Result<(), Fail> {
+    let alloc = rt.alloc();
+    let shape = Shape {
+        kind: PixelType::YV12,
+        width: 2,
+        height: 4,
+    };
+    let bytes = Vec::from_slice(alloc, &[0, 1, 2, 3, 4, 5, 6, 7, 8, 9, 10, 11, 12])?;
+    let frame = Frame::from_vec(bytes, 1, shape)?;
+    let turned = frame.flipped()?.flipped()?.flipped()?;
+    assert!(rt; frame.into_vec().is_none());
+    let kept = turned.into_vec();
+    assert_eq!(rt; kept.map_or(0, |bytes| bytes.len()), 13);
+    Ok(())
+}
