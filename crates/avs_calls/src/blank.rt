@@ -215,17 +215,18 @@ fn blank_like(
     machine: &mut Machine,
     base: &Info,
     args: &BlankArgs<'_>,
-    here: &Text,
+    script_name: &Text,
     line: u32,
 ) -> Result<Value, ScriptStop>
     requires par { IsPar base.now.par }
-    ensures gives { Gives (λ x. x) (f.blank_like here.now base.now (args_view args.now) line (state_of machine.old))
+    ensures gives { Gives (λ x. x) (f.blank_like script_name.now base.now (args_view args.now) line (state_of
+        machine.old))
         result (state_of machine.new) }
     ensures asks { AsksNothing machine.old machine.new }
     ensures sources { OnOk result (sources_of (state_of machine.new).plan ≡ sources_of (state_of machine.old).plan) }
 {
     if let Some(fault) = refusal(base, args) {
-        return Err(fault_at(alloc, ScriptKind::Filter(fault), here, line));
+        return Err(fault_at(alloc, ScriptKind::Filter(fault), script_name, line));
     }
     let info = blank_info(base, args);
     let colour = colour_of(colour_given(args));
@@ -234,7 +235,7 @@ fn blank_like(
         Filter::BlankClip,
         Op::Blank { info, colour },
         &[],
-        here,
+        script_name,
         line,
     )
 }
@@ -245,20 +246,20 @@ fn blank_of(
     machine: &mut Machine,
     clip: Option<&Value>,
     args: &BlankArgs<'_>,
-    here: &Text,
+    script_name: &Text,
     line: u32,
 ) -> Result<Value, ScriptStop>
-    ensures gives { Gives (λ x. x) (f.blank_of here.now (option_map (λ value. value.now) clip.entry) (args_view
+    ensures gives { Gives (λ x. x) (f.blank_of script_name.now (option_map (λ value. value.now) clip.entry) (args_view
         args.now) line (state_of machine.old)) result (state_of machine.new) }
     ensures asks { AsksNothing machine.old machine.new }
     ensures sources { OnOk result (sources_of (state_of machine.new).plan ≡ sources_of (state_of machine.old).plan) }
 {
     match clip {
         Some(Value::Clip(i)) => {
-            let info = machine.info_of(alloc, *i, here, line)?;
-            blank_like(alloc, machine, &info, args, here, line)
+            let info = machine.info_of(alloc, *i, script_name, line)?;
+            blank_like(alloc, machine, &info, args, script_name, line)
         }
-        _ => blank_like(alloc, machine, &default_clip(), args, here, line),
+        _ => blank_like(alloc, machine, &default_clip(), args, script_name, line),
     }
 }
 
@@ -269,18 +270,18 @@ pub(crate) fn blank(
     machine: &mut Machine,
     signature: usize,
     values: &[Value],
-    here: &Text,
+    script_name: &Text,
     line: u32,
 ) -> Result<Value, ScriptStop>
-    ensures gives { Gives (λ x. x) (f.blank here.now signature values.now line (state_of machine.old)) result
+    ensures gives { Gives (λ x. x) (f.blank script_name.now signature values.now line (state_of machine.old)) result
         (state_of machine.new) }
     ensures asks { AsksNothing machine.old machine.new }
     ensures sources { OnOk result (sources_of (state_of machine.new).plan ≡ sources_of (state_of machine.old).plan) }
 {
     if signature == 0 {
         let args = BlankArgs::of(values, 0);
-        return blank_of(alloc, machine, values.get(7), &args, here, line);
+        return blank_of(alloc, machine, values.get(7), &args, script_name, line);
     }
     let args = BlankArgs::of(values, 1);
-    blank_of(alloc, machine, values.first(), &args, here, line)
+    blank_of(alloc, machine, values.first(), &args, script_name, line)
 }

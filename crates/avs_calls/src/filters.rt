@@ -27,11 +27,11 @@ fn apply_to(
     given: &Bound,
     inputs: &[u32],
     frames: u32,
-    here: &Text,
+    script_name: &Text,
     line: u32,
 ) -> Result<Value, ScriptStop>
     requires { frames ≤ 1000000 }
-    ensures gives { Gives (λ x. x) (f.applied_by here.now (a.read given.now.values.items (a.numbers_among
+    ensures gives { Gives (λ x. x) (f.applied_by script_name.now (a.read given.now.values.items (a.numbers_among
         given.now.rest.items) frames filter) filter inputs.now line (state_of machine.old)) result (state_of
         machine.new) }
     ensures asks { AsksNothing machine.old machine.new }
@@ -39,13 +39,13 @@ fn apply_to(
 {
     let op = match read(alloc, given, frames, filter) {
         Ok(op) => op,
-        Err(Unread::Refused(kind)) => return Err(fault_at(alloc, kind, here, line)),
+        Err(Unread::Refused(kind)) => return Err(fault_at(alloc, kind, script_name, line)),
         Err(Unread::Memory) => return Err(ScriptStop::Memory),
     };
     if !takes(&op, inputs.len()) {
-        return Err(fault_at(alloc, ScriptKind::NoMatch, here, line));
+        return Err(fault_at(alloc, ScriptKind::NoMatch, script_name, line));
     }
-    machine.make(alloc, filter, op, inputs, here, line)
+    machine.make(alloc, filter, op, inputs, script_name, line)
 }
 
 // Applies a filter but a source to the clips among its arguments.
@@ -54,11 +54,11 @@ fn apply(
     machine: &mut Machine,
     filter: Filter,
     given: &Bound,
-    here: &Text,
+    script_name: &Text,
     line: u32,
 ) -> Result<Value, ScriptStop>
     ensures gives { Gives (λ x. x)
-        (f.applied here.now filter (bound_view given.now)
+        (f.applied script_name.now filter (bound_view given.now)
         (a.clips_among given.now.values.items ++ a.clips_among given.now.rest.items) line (state_of machine.old)) result
         (state_of machine.new) }
     ensures asks { AsksNothing machine.old machine.new }
@@ -68,9 +68,9 @@ fn apply(
     add_clips(&mut inputs, &given.values)?;
     add_clips(&mut inputs, &given.rest)?;
     let Some(first) = inputs.first() else {
-        return Err(fault_at(alloc, ScriptKind::NoMatch, here, line));
+        return Err(fault_at(alloc, ScriptKind::NoMatch, script_name, line));
     };
-    let info = machine.info_of(alloc, *first, here, line)?;
+    let info = machine.info_of(alloc, *first, script_name, line)?;
     apply_to(
         alloc,
         machine,
@@ -78,7 +78,7 @@ fn apply(
         given,
         &inputs,
         info.frames,
-        here,
+        script_name,
         line,
     )
 }
@@ -90,20 +90,20 @@ pub fn filter(
     filter: Filter,
     signature: usize,
     given: &Bound,
-    here: &Text,
+    script_name: &Text,
     line: u32,
 ) -> Result<Value, ScriptStop>
     requires { filter ≡ Filter.Y4MSource → ⊥ }
     ensures gives { (outside : Outside) → Gives (λ x. x)
-        (f.filtered here.now outside filter signature (bound_view given.now) line (state_of machine.old)) result
+        (f.filtered script_name.now outside filter signature (bound_view given.now) line (state_of machine.old)) result
         (state_of machine.new) }
     ensures asks { AsksNothing machine.old machine.new }
     ensures sources { OnOk result (sources_of (state_of machine.new).plan ≡ sources_of (state_of machine.old).plan) }
 {
     if let Filter::BlankClip = filter {
-        return blank(alloc, machine, signature, &given.values, here, line);
+        return blank(alloc, machine, signature, &given.values, script_name, line);
     }
-    apply(alloc, machine, filter, given, here, line)
+    apply(alloc, machine, filter, given, script_name, line)
 }
 
 /// What `ApplyRange` makes of a clip and of what its function gave: that in a range of frames, and the clip elsewhere.
@@ -114,10 +114,11 @@ pub fn ranged(
     first: i32,
     last: i32,
     shown: &Value,
-    here: &Text,
+    script_name: &Text,
     line: u32,
 ) -> Result<Value, ScriptStop>
-    ensures gives { Gives (λ x. x) (f.ranged here.now clip first last line shown.now (state_of machine.old)) result
+    ensures gives { Gives (λ x. x) (f.ranged script_name.now clip first last line shown.now (state_of machine.old))
+        result
         (state_of machine.new) }
     ensures asks { AsksNothing machine.old machine.new }
     ensures sources { OnOk result (sources_of (state_of machine.new).plan ≡ sources_of (state_of machine.old).plan) }
@@ -128,9 +129,9 @@ pub fn ranged(
             Filter::ApplyRange,
             Op::Time(TimeOp::ApplyRange { first, last }),
             &[clip, *shown],
-            here,
+            script_name,
             line,
         ),
-        _ => Err(fault_at(alloc, ScriptKind::TypeFault, here, line)),
+        _ => Err(fault_at(alloc, ScriptKind::TypeFault, script_name, line)),
     }
 }

@@ -48,13 +48,13 @@ impl<
         name: &Text,
         line: u32,
     ) -> Result<Value, ScriptStop>
-        ensures told { Told H.told (λ v. v) (f.open_by self.now.here.now (H.clips name.now) name.now line)
+        ensures told { Told H.told (λ v. v) (f.open_by self.now.script_name.now (H.clips name.now) name.now line)
             machine.old result machine.new }
         ensures kept { Keeps H.Host machine.old host.old (stop_in result) machine.new host.new }
     {
         match host.clip(name) {
-            Ok(info) => machine.add_source(self.alloc, name, info, self.here, line),
-            Err(fault) => Err(stop_of(self.alloc, fault, name, self.here, line)),
+            Ok(info) => machine.add_source(self.alloc, name, info, self.script_name, line),
+            Err(fault) => Err(stop_of(self.alloc, fault, name, self.script_name, line)),
         }
     }
 
@@ -67,7 +67,7 @@ impl<
         line: u32,
     ) -> Result<Value, ScriptStop>
         ensures told { Told H.told (λ v. v)
-            (f.open_source self.now.here.now (outside_by H.clips H.scripts) values.now line)
+            (f.open_source self.now.script_name.now (outside_by H.clips H.scripts) values.now line)
             machine.old result machine.new }
         ensures kept { Keeps H.Host machine.old host.old (stop_in result) machine.new host.new }
     {
@@ -107,14 +107,20 @@ impl<
         given: &Bound,
         line: u32,
     ) -> Result<Value, ScriptStop>
-        ensures told { Told H.told (λ v. v) (f.filtered self.now.here.now (outside_by H.clips H.scripts) applied
+        ensures told { Told H.told (λ v. v) (f.filtered self.now.script_name.now (outside_by H.clips H.scripts) applied
             signature (bound_view given.now) line) machine.old result machine.new }
         ensures kept { Keeps H.Host machine.old host.old (stop_in result) machine.new host.new }
     {
         match applied {
             Filter::Y4MSource => self.open_source(machine, host, &given.values, line),
             _ => filter(
-                self.alloc, machine, applied, signature, given, self.here, line,
+                self.alloc,
+                machine,
+                applied,
+                signature,
+                given,
+                self.script_name,
+                line,
             ),
         }
     }
@@ -132,25 +138,31 @@ impl<
         requires deeper { Deeper H.Host self.now.depth F.Fn self.now.run }
         requires other { builtin ≡ Builtin.ApplyRange → ⊥ }
         ensures told { Told H.told (λ v. v) (r.applied H.clips H.scripts self.now.depth (c.builtin builtin) signature
-            (bound_view given.now) self.now.here.now line) machine.old result machine.new }
+            (bound_view given.now) self.now.script_name.now line) machine.old result machine.new }
         ensures kept { Keeps H.Host machine.old host.old (stop_in result) machine.new host.new }
     {
         match builtin {
             Builtin::Eval => self.eval(machine, host, &given.values, line),
             Builtin::Import => self.import(machine, host, &given.values, line),
             Builtin::SetFilterMTMode => {
-                set_mode(self.alloc, machine, &given.values, self.here, line)
+                set_mode(self.alloc, machine, &given.values, self.script_name, line)
             }
-            Builtin::Prefetch => prefetch(self.alloc, machine, &given.values, self.here, line),
+            Builtin::Prefetch => prefetch(
+                self.alloc,
+                machine,
+                &given.values,
+                self.script_name,
+                line,
+            ),
             Builtin::ApplyRange => Err(self.fault(ScriptKind::NoMatch, line)),
-            Builtin::Plain(function) => plain(self.alloc, function, given, self.here, line),
+            Builtin::Plain(function) => plain(self.alloc, function, given, self.script_name, line),
             Builtin::Clip(function) => {
                 clip_property(
                     self.alloc,
                     machine,
                     function,
                     &given.values,
-                    self.here,
+                    self.script_name,
                     line,
                 )
             }
@@ -173,7 +185,7 @@ impl<
         requires deeper { Deeper H.Host self.now.depth F.Fn self.now.run }
         requires other { callee_view callee.now ≡ c.builtin Builtin.ApplyRange → ⊥ }
         ensures told { Told H.told (λ v. v) (r.applied H.clips H.scripts self.now.depth (callee_view callee.now)
-            signature (bound_view given.now) self.now.here.now line) machine.old result machine.new }
+            signature (bound_view given.now) self.now.script_name.now line) machine.old result machine.new }
         ensures kept { Keeps H.Host machine.old host.old (stop_in result) machine.new host.new }
     {
         match callee {
@@ -197,7 +209,7 @@ impl<
         name: &Text,
         line: u32,
     ) -> Result<Callee<'t>, ScriptStop>
-        ensures { Gives callee_view (e.called self.now.here.now name.now line (state_of machine.now)) result
+        ensures { Gives callee_view (e.called self.now.script_name.now name.now line (state_of machine.now)) result
             (state_of machine.now) }
     {
         match callee_of(self.alloc, self.table, machine, name)? {
@@ -218,7 +230,7 @@ impl<
     ) -> Result<Value, ScriptStop>
         requires deeper { Deeper H.Host self.now.depth F.Fn self.now.run }
         ensures told { Told H.told (λ v. v) (r.ranged_by H.clips H.scripts self.now.depth given.now.values.items
-            given.now.rest.items self.now.here.now line) machine.old result machine.new }
+            given.now.rest.items self.now.script_name.now line) machine.old result machine.new }
         ensures kept { Keeps H.Host machine.old host.old (stop_in result) machine.new host.new }
     {
         let Some(range) = range_in(&given.values) else {
@@ -237,7 +249,7 @@ impl<
             range.first,
             range.last,
             &shown,
-            self.here,
+            self.script_name,
             line,
         )
     }
@@ -255,7 +267,7 @@ impl<
     ) -> Result<Value, ScriptStop>
         requires deeper { Deeper H.Host self.now.depth F.Fn self.now.run }
         ensures told { Told H.told (λ v. v) (r.apply H.clips H.scripts self.now.depth (callee_view callee.now)
-            args.items last self.now.here.now line) machine.old result machine.new }
+            args.items last self.now.script_name.now line) machine.old result machine.new }
         ensures kept { Keeps H.Host machine.old host.old (stop_in result) machine.new host.new }
     {
         let Some((signature, given)) = fit_callee(self.alloc, callee, args, last)? else {
@@ -279,7 +291,7 @@ impl<
         line: u32,
     ) -> Result<Value, ScriptStop>
         requires deeper { Deeper H.Host self.now.depth F.Fn self.now.run }
-        ensures told { Told H.told (λ v. v) (r.apply_last H.clips H.scripts self.now.depth self.now.here.now
+        ensures told { Told H.told (λ v. v) (r.apply_last H.clips H.scripts self.now.depth self.now.script_name.now
             (callee_view callee.now) args.items line) machine.old result machine.new }
         ensures kept { Keeps H.Host machine.old host.old (stop_in result) machine.new host.new }
     {
@@ -298,7 +310,7 @@ impl<
     ) -> Result<Value, ScriptStop>
         requires deeper { Deeper H.Host self.now.depth F.Fn self.now.run }
         ensures told { Told H.told (λ v. v)
-            (r.value_of H.clips H.scripts self.now.depth self.now.here.now (t.name name.now line))
+            (r.value_of H.clips H.scripts self.now.depth self.now.script_name.now (t.name name.now line))
             machine.old result machine.new }
         ensures kept { Keeps H.Host machine.old host.old (stop_in result) machine.new host.new }
     {

@@ -21,17 +21,18 @@ pub(crate) fn run<H: Host>(
     machine: &mut Machine,
     host: &mut H,
     depth: u32,
-    here: &Text,
+    script_name: &Text,
     body: &[Statement],
 ) -> Result<Value, ScriptStop>
-    ensures told { Told H.told (λ x. x) (m.run (outside_by H.clips H.scripts) depth here.now (block_view body.now))
+    ensures told { Told H.told (λ x. x) (m.run (outside_by H.clips H.scripts) depth script_name.now (block_view
+        body.now))
         machine.old result machine.new }
     ensures kept { Keeps H.Host machine.old host.old (stop_in result) machine.new host.new }
 {
     let walker = Walker {
         alloc,
         table,
-        here,
+        script_name,
         depth,
         run: run::<H>,
         of: PhantomData,

@@ -38,7 +38,7 @@ impl<
     ) -> Result<Value, ScriptStop>
         requires deeper { Deeper H.Host self.now.depth F.Fn self.now.run }
         ensures told { Told H.told (λ v. v)
-            (r.value_of H.clips H.scripts self.now.depth self.now.here.now (expr_view e.now))
+            (r.value_of H.clips H.scripts self.now.depth self.now.script_name.now (expr_view e.now))
             machine.old result machine.new }
         ensures kept { Keeps H.Host machine.old host.old (stop_in result) machine.new host.new }
     {
@@ -54,11 +54,17 @@ impl<
             }
             Expr::Minus { operand, line } => {
                 let value = self.value_of(machine, host, operand)?;
-                prefixed(self.alloc, UnaryOp::Negative, &value, self.here, *line)
+                prefixed(
+                    self.alloc,
+                    UnaryOp::Negative,
+                    &value,
+                    self.script_name,
+                    *line,
+                )
             }
             Expr::Not { operand, line } => {
                 let value = self.value_of(machine, host, operand)?;
-                prefixed(self.alloc, UnaryOp::Not, &value, self.here, *line)
+                prefixed(self.alloc, UnaryOp::Not, &value, self.script_name, *line)
             }
             Expr::Chain { first, rest } => {
                 let value = self.value_of(machine, host, first)?;
@@ -72,7 +78,7 @@ impl<
             } => {
                 let a = self.value_of(machine, host, left)?;
                 let b = self.value_of(machine, host, right)?;
-                compared(self.alloc, *op, &a, &b, self.here, *line)
+                compared(self.alloc, *op, &a, &b, self.script_name, *line)
             }
             Expr::Conditional {
                 condition,
@@ -81,7 +87,7 @@ impl<
                 line,
             } => {
                 let value = self.value_of(machine, host, condition)?;
-                if truth(self.alloc, &value, self.here, *line)? {
+                if truth(self.alloc, &value, self.script_name, *line)? {
                     self.value_of(machine, host, yes)
                 } else {
                     self.value_of(machine, host, no)
@@ -102,7 +108,7 @@ impl<
         line: u32,
     ) -> Result<Value, ScriptStop>
         requires deeper { Deeper H.Host self.now.depth F.Fn self.now.run }
-        ensures told { Told H.told (λ v. v) (r.value_of H.clips H.scripts self.now.depth self.now.here.now
+        ensures told { Told H.told (λ v. v) (r.value_of H.clips H.scripts self.now.depth self.now.script_name.now
             (t.call name.now (args_of (map arg_view args.now)) line)) machine.old result machine.new }
         ensures kept { Keeps H.Host machine.old host.old (stop_in result) machine.new host.new }
     {
@@ -122,7 +128,7 @@ impl<
         mut given: Vec<Given>,
     ) -> Result<Vec<Given>, ScriptStop>
         requires deeper { Deeper H.Host self.now.depth F.Fn self.now.run }
-        ensures told { Told H.told (λ v. v.items) (r.givens_of H.clips H.scripts self.now.depth self.now.here.now
+        ensures told { Told H.told (λ v. v.items) (r.givens_of H.clips H.scripts self.now.depth self.now.script_name.now
             (args_of (map arg_view args.now)) given.items) machine.old result machine.new }
         ensures kept { Keeps H.Host machine.old host.old (stop_in result) machine.new host.new }
     {
@@ -148,7 +154,7 @@ impl<
         first: Value,
     ) -> Result<Value, ScriptStop>
         requires deeper { Deeper H.Host self.now.depth F.Fn self.now.run }
-        ensures told { Told H.told (λ v. v) (r.calls_from H.clips H.scripts self.now.depth self.now.here.now
+        ensures told { Told H.told (λ v. v) (r.calls_from H.clips H.scripts self.now.depth self.now.script_name.now
             (method_calls_of (map method_call_view calls.now)) first) machine.old result machine.new }
         ensures kept { Keeps H.Host machine.old host.old (stop_in result) machine.new host.new }
     {
@@ -168,7 +174,7 @@ impl<
         first: Value,
     ) -> Result<Value, ScriptStop>
         requires deeper { Deeper H.Host self.now.depth F.Fn self.now.run }
-        ensures told { Told H.told (λ v. v) (r.calls_from H.clips H.scripts self.now.depth self.now.here.now
+        ensures told { Told H.told (λ v. v) (r.calls_from H.clips H.scripts self.now.depth self.now.script_name.now
             (method_calls_of (method_call_view call.now ∷ [])) first) machine.old result machine.new }
         ensures kept { Keeps H.Host machine.old host.old (stop_in result) machine.new host.new }
     {
@@ -198,7 +204,7 @@ impl<
         first: Value,
     ) -> Result<Value, ScriptStop>
         requires deeper { Deeper H.Host self.now.depth F.Fn self.now.run }
-        ensures told { Told H.told (λ v. v) (r.steps_from H.clips H.scripts self.now.depth self.now.here.now
+        ensures told { Told H.told (λ v. v) (r.steps_from H.clips H.scripts self.now.depth self.now.script_name.now
             (steps_of (map step_view steps.now)) first) machine.old result machine.new }
         ensures kept { Keeps H.Host machine.old host.old (stop_in result) machine.new host.new }
     {
@@ -221,26 +227,34 @@ impl<
         first: Value,
     ) -> Result<Value, ScriptStop>
         requires deeper { Deeper H.Host self.now.depth F.Fn self.now.run }
-        ensures told { Told H.told (λ v. v) (r.joined H.clips H.scripts self.now.depth self.now.here.now op line
+        ensures told { Told H.told (λ v. v) (r.joined H.clips H.scripts self.now.depth self.now.script_name.now op line
             (expr_view operand.now) first) machine.old result machine.new }
         ensures kept { Keeps H.Host machine.old host.old (stop_in result) machine.new host.new }
     {
         match op {
             Operator::Or => {
-                if truth(self.alloc, &first, self.here, line)? {
+                if truth(self.alloc, &first, self.script_name, line)? {
                     return Ok(Value::Bool(true));
                 }
                 self.truth_of(machine, host, operand, line)
             }
             Operator::And => {
-                if truth(self.alloc, &first, self.here, line)? {
+                if truth(self.alloc, &first, self.script_name, line)? {
                     return self.truth_of(machine, host, operand, line);
                 }
                 Ok(Value::Bool(false))
             }
             _ => {
                 let second = self.value_of(machine, host, operand)?;
-                combined(self.alloc, machine, op, &first, &second, self.here, line)
+                combined(
+                    self.alloc,
+                    machine,
+                    op,
+                    &first,
+                    &second,
+                    self.script_name,
+                    line,
+                )
             }
         }
     }
@@ -255,12 +269,12 @@ impl<
         line: u32,
     ) -> Result<Value, ScriptStop>
         requires deeper { Deeper H.Host self.now.depth F.Fn self.now.run }
-        ensures told { Told H.told (λ v. v) (r.truth_of H.clips H.scripts self.now.depth self.now.here.now line
+        ensures told { Told H.told (λ v. v) (r.truth_of H.clips H.scripts self.now.depth self.now.script_name.now line
             (expr_view operand.now)) machine.old result machine.new }
         ensures kept { Keeps H.Host machine.old host.old (stop_in result) machine.new host.new }
     {
         let value = self.value_of(machine, host, operand)?;
-        let holds = truth(self.alloc, &value, self.here, line)?;
+        let holds = truth(self.alloc, &value, self.script_name, line)?;
         Ok(Value::Bool(holds))
     }
 }

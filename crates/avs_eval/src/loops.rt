@@ -33,12 +33,17 @@ fn next_number(before: i32, step: i32) -> Option<i32>
 }
 
 // The number that the variable of a loop is.
-fn number_by(alloc: Global, value: Option<Value>, here: &Text, line: u32) -> Result<i32, ScriptStop>
-    ensures { Answers (λ n. n) (l.number_by here.now value line) result }
+fn number_by(
+    alloc: Global,
+    value: Option<Value>,
+    script_name: &Text,
+    line: u32,
+) -> Result<i32, ScriptStop>
+    ensures { Answers (λ n. n) (l.number_by script_name.now value line) result }
 {
     match value {
         Some(Value::Int(n)) => Ok(n),
-        _ => Err(fault_at(alloc, ScriptKind::TypeFault, here, line)),
+        _ => Err(fault_at(alloc, ScriptKind::TypeFault, script_name, line)),
     }
 }
 
@@ -47,14 +52,14 @@ fn read_number(
     alloc: Global,
     machine: &Machine,
     name: &Text,
-    here: &Text,
+    script_name: &Text,
     line: u32,
 ) -> Result<i32, ScriptStop>
-    ensures { Gives (λ n. n) (l.read_number here.now name.now line (state_of machine.now)) result
+    ensures { Gives (λ n. n) (l.read_number script_name.now name.now line (state_of machine.now)) result
         (state_of machine.now) }
 {
     let value = machine.variable(alloc, name)?;
-    number_by(alloc, value, here, line)
+    number_by(alloc, value, script_name, line)
 }
 
 /// Sets the variable of a loop to the next number. There is none past 32 bits.
@@ -63,15 +68,15 @@ pub(crate) fn advance(
     machine: &mut Machine,
     name: &Text,
     step: i32,
-    here: &Text,
+    script_name: &Text,
     line: u32,
 ) -> Result<Option<i32>, ScriptStop>
-    ensures gives { Gives (λ n. n) (l.advance here.now name.now step line (state_of machine.old)) result
+    ensures gives { Gives (λ n. n) (l.advance script_name.now name.now step line (state_of machine.old)) result
         (state_of machine.new) }
     ensures asks { AsksNothing machine.old machine.new }
     ensures sources { OnOk result (sources_of (state_of machine.new).plan ≡ sources_of (state_of machine.old).plan) }
 {
-    let before = read_number(alloc, machine, name, here, line)?;
+    let before = read_number(alloc, machine, name, script_name, line)?;
     let Some(next) = next_number(before, step) else {
         return Ok(None);
     };
@@ -85,19 +90,19 @@ fn numbers(
     first: &Value,
     last: &Value,
     step: &Value,
-    here: &Text,
+    script_name: &Text,
     line: u32,
 ) -> Result<(i32, i32, i32), ScriptStop>
-    ensures { Answers (λ n. n) (l.numbers here.now line first.now last.now step.now) result }
+    ensures { Answers (λ n. n) (l.numbers script_name.now line first.now last.now step.now) result }
 {
     match (first, last, step) {
         (Value::Int(first), Value::Int(last), Value::Int(step)) => {
             if *step == 0 {
-                return Err(fault_at(alloc, ScriptKind::BadRange, here, line));
+                return Err(fault_at(alloc, ScriptKind::BadRange, script_name, line));
             }
             Ok((*first, *last, *step))
         }
-        _ => Err(fault_at(alloc, ScriptKind::TypeFault, here, line)),
+        _ => Err(fault_at(alloc, ScriptKind::TypeFault, script_name, line)),
     }
 }
 
@@ -124,12 +129,12 @@ impl<
     ) -> Result<bool, ScriptStop>
         requires deeper { Deeper H.Host self.now.depth F.Fn self.now.run }
         ensures told { Told H.told (λ b. b)
-            (r.condition H.clips H.scripts self.now.depth self.now.here.now (expr_view e.now) line)
+            (r.condition H.clips H.scripts self.now.depth self.now.script_name.now (expr_view e.now) line)
             machine.old result machine.new }
         ensures kept { Keeps H.Host machine.old host.old (stop_in result) machine.new host.new }
     {
         let value = self.value_of(machine, host, e)?;
-        truth(self.alloc, &value, self.here, line)
+        truth(self.alloc, &value, self.script_name, line)
     }
 
     // The step of a loop, which is 1 where none is written.
@@ -140,7 +145,7 @@ impl<
         step: &Option<Expr>,
     ) -> Result<Value, ScriptStop>
         requires deeper { Deeper H.Host self.now.depth F.Fn self.now.run }
-        ensures told { Told H.told (λ x. x) (r.step_of H.clips H.scripts self.now.depth self.now.here.now
+        ensures told { Told H.told (λ x. x) (r.step_of H.clips H.scripts self.now.depth self.now.script_name.now
             (option_map expr_view step.now)) machine.old result machine.new }
         ensures kept { Keeps H.Host machine.old host.old (stop_in result) machine.new host.new }
     {
@@ -161,13 +166,14 @@ impl<
         line: u32,
     ) -> Result<(i32, i32, i32), ScriptStop>
         requires deeper { Deeper H.Host self.now.depth F.Fn self.now.run }
-        ensures told { Told H.told (λ n. n) (r.bounds H.clips H.scripts self.now.depth self.now.here.now (expr_view
-            first.now) (expr_view last.now) (option_map expr_view step.now) line) machine.old result machine.new }
+        ensures told { Told H.told (λ n. n) (r.bounds H.clips H.scripts self.now.depth self.now.script_name.now
+            (expr_view first.now) (expr_view last.now) (option_map expr_view step.now) line) machine.old result
+            machine.new }
         ensures kept { Keeps H.Host machine.old host.old (stop_in result) machine.new host.new }
     {
         let first = self.value_of(machine, host, first)?;
         let last = self.value_of(machine, host, last)?;
         let step = self.step_of(machine, host, step)?;
-        numbers(self.alloc, &first, &last, &step, self.here, line)
+        numbers(self.alloc, &first, &last, &step, self.script_name, line)
     }
 }

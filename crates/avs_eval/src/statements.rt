@@ -72,7 +72,7 @@ impl<
         line: u32,
     ) -> Result<Flow, ScriptStop>
         requires deeper { Deeper H.Host self.now.depth F.Fn self.now.run }
-        ensures told { Told H.told flow_view (r.effect_of H.clips H.scripts self.now.depth self.now.here.now
+        ensures told { Told H.told flow_view (r.effect_of H.clips H.scripts self.now.depth self.now.script_name.now
             (kind_view kind.now) line) machine.old result machine.new }
         ensures kept { Keeps H.Host machine.old host.old (stop_in result) machine.new host.new }
     {
@@ -126,8 +126,8 @@ impl<
         line: u32,
     ) -> Result<Option<Flow>, ScriptStop>
         requires deeper { Deeper H.Host self.now.depth F.Fn self.now.run }
-        ensures told { Told H.told (option_map flow_view) (r.arms_of H.clips H.scripts self.now.depth self.now.here.now
-            (arms_of (map arm_view arms.now)) line) machine.old result machine.new }
+        ensures told { Told H.told (option_map flow_view) (r.arms_of H.clips H.scripts self.now.depth
+            self.now.script_name.now (arms_of (map arm_view arms.now)) line) machine.old result machine.new }
         ensures kept { Keeps H.Host machine.old host.old (stop_in result) machine.new host.new }
     {
         for arm in arms {
@@ -151,7 +151,7 @@ impl<
         line: u32,
     ) -> Result<Flow, ScriptStop>
         requires deeper { Deeper H.Host self.now.depth F.Fn self.now.run }
-        ensures told { Told H.told flow_view (r.loop_of H.clips H.scripts self.now.depth self.now.here.now
+        ensures told { Told H.told flow_view (r.loop_of H.clips H.scripts self.now.depth self.now.script_name.now
             (expr_view test.now) line (block_view body.now)) machine.old result machine.new }
         ensures kept { Keeps H.Host machine.old host.old (stop_in result) machine.new host.new }
     {
@@ -160,7 +160,7 @@ impl<
             if !self.condition(machine, host, test, line)? {
                 return Ok(Flow::On(Value::Undefined));
             }
-            machine.spend(self.alloc, self.here, line)?;
+            machine.spend(self.alloc, self.script_name, line)?;
             match self.block_of(machine, host, body)? {
                 Flow::On(_) => continue,
                 Flow::Back(value) => return Ok(Flow::Back(value)),
@@ -186,8 +186,9 @@ impl<
         line: u32,
     ) -> Result<Flow, ScriptStop>
         requires deeper { Deeper H.Host self.now.depth F.Fn self.now.run }
-        ensures told { Told H.told flow_view (r.effect_of H.clips H.scripts self.now.depth self.now.here.now (t.for
-            name.now (expr_view first.now) (expr_view last.now) (option_map expr_view step.now) (block_view body.now))
+        ensures told { Told H.told flow_view (r.effect_of H.clips H.scripts self.now.depth self.now.script_name.now
+            (t.for name.now (expr_view first.now) (expr_view last.now) (option_map expr_view step.now) (block_view
+            body.now))
             line) machine.old result machine.new }
         ensures kept { Keeps H.Host machine.old host.old (stop_in result) machine.new host.new }
     {
@@ -214,8 +215,8 @@ impl<
         line: u32,
     ) -> Result<Flow, ScriptStop>
         requires deeper { Deeper H.Host self.now.depth F.Fn self.now.run }
-        ensures told { Told H.told flow_view (r.count_of H.clips H.scripts self.now.depth self.now.here.now name.now
-            first.at first.last first.step line (block_view body.now)) machine.old result machine.new }
+        ensures told { Told H.told flow_view (r.count_of H.clips H.scripts self.now.depth self.now.script_name.now
+            name.now first.at first.last first.step line (block_view body.now)) machine.old result machine.new }
         ensures kept { Keeps H.Host machine.old host.old (stop_in result) machine.new host.new }
     {
         let most = machine.units();
@@ -248,17 +249,24 @@ impl<
         line: u32,
     ) -> Result<Turn, ScriptStop>
         requires deeper { Deeper H.Host self.now.depth F.Fn self.now.run }
-        ensures told { Told H.told turn_view (r.turn H.clips H.scripts self.now.depth self.now.here.now name.now
+        ensures told { Told H.told turn_view (r.turn H.clips H.scripts self.now.depth self.now.script_name.now name.now
             counter.now.at counter.now.last counter.now.step line (block_view body.now)) machine.old result machine.new }
         ensures kept { Keeps H.Host machine.old host.old (stop_in result) machine.new host.new }
     {
         if is_past(counter.last, counter.step, counter.at) {
             return Ok(Turn::Done(Flow::On(Value::Undefined)));
         }
-        machine.spend(self.alloc, self.here, line)?;
+        machine.spend(self.alloc, self.script_name, line)?;
         match self.block_of(machine, host, body)? {
             Flow::On(_) => {
-                match advance(self.alloc, machine, name, counter.step, self.here, line)? {
+                match advance(
+                    self.alloc,
+                    machine,
+                    name,
+                    counter.step,
+                    self.script_name,
+                    line,
+                )? {
                     Some(next) => Ok(Turn::Next(next)),
                     None => Ok(Turn::Done(Flow::On(Value::Undefined))),
                 }
@@ -276,11 +284,11 @@ impl<
         statement: &Statement,
     ) -> Result<Flow, ScriptStop>
         requires deeper { Deeper H.Host self.now.depth F.Fn self.now.run }
-        ensures told { Told H.told flow_view (r.statement H.clips H.scripts self.now.depth self.now.here.now
+        ensures told { Told H.told flow_view (r.statement H.clips H.scripts self.now.depth self.now.script_name.now
             (statement_view statement.now)) machine.old result machine.new }
         ensures kept { Keeps H.Host machine.old host.old (stop_in result) machine.new host.new }
     {
-        machine.spend(self.alloc, self.here, statement.line)?;
+        machine.spend(self.alloc, self.script_name, statement.line)?;
         self.effect_of(machine, host, &statement.kind, statement.line)
     }
 
@@ -294,7 +302,7 @@ impl<
         body: &[Statement],
     ) -> Result<Flow, ScriptStop>
         requires deeper { Deeper H.Host self.now.depth F.Fn self.now.run }
-        ensures told { Told H.told flow_view (r.block_of H.clips H.scripts self.now.depth self.now.here.now
+        ensures told { Told H.told flow_view (r.block_of H.clips H.scripts self.now.depth self.now.script_name.now
             (block_view body.now)) machine.old result machine.new }
         ensures kept { Keeps H.Host machine.old host.old (stop_in result) machine.new host.new }
     {
@@ -316,7 +324,7 @@ impl<
         body: &[Statement],
     ) -> Result<Value, ScriptStop>
         requires deeper { Deeper H.Host self.now.depth F.Fn self.now.run }
-        ensures told { Told H.told (λ x. x) (r.body_of H.clips H.scripts self.now.depth self.now.here.now
+        ensures told { Told H.told (λ x. x) (r.body_of H.clips H.scripts self.now.depth self.now.script_name.now
             (block_view body.now) Value.Undefined) machine.old result machine.new }
         ensures kept { Keeps H.Host machine.old host.old (stop_in result) machine.new host.new }
     {

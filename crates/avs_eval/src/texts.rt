@@ -33,10 +33,10 @@ pub(crate) struct Body {
 }
 
 // The grammar refuses the text of this name, or it nests too deep.
-fn refused(alloc: Global, here: &Text, nests: bool, line: u32) -> ScriptStop
-    ensures { Shows (refused here.now) result }
+fn refused(alloc: Global, script_name: &Text, nests: bool, line: u32) -> ScriptStop
+    ensures { Shows (refused script_name.now) result }
 {
-    match Text::from_str(alloc, here.as_str()) {
+    match Text::from_str(alloc, script_name.as_str()) {
         Ok(name) => ScriptStop::Refused { name, nests, line },
         Err(_) => ScriptStop::Memory,
     }
@@ -47,11 +47,11 @@ fn refused(alloc: Global, here: &Text, nests: bool, line: u32) -> ScriptStop
 pub(crate) fn load_body(
     alloc: Global,
     machine: &mut Machine,
-    here: &Text,
+    script_name: &Text,
     text: &Text,
 ) -> Result<Body, ScriptStop>
     requires { length text.now ≤ text_limit }
-    ensures gives { Gives body_view (body_by (script_of text.now) here.now (state_of machine.old)) result
+    ensures gives { Gives body_view (body_by (script_of text.now) script_name.now (state_of machine.old)) result
         (state_of machine.new) }
     ensures asks { AsksNothing machine.old machine.new }
     ensures sources { OnOk result (sources_of (state_of machine.new).plan ≡ sources_of (state_of machine.old).plan) }
@@ -62,17 +62,17 @@ pub(crate) fn load_body(
                 functions,
                 statements,
             } = script;
-            machine.define_all(alloc, functions, here)?;
+            machine.define_all(alloc, functions, script_name)?;
             Ok(Body {
                 statements,
                 last_line,
             })
         }
         Err(LoadFault::Lex { kind, line }) => {
-            Err(fault_at(alloc, ScriptKind::Lex(kind), here, line))
+            Err(fault_at(alloc, ScriptKind::Lex(kind), script_name, line))
         }
-        Err(LoadFault::Syntax { line }) => Err(refused(alloc, here, false, line)),
-        Err(LoadFault::NestLimit { line }) => Err(refused(alloc, here, true, line)),
+        Err(LoadFault::Syntax { line }) => Err(refused(alloc, script_name, false, line)),
+        Err(LoadFault::NestLimit { line }) => Err(refused(alloc, script_name, true, line)),
         Err(LoadFault::Memory) => Err(ScriptStop::Memory),
     }
 }
@@ -95,13 +95,13 @@ impl<
         &self,
         machine: &mut Machine,
         host: &mut H,
-        here: &Text,
+        script_name: &Text,
         body: &[Statement],
     ) -> Result<Value, ScriptStop>
         requires deeper { Deeper H.Host self.now.depth F.Fn self.now.run }
         requires room { 0 < self.now.depth }
-        ensures told { Told H.told (λ v. v) (r.deeper H.clips H.scripts self.now.depth here.now (block_view body.now))
-            machine.old result machine.new }
+        ensures told { Told H.told (λ v. v) (r.deeper H.clips H.scripts self.now.depth script_name.now (block_view
+            body.now)) machine.old result machine.new }
         ensures kept { Keeps H.Host machine.old host.old (stop_in result) machine.new host.new }
     {
         (self.run)(
@@ -110,7 +110,7 @@ impl<
             machine,
             host,
             self.depth - 1,
-            here,
+            script_name,
             body,
         )
     }
@@ -128,7 +128,7 @@ impl<
         requires deeper { Deeper H.Host self.now.depth F.Fn self.now.run }
         requires room { 0 < self.now.depth }
         ensures told { Told H.told (λ v. v)
-            (r.execute H.clips H.scripts self.now.depth from.now text.now self.now.here.now line)
+            (r.execute H.clips H.scripts self.now.depth from.now text.now self.now.script_name.now line)
             machine.old result machine.new }
         ensures kept { Keeps H.Host machine.old host.old (stop_in result) machine.new host.new }
     {
@@ -150,7 +150,7 @@ impl<
         requires deeper { Deeper H.Host self.now.depth F.Fn self.now.run }
         requires room { 0 < self.now.depth }
         ensures told { Told H.told (λ v. v)
-            (r.execute H.clips H.scripts self.now.depth e.eval_name text.now self.now.here.now line)
+            (r.execute H.clips H.scripts self.now.depth e.eval_name text.now self.now.script_name.now line)
             machine.old result machine.new }
         ensures kept { Keeps H.Host machine.old host.old (stop_in result) machine.new host.new }
     {
@@ -169,7 +169,7 @@ impl<
     ) -> Result<Value, ScriptStop>
         requires deeper { Deeper H.Host self.now.depth F.Fn self.now.run }
         ensures told { Told H.told (λ v. v)
-            (r.eval_text H.clips H.scripts self.now.depth self.now.here.now text.now line)
+            (r.eval_text H.clips H.scripts self.now.depth self.now.script_name.now text.now line)
             machine.old result machine.new }
         ensures kept { Keeps H.Host machine.old host.old (stop_in result) machine.new host.new }
     {
@@ -189,7 +189,8 @@ impl<
     ) -> Result<Value, ScriptStop>
         requires deeper { Deeper H.Host self.now.depth F.Fn self.now.run }
         ensures told { Told H.told (λ v. v)
-            (r.eval H.clips H.scripts self.now.depth self.now.here.now values.now line) machine.old result machine.new }
+            (r.eval H.clips H.scripts self.now.depth self.now.script_name.now values.now line) machine.old result
+            machine.new }
         ensures kept { Keeps H.Host machine.old host.old (stop_in result) machine.new host.new }
     {
         match values {
@@ -206,7 +207,7 @@ impl<
         name: &Text,
         line: u32,
     ) -> Result<Text, ScriptStop>
-        ensures told { Told H.told (λ text. text) (e.script_by self.now.here.now (H.scripts name.now) line)
+        ensures told { Told H.told (λ text. text) (e.script_by self.now.script_name.now (H.scripts name.now) line)
             machine.old result machine.new }
         ensures kept { Keeps H.Host machine.old host.old (stop_in result) machine.new host.new }
     {
@@ -218,7 +219,7 @@ impl<
                 machine.count_import();
                 Ok(text)
             }
-            Err(fault) => Err(stop_of(self.alloc, fault, name, self.here, line)),
+            Err(fault) => Err(stop_of(self.alloc, fault, name, self.script_name, line)),
         }
     }
 
@@ -232,7 +233,7 @@ impl<
     ) -> Result<Value, ScriptStop>
         requires deeper { Deeper H.Host self.now.depth F.Fn self.now.run }
         ensures told { Told H.told (λ v. v)
-            (r.import_ H.clips H.scripts self.now.depth self.now.here.now values.now line)
+            (r.import_ H.clips H.scripts self.now.depth self.now.script_name.now values.now line)
             machine.old result machine.new }
         ensures kept { Keeps H.Host machine.old host.old (stop_in result) machine.new host.new }
     {

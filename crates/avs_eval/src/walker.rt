@@ -14,7 +14,7 @@ pub(crate) struct Walker<'t, H, F> {
     /// The built-in functions.
     pub(crate) table: &'t Table,
     /// The name of the text.
-    pub(crate) here: &'t Text,
+    pub(crate) script_name: &'t Text,
     /// How many calls may still nest.
     pub(crate) depth: u32,
     /// What executes statements one call deeper.
@@ -25,8 +25,8 @@ pub(crate) struct Walker<'t, H, F> {
 impl<'t, H, F> Walker<'t, H, F> {
     /// A fault at a line of the text.
     pub(crate) fn fault(&self, kind: ScriptKind, line: u32) -> ScriptStop
-        ensures { Shows (script kind self.now.here.now line) result }
+        ensures { Shows (script kind self.now.script_name.now line) result }
     {
-        fault_at(self.alloc, kind, self.here, line)
+        fault_at(self.alloc, kind, self.script_name, line)
     }
 }

@@ -109,13 +109,13 @@ impl Machine {
 
     /// Pays a unit for a statement or a turn at a line of the text of this name.
     #[tactic(auto, unfolding(crate::specs::States::state_of))]
-    pub fn spend(&mut self, alloc: Global, here: &Text, line: u32) -> Result<(), ScriptStop>
-        ensures gives { Gives (λ u. u) (d.spend here.now line (state_of self.old)) result (state_of self.new) }
+    pub fn spend(&mut self, alloc: Global, script_name: &Text, line: u32) -> Result<(), ScriptStop>
+        ensures gives { Gives (λ u. u) (d.spend script_name.now line (state_of self.old)) result (state_of self.new) }
         ensures asks { AsksNothing self.old self.new }
         ensures sources { OnOk result (sources_of (state_of self.new).plan ≡ sources_of (state_of self.old).plan) }
     {
         if self.units == 0 {
-            return Err(fault_at(alloc, ScriptKind::StepLimit, here, line));
+            return Err(fault_at(alloc, ScriptKind::StepLimit, script_name, line));
         }
         self.units -= 1;
         Ok(())
@@ -213,9 +213,9 @@ impl Machine {
         &mut self,
         alloc: Global,
         function: Function,
-        here: &Text,
+        script_name: &Text,
     ) -> Result<(), ScriptStop>
-        ensures gives { Gives (λ u. u) (d.define (function_view function) here.now (state_of self.old)) result
+        ensures gives { Gives (λ u. u) (d.define (function_view function) script_name.now (state_of self.old)) result
             (state_of self.new) }
         ensures asks { AsksNothing self.old self.new }
         ensures sources { OnOk result (sources_of (state_of self.new).plan ≡ sources_of (state_of self.old).plan) }
@@ -223,11 +223,11 @@ impl Machine {
         match self.find(alloc, &function.name)? {
             Some(_) => {
                 let kind = ScriptKind::DuplicateFunction;
-                return Err(fault_at(alloc, kind, here, function.line));
+                return Err(fault_at(alloc, kind, script_name, function.line));
             }
             None => {}
         }
-        let text = Text::from_str(alloc, here.as_str())?;
+        let text = Text::from_str(alloc, script_name.as_str())?;
         let shared = Rc::new(alloc, Definition { function, text })?;
         self.functions.put(alloc, shared)?;
         Ok(())
@@ -238,28 +238,35 @@ impl Machine {
         &mut self,
         alloc: Global,
         functions: Vec<Function>,
-        here: &Text,
+        script_name: &Text,
     ) -> Result<(), ScriptStop>
-        ensures gives { Gives (λ u. u) (d.define_all (map function_view functions.items) here.now (state_of self.old))
-            result (state_of self.new) }
+        ensures gives { Gives (λ u. u) (d.define_all (map function_view functions.items) script_name.now (state_of
+            self.old)) result (state_of self.new) }
         ensures asks { AsksNothing self.old self.new }
         ensures sources { OnOk result (sources_of (state_of self.new).plan ≡ sources_of (state_of self.old).plan) }
     {
         for function in functions {
-            self.define(alloc, function, here)?;
+            self.define(alloc, function, script_name)?;
         }
         Ok(())
     }
 
     /// The info of a clip, by its place.
     #[tactic(auto, unfolding(crate::specs::States::state_of), using(crate::proofs::StateLemmas::lawful_at))]
-    pub fn info_of(&self, alloc: Global, i: u32, here: &Text, line: u32) -> Result<Info, ScriptStop>
-        ensures gives { Gives (λ info. info) (f.info_of here.now i line (state_of self.now)) result (state_of self.now) }
+    pub fn info_of(
+        &self,
+        alloc: Global,
+        i: u32,
+        script_name: &Text,
+        line: u32,
+    ) -> Result<Info, ScriptStop>
+        ensures gives { Gives (λ info. info) (f.info_of script_name.now i line (state_of self.now)) result (state_of
+            self.now) }
         ensures lawful { IfOk result IsLawful }
         ensures inside { OnOk result (i < length (state_of self.now).plan) }
     {
         if i >= self.plan.len() {
-            return Err(fault_at(alloc, ScriptKind::TypeFault, here, line));
+            return Err(fault_at(alloc, ScriptKind::TypeFault, script_name, line));
         }
         Ok(self.plan.node(i).info)
     }
@@ -273,7 +280,7 @@ impl Machine {
         inputs: &[u32],
         info: Info,
         mode: u8,
-        here: &Text,
+        script_name: &Text,
         line: u32,
     ) -> Result<Value, ScriptStop>
         requires places { All (λ i. i < length (state_of self.old).plan) inputs.now }
@@ -281,16 +288,26 @@ impl Machine {
         requires told { check (act_of op) (infos_among (state_of self.old).plan inputs.now) ≡ Ok info }
         requires mode { IsMode mode }
         requires counted { IsCounted (act_of op) (sources_in (state_of self.old).plan) mode }
-        ensures gives { Gives (λ v. v) (f.add here.now (act_of op) inputs.now info mode line (state_of self.old)) result
-            (state_of self.new) }
+        ensures gives { Gives (λ v. v) (f.add script_name.now (act_of op) inputs.now info mode line (state_of
+            self.old)) result (state_of self.new) }
         ensures asks { AsksNothing self.old self.new }
         ensures sources { OnOk result (sources_of (state_of self.new).plan
             ≡ sources_of (state_of self.old).plan ++ source_of (act_of op)) }
     {
         match self.plan.add(op, inputs, info, mode) {
             Ok(place) => Ok(Value::Clip(place)),
-            Err(GraphFault::NodeLimit) => Err(fault_at(alloc, ScriptKind::NodeLimit, here, line)),
-            Err(GraphFault::DepthLimit) => Err(fault_at(alloc, ScriptKind::DepthLimit, here, line)),
+            Err(GraphFault::NodeLimit) => Err(fault_at(
+                alloc,
+                ScriptKind::NodeLimit,
+                script_name,
+                line,
+            )),
+            Err(GraphFault::DepthLimit) => Err(fault_at(
+                alloc,
+                ScriptKind::DepthLimit,
+                script_name,
+                line,
+            )),
             Err(GraphFault::Memory) => Err(ScriptStop::Memory),
         }
     }
@@ -303,28 +320,28 @@ impl Machine {
         filter: Filter,
         op: Op,
         inputs: &[u32],
-        here: &Text,
+        script_name: &Text,
         line: u32,
     ) -> Result<Value, ScriptStop>
         requires sound { IsSound (act_of op) (length inputs.now) }
         requires counted { IsCounted (act_of op) (sources_in (state_of self.old).plan)
             (mode_in (state_of self.old).modes filter) }
-        ensures gives { Gives (λ v. v) (f.made here.now filter (act_of op) inputs.now line (state_of self.old)) result
-            (state_of self.new) }
+        ensures gives { Gives (λ v. v) (f.made script_name.now filter (act_of op) inputs.now line (state_of self.old))
+            result (state_of self.new) }
         ensures asks { AsksNothing self.old self.new }
         ensures sources { OnOk result (sources_of (state_of self.new).plan
             ≡ sources_of (state_of self.old).plan ++ source_of (act_of op)) }
     {
         if !are_places(&self.plan, inputs) {
-            return Err(fault_at(alloc, ScriptKind::TypeFault, here, line));
+            return Err(fault_at(alloc, ScriptKind::TypeFault, script_name, line));
         }
         let infos = infos_among(alloc, &self.plan, inputs)?;
         match check(&op, &infos) {
             Ok(info) => {
                 let mode = self.modes.mode_for(filter);
-                self.add(alloc, op, inputs, info, mode, here, line)
+                self.add(alloc, op, inputs, info, mode, script_name, line)
             }
-            Err(fault) => Err(fault_at(alloc, ScriptKind::Filter(fault), here, line)),
+            Err(fault) => Err(fault_at(alloc, ScriptKind::Filter(fault), script_name, line)),
         }
     }
 
@@ -336,18 +353,18 @@ impl Machine {
         name: &Text,
         mode: i32,
         force: bool,
-        here: &Text,
+        script_name: &Text,
         line: u32,
     ) -> Result<Value, ScriptStop>
-        ensures gives { Gives (λ v. v) (w.set_mode_of here.now name.now mode force line (state_of self.old)) result
-            (state_of self.new) }
+        ensures gives { Gives (λ v. v) (w.set_mode_of script_name.now name.now mode force line (state_of self.old))
+            result (state_of self.new) }
         ensures asks { AsksNothing self.old self.new }
         ensures plan { (state_of self.new).plan ≡ (state_of self.old).plan }
     {
         match self.modes.set(name, mode, force) {
             Ok(()) => Ok(Value::Undefined),
             Err(ModeFault::ModeRefused) => {
-                Err(fault_at(alloc, ScriptKind::ModeRefused, here, line))
+                Err(fault_at(alloc, ScriptKind::ModeRefused, script_name, line))
             }
             Err(ModeFault::Memory) => Err(ScriptStop::Memory),
         }
@@ -380,11 +397,11 @@ impl Machine {
         alloc: Global,
         name: &Text,
         info: Info,
-        here: &Text,
+        script_name: &Text,
         line: u32,
     ) -> Result<Value, ScriptStop>
         requires lawful { IsLawful info }
-        ensures gives { Gives (λ v. v) (f.open_by here.now (Ok info) name.now line (state_of self.old)) result
+        ensures gives { Gives (λ v. v) (f.open_by script_name.now (Ok info) name.now line (state_of self.old)) result
             (state_of self.new) }
         ensures opened { OnOk result ((state_of self.new).opened
             ≡ (state_of self.old).opened ++ record { name = name.now; info = info } ∷ []) }
@@ -395,7 +412,7 @@ impl Machine {
         let number = self.sources();
         let name = Text::from_str(alloc, name.as_str())?;
         let op = Op::Source { name, number, info };
-        self.make(alloc, Filter::Y4MSource, op, &[], here, line)
+        self.make(alloc, Filter::Y4MSource, op, &[], script_name, line)
     }
 
     // How many sources the graph has.

@@ -21,19 +21,19 @@ pub apply-returns-in-Builtin-clause-told : goal.apply-returns-in-Builtin-clause-
 apply-returns-in-Builtin-clause-told g t c = λ told.
     let same : callee_view c.args.callee.now ≡ builtin b.ApplyRange = search rules in
     let is : fit_or_last (takes (callee_view c.args.callee.now)) c.args.args.items c.args.last ≡ Some (c.in-Some.signature, bound_view c.in-Some.given) = search rules in
-    rw (range_applies g.H.Host.clips g.H.Host.scripts c.args.self.now.depth c.args.self.now.here.now c.args.line (callee_view c.args.callee.now) c.args.args.items c.args.last
+    rw (range_applies g.H.Host.clips g.H.Host.scripts c.args.self.now.depth c.args.self.now.script_name.now c.args.line (callee_view c.args.callee.now) c.args.args.items c.args.last
     (state_of c.args.machine.now) c.in-Some.signature (bound_view c.in-Some.given) same is)
     (c.apply_range.ensures.told told)
 
 pub apply_range-returns-in-Err-clause-told : goal.apply_range-returns-in-Err-clause-told
 apply_range-returns-in-Err-clause-told g t c = λ told.
-    range_fails g.H.Host.clips g.H.Host.scripts c.args.self.now.depth c.args.self.now.here.now c.args.line c.args.given.now.values.items c.args.given.now.rest.items
+    range_fails g.H.Host.clips g.H.Host.scripts c.args.self.now.depth c.args.self.now.script_name.now c.args.line c.args.given.now.values.items c.args.given.now.rest.items
     (given_view c.in-Some.range) (callee_view c.in_ok-callee.callee) c.in_ok-args.args.items c.in-Err.stop (state_of c.args.machine.now) (search rules) (search rules)
     (rw c.deref-2.ensures.value at c.in_ok-args.ensures) (c.in-Err.ensures.told told)
 
 pub apply_range-returns-clause-told : goal.apply_range-returns-clause-told
 apply_range-returns-clause-told g t c = λ told.
-    rw (range_shows g.H.Host.clips g.H.Host.scripts c.args.self.now.depth c.args.self.now.here.now c.args.line c.args.given.now.values.items c.args.given.now.rest.items
+    rw (range_shows g.H.Host.clips g.H.Host.scripts c.args.self.now.depth c.args.self.now.script_name.now c.args.line c.args.given.now.values.items c.args.given.now.rest.items
     (given_view c.in-Some.range) (callee_view c.in_ok-callee.callee) c.in_ok-args.args.items c.in-Ok.shown (state_of c.args.machine.now) (state_of c.apply.new.machine) (search rules) (search rules)
     (rw c.deref-2.ensures.value at c.in_ok-args.ensures) (c.in-Ok.ensures.told told))
     (search rules)

@@ -8,7 +8,7 @@ use Rattle.avs_eval.proofs.walker.Walker.+expressions.Given as goal
 
 abbrev pub invariant-givens_of-loop-arg : goal.invariant-givens_of-loop-arg
 invariant-givens_of-loop-arg g l =
-    let givens = r.givens_of g.H.Host.clips g.H.Host.scripts l.self.depth l.self.here.now in
+    let givens = r.givens_of g.H.Host.clips g.H.Host.scripts l.self.depth l.self.script_name.now in
     record {
       told : IsTrue g.H.Host.told → givens (args_of (map arg_view (drop l.arg-index l.args))) l.given.items (state_of l.machine)
           ≡ givens (args_of (map arg_view l.args)) l.fn.given.items (state_of l.fn.machine);
@@ -17,7 +17,7 @@ invariant-givens_of-loop-arg g l =
 
 abbrev pub invariant-calls_from-loop-call : goal.invariant-calls_from-loop-call
 invariant-calls_from-loop-call g l =
-    let calls = r.calls_from g.H.Host.clips g.H.Host.scripts l.self.depth l.self.here.now in
+    let calls = r.calls_from g.H.Host.clips g.H.Host.scripts l.self.depth l.self.script_name.now in
     record {
       told : IsTrue g.H.Host.told → calls (method_calls_of (map method_call_view (drop l.call-index l.calls))) l.value (state_of l.machine)
           ≡ calls (method_calls_of (map method_call_view l.calls)) l.fn.first (state_of l.fn.machine);
@@ -26,7 +26,7 @@ invariant-calls_from-loop-call g l =
 
 abbrev pub invariant-steps_from-loop-step : goal.invariant-steps_from-loop-step
 invariant-steps_from-loop-step g l =
-    let steps = r.steps_from g.H.Host.clips g.H.Host.scripts l.self.depth l.self.here.now in
+    let steps = r.steps_from g.H.Host.clips g.H.Host.scripts l.self.depth l.self.script_name.now in
     record {
       told : IsTrue g.H.Host.told → steps (steps_of (map step_view (drop l.step-index l.steps))) l.value (state_of l.machine)
           ≡ steps (steps_of (map step_view l.steps)) l.fn.first (state_of l.fn.machine);

@@ -9,7 +9,7 @@ use Rattle.avs_eval.proofs.walker.Walker.+statements.Given as goal
 
 abbrev pub invariant-arms_of-loop-arm : goal.invariant-arms_of-loop-arm
 invariant-arms_of-loop-arm g l =
-    let arms = r.arms_of g.H.Host.clips g.H.Host.scripts l.self.depth l.self.here.now in
+    let arms = r.arms_of g.H.Host.clips g.H.Host.scripts l.self.depth l.self.script_name.now in
     record {
       told : IsTrue g.H.Host.told → arms (arms_of (map arm_view (drop l.arm-index l.arms))) l.line (state_of l.machine)
           ≡ arms (arms_of (map arm_view l.arms)) l.line (state_of l.fn.machine);
@@ -18,27 +18,27 @@ invariant-arms_of-loop-arm g l =
 
 abbrev pub invariant-turns-loop-turn : goal.invariant-turns-loop-turn
 invariant-turns-loop-turn g l =
-    let test = r.condition g.H.Host.clips g.H.Host.scripts l.self.depth l.self.here.now (expr_view l.test) l.line in
-    let body = r.block_of g.H.Host.clips g.H.Host.scripts l.self.depth l.self.here.now (block_view l.body) in
+    let test = r.condition g.H.Host.clips g.H.Host.scripts l.self.depth l.self.script_name.now (expr_view l.test) l.line in
+    let body = r.block_of g.H.Host.clips g.H.Host.scripts l.self.depth l.self.script_name.now (block_view l.body) in
     record {
-      told : IsTrue g.H.Host.told → m.turns l.self.here.now (l.most - l._turn) test l.line body (state_of l.machine)
-          ≡ r.loop_of g.H.Host.clips g.H.Host.scripts l.self.depth l.self.here.now (expr_view l.test) l.line (block_view l.body) (state_of l.fn.machine);
+      told : IsTrue g.H.Host.told → m.turns l.self.script_name.now (l.most - l._turn) test l.line body (state_of l.machine)
+          ≡ r.loop_of g.H.Host.clips g.H.Host.scripts l.self.depth l.self.script_name.now (expr_view l.test) l.line (block_view l.body) (state_of l.fn.machine);
       kept : Kept g.H.Host l.fn.machine l.fn.host l.machine l.host;
     }
 
 abbrev pub invariant-counts-loop-turn : goal.invariant-counts-loop-turn
 invariant-counts-loop-turn g l =
-    let body = r.block_of g.H.Host.clips g.H.Host.scripts l.self.depth l.self.here.now (block_view l.body) in
+    let body = r.block_of g.H.Host.clips g.H.Host.scripts l.self.depth l.self.script_name.now (block_view l.body) in
     record {
       told : IsTrue g.H.Host.told
-          → m.counts l.self.here.now (l.most - l._turn) l.name l.counter.at l.counter.last l.counter.step l.line body (state_of l.machine)
-          ≡ r.count_of g.H.Host.clips g.H.Host.scripts l.self.depth l.self.here.now l.name l.fn.first.at l.fn.first.last l.fn.first.step l.line (block_view l.body) (state_of l.fn.machine);
+          → m.counts l.self.script_name.now (l.most - l._turn) l.name l.counter.at l.counter.last l.counter.step l.line body (state_of l.machine)
+          ≡ r.count_of g.H.Host.clips g.H.Host.scripts l.self.depth l.self.script_name.now l.name l.fn.first.at l.fn.first.last l.fn.first.step l.line (block_view l.body) (state_of l.fn.machine);
       kept : Kept g.H.Host l.fn.machine l.fn.host l.machine l.host;
     }
 
 abbrev pub invariant-block_of-loop-statement : goal.invariant-block_of-loop-statement
 invariant-block_of-loop-statement g l =
-    let block = r.block_of g.H.Host.clips g.H.Host.scripts l.self.depth l.self.here.now in
+    let block = r.block_of g.H.Host.clips g.H.Host.scripts l.self.depth l.self.script_name.now in
     record {
       told : IsTrue g.H.Host.told → block (block_of (map statement_view (drop l.statement-index l.body))) (state_of l.machine)
           ≡ block (block_view l.body) (state_of l.fn.machine);

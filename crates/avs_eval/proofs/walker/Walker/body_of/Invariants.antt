@@ -9,7 +9,7 @@ use Rattle.avs_eval.proofs.walker.Walker.body_of.Given as goal
 
 abbrev pub invariant-loop-statement : goal.invariant-loop-statement
 invariant-loop-statement g l =
-    let body = r.body_of g.H.Host.clips g.H.Host.scripts l.self.depth l.self.here.now in
+    let body = r.body_of g.H.Host.clips g.H.Host.scripts l.self.depth l.self.script_name.now in
     record {
       told : IsTrue g.H.Host.told → body (block_of (map statement_view (drop l.statement-index l.body))) l.last (state_of l.machine)
           ≡ body (block_view l.body) Undefined (state_of l.fn.machine);

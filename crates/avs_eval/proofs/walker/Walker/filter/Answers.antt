@@ -9,7 +9,7 @@ use Rattle.avs_eval.proofs.walker.Walker.filter.Goals as goal
 pub returns-in_default-clause-told : goal.returns-in_default-clause-told
 returns-in_default-clause-told g c = λ told.
     let outside = outside_by g.H.Host.clips g.H.Host.scripts in
-    given (λ v. v) (filtered c.args.self.now.here.now outside c.args.applied c.args.signature (bound_view c.args.given.now) c.args.line (state_of c.args.machine.now))
+    given (λ v. v) (filtered c.args.self.now.script_name.now outside c.args.applied c.args.signature (bound_view c.args.given.now) c.args.line (state_of c.args.machine.now))
     c.filter.result (state_of c.filter.new.machine) (c.filter.ensures.gives outside)
 
 pub returns-in_default-clause-kept : goal.returns-in_default-clause-kept
@@ -20,7 +20,7 @@ returns-in_default-clause-kept g c =
       listed = search rules;
       later = search rules;
       more = search rules;
-      faults = unread (λ v. v) (filtered c.args.self.now.here.now outside c.args.applied c.args.signature (bound_view c.args.given.now) c.args.line (state_of c.args.machine.now))
+      faults = unread (λ v. v) (filtered c.args.self.now.script_name.now outside c.args.applied c.args.signature (bound_view c.args.given.now) c.args.line (state_of c.args.machine.now))
           c.filter.result (state_of c.filter.new.machine) (g.H.Host.faults c.args.host.now) (c.filter.ensures.gives outside);
       fetched = search rules;
     }

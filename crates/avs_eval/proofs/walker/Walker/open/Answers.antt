@@ -8,7 +8,7 @@ use Rattle.avs_eval.proofs.walker.Walker.open.Goals as goal
 pub returns-in-Ok-clause-told : goal.returns-in-Ok-clause-told
 returns-in-Ok-clause-told g c = λ told.
     rw (c.in-Ok.ensures.told told)
-    (given (λ v. v) (open_by c.args.self.now.here.now (Ok c.in-Ok.info) c.args.name.now c.args.line (state_of c.args.machine.now))
+    (given (λ v. v) (open_by c.args.self.now.script_name.now (Ok c.in-Ok.info) c.args.name.now c.args.line (state_of c.args.machine.now))
     c.add_source.result (state_of c.add_source.new.self) c.add_source.ensures.gives)
 
 pub returns-in-Ok-clause-kept : goal.returns-in-Ok-clause-kept
@@ -17,7 +17,7 @@ returns-in-Ok-clause-kept g c = record {
   listed = search rules;
   later = search rules;
   more = search rules;
-  faults = rw c.in-Ok.ensures.steady (unread (λ v. v) (open_by c.args.self.now.here.now (Ok c.in-Ok.info) c.args.name.now c.args.line (state_of c.args.machine.now))
+  faults = rw c.in-Ok.ensures.steady (unread (λ v. v) (open_by c.args.self.now.script_name.now (Ok c.in-Ok.info) c.args.name.now c.args.line (state_of c.args.machine.now))
       c.add_source.result (state_of c.add_source.new.self) (g.H.Host.faults c.args.host.now) c.add_source.ensures.gives);
   fetched = one_fetched g.H.Host c.args.machine.now c.add_source.new.self c.args.host.now c.clip.new.self (record { name = c.args.name.now; info = c.in-Ok.info }) c.add_source.result
       c.in-Ok.ensures.fetched c.add_source.ensures.opened c.add_source.ensures.imports;
