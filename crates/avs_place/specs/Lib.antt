@@ -1,0 +1,7 @@
+pub mod Next
+pub mod ExprMachine
+pub mod Machine
+pub mod Nesting
+pub mod Place
+pub mod Laws
+pub mod Examples
