@@ -9,7 +9,6 @@ use Rattle.avs_eval.specs.Walks.{Counts, stop_in}
 
 pub then_fails : {X Y : Type 0} (one : Outcome X) (f : X → Run Y) (stop : ScriptStop) → Fails one stop → Fails (and_then one f) stop
 then_fails one f (e.Fault kind name line) h = ap (λ o. and_then o f) h
-then_fails one f (e.Refused name nests line) h = ap (λ o. and_then o f) h
 then_fails one f (e.Input name why) h = ap (λ o. and_then o f) h
 then_fails one f e.Read h = tt
 then_fails one f e.Memory h = tt
@@ -25,7 +24,6 @@ first_fails whole one f stop is h = is_fault (and_then one f) whole stop is (the
 
 pub also_fails : {Y : Type 0} (o : Outcome Y) (stop : ScriptStop) → a.Fails o stop → Fails o stop
 also_fails o (e.Fault kind name line) h = h
-also_fails o (e.Refused name nests line) h = h
 also_fails o (e.Input name why) h = h
 also_fails o e.Read h = tt
 also_fails o e.Memory h = tt
@@ -41,7 +39,6 @@ pub unread : {X Y : Type 0} (view : X → Y) (o : Outcome Y) (result : Result X 
     → a.Gives view o result new → Counts (stop_in result) n n
 unread view o (Ok x) new n h = refl
 unread view o (Err (e.Fault kind name line)) new n h = refl
-unread view o (Err (e.Refused name nests line)) new n h = refl
 unread view o (Err (e.Input name why)) new n h = refl
 unread view o (Err e.Read) new n h = absurd h
 unread view o (Err e.Memory) new n h = refl

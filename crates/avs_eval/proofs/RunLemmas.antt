@@ -59,7 +59,6 @@ module _ (clips : Text → Result Info InputFault) (scripts : Text → Result Te
 -- what a stop shows of a run is what it tells of the script
 pub stop_shows : (outcome : Outcome ℕ) (stop : ScriptStop) → Fails outcome stop → Evaluates (meaning_by outcome) (Err stop)
 stop_shows outcome (e.Fault kind name line) h = ap meaning_by h
-stop_shows outcome (e.Refused name nests line) h = ap meaning_by h
 stop_shows outcome (e.Input name why) h = ap meaning_by h
 stop_shows outcome e.Read h = tt
 stop_shows outcome e.Memory h = tt

@@ -2,7 +2,7 @@
 use Rattle.std.specs.Prelude.{◌≡◌, ◌<◌, ℕ, List, length, Result, Ok, Err}
 use Rattle.fv_io.specs.Faults.{HasRisen}
 use Rattle.clip_graph.specs.Plan.{IsPlan}
-use Rattle.avs_meaning.specs.Faults.{script, refused, input}
+use Rattle.avs_meaning.specs.Faults.{script, input}
 use Rattle.avs_meaning.specs.Meaning.{Meaning, clip, wrong}
 use Rattle.avs_meaning.specs.declared.state.SourceClip.{SourceClip}
 use Rattle.avs_meaning.specs.declared.stop.ScriptStop.{ScriptStop}
@@ -10,12 +10,10 @@ use Rattle.avs_meaning.specs.declared.stop.ScriptStop.TheVariants as s
 use Rattle.avs_state.specs.Sources.{sources_of}
 use Rattle.avs_eval.specs.declared.evaluation.Opened.{Opened}
 
--- The plan, its clip and its workers, or the first fault. Where the grammar refuses a text, nothing is said of the line, nor
--- whether it nests too deep; a failed read and out of memory say nothing of the meaning.
+-- The plan, its clip and its workers, or the first fault. A failed read and out of memory say nothing of the meaning.
 abbrev pub Evaluates : Meaning → Result Opened ScriptStop → Type 0
 Evaluates meaning (Ok opened) = meaning ≡ clip opened.graph opened.root opened.prefetch
 Evaluates meaning (Err (s.Fault kind name line)) = meaning ≡ wrong (script kind name line)
-Evaluates meaning (Err (s.Refused name nests line)) = meaning ≡ wrong (refused name)
 Evaluates meaning (Err (s.Input name why)) = meaning ≡ wrong (input name why)
 Evaluates meaning (Err s.Read) = Unit {0}
 Evaluates meaning (Err s.Memory) = Unit {0}

@@ -4,7 +4,6 @@ ghost use Rattle.avs_tree.specs.View.{block_view};
 ghost use Rattle.avs_values.specs.Outcome.{text_limit};
 ghost use Rattle.avs_parse.specs.Load.{script_of};
 ghost use Rattle.avs_meaning.specs.Expressions as e;
-ghost use Rattle.avs_meaning.specs.Faults.{Shows, refused};
 ghost use Rattle.avs_state.specs.Answers.{Gives};
 ghost use Rattle.avs_state.specs.Hosts.{Told};
 ghost use Rattle.avs_state.specs.Sources.{sources_of};
@@ -30,16 +29,6 @@ const TEXT_LIMIT: usize = 1_048_576;
 pub(crate) struct Body {
     pub(crate) statements: Vec<Statement>,
     pub(crate) last_line: u32,
-}
-
-// The grammar refuses the text of this name, or it nests too deep.
-fn refused(alloc: Global, script_name: &Text, nests: bool, line: u32) -> ScriptStop
-    ensures { Shows (refused script_name.now) result }
-{
-    match Text::from_str(alloc, script_name.as_str()) {
-        Ok(name) => ScriptStop::Refused { name, nests, line },
-        Err(_) => ScriptStop::Memory,
-    }
 }
 
 /// Reads the text of this name and adds its functions.
@@ -71,8 +60,12 @@ pub(crate) fn load_body(
         Err(LoadFault::Lex { kind, line }) => {
             Err(fault_at(alloc, ScriptKind::Lex(kind), script_name, line))
         }
-        Err(LoadFault::Syntax { line }) => Err(refused(alloc, script_name, false, line)),
-        Err(LoadFault::NestLimit { line }) => Err(refused(alloc, script_name, true, line)),
+        Err(LoadFault::Syntax { line }) => {
+            Err(fault_at(alloc, ScriptKind::Syntax, script_name, line))
+        }
+        Err(LoadFault::NestLimit { line }) => {
+            Err(fault_at(alloc, ScriptKind::NestLimit, script_name, line))
+        }
         Err(LoadFault::Memory) => Err(ScriptStop::Memory),
     }
 }

@@ -9,9 +9,8 @@ use Rattle.clip_term.specs.declared.fault.FilterFault.TheVariants as filter
 use Rattle.fv_plane.specs.Rate.{gcd}
 use Rattle.avs_meaning.specs.Expressions.{call_within}
 use Rattle.avs_meaning.specs.Faults.{script, input}
-use Rattle.avs_meaning.specs.Faults as fault
 use Rattle.avs_meaning.specs.Meaning.{wrong, to_clip, below, meaning, text_meaning}
-use Rattle.avs_tree.specs.Loaded.{refused}
+use Rattle.avs_tree.specs.Loaded.{syntax}
 use Rattle.avs_meaning.specs.Table.{builtins, builtin_of}
 use Rattle.avs_meaning.specs.declared.fault.FileKind.TheVariants as file
 use Rattle.avs_meaning.specs.declared.fault.InputFault.TheVariants as i
@@ -91,7 +90,7 @@ unfolding to_clip builtin_of builtins bind gcd
 no_frames = refl
 
 -- the script itself isn't there
-no_script : meaning (without_files (λ text. Err refused)) here ≡ wrong (script (k.File file.NotThere) here 0)
+no_script : meaning (without_files (λ text. Err (syntax 1))) here ≡ wrong (script (k.File file.NotThere) here 0)
 no_script = refl
 
 -- Eval("x = "), whose text has no tree
@@ -101,8 +100,8 @@ no_eval : text_meaning (without_files (λ text. if same text [] then Ok (record 
     statements = then_ (value (call (codes "Eval") (arg None (str (codes "x = ")) no_args) 1)) 1 no_more;
   };
   last_line = 1;
-}) else Err refused)) here []
-    ≡ wrong (fault.refused (codes "Eval"))
+}) else Err (syntax 1))) here []
+    ≡ wrong (script k.Syntax (codes "Eval") 1)
 unfolding to_clip builtin_of builtins bind
 no_eval = refl
 

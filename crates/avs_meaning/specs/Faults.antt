@@ -12,8 +12,6 @@ use Rattle.avs_meaning.specs.declared.stop.ScriptStop.TheVariants as s
 pub data Fault : Type 0 where
   -- a fault at a line of the text of this name
   script : ScriptKind → Text → ℕ → Fault
-  -- The grammar refuses the text of this name, or it nests too deep. No more is said of it.
-  refused : Text → Fault
   -- the file of this name is no clip
   input : Text → InputFault → Fault
 
@@ -31,7 +29,6 @@ kind_of v.Memory = k.TextLimit
 -- what a stop shows: this fault, or that memory ran out
 abbrev pub Shows : Fault → ScriptStop → Type 0
 Shows fault (s.Fault kind name line) = fault ≡ script kind name line
-Shows fault (s.Refused name nests line) = fault ≡ refused name
 Shows fault (s.Input name why) = fault ≡ input name why
 Shows fault s.Read = ⊥
 Shows fault s.Memory = Unit {0}

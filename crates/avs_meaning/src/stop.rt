@@ -14,12 +14,6 @@ pub enum ScriptStop {
         name: Text,
         line: u32,
     },
-    /// The grammar refuses the text of this name: `NestLimit` where it nests too deep, and else `Syntax`.
-    Refused {
-        name: Text,
-        nests: bool,
-        line: u32,
-    },
     /// The file of this name is no clip.
     Input {
         name: Text,

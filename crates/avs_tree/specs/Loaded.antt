@@ -8,7 +8,9 @@ pub record Loaded : Type 0 where
   pub tree : Script
   pub last_line : ℕ
 
--- Why a text has no tree. Where the grammar refuses it, no place is said.
+-- Why a text has no tree, each with a line: its first lexical fault, the first token with which no script goes on, or the one at
+-- which the nesting becomes too deep.
 pub data NoTree : Type 0 where
   lexical : LexKind → ℕ → NoTree
-  refused : NoTree
+  syntax : ℕ → NoTree
+  nests : ℕ → NoTree

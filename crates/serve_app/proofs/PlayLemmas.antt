@@ -41,7 +41,7 @@ use Rattle.avs_files.specs.Opened.{told_of, IsOpened, AreOpened}
 use Rattle.avs_files.proofs.CallerLemmas.{frames_of, has_clip, infos_listed}
 use Rattle.serve_text.specs.declared.stop.Stop.{Stop}
 use Rattle.serve_text.specs.declared.stop.Stop.TheVariants as of_stop
-use Rattle.serve_text.specs.StopKinds.{stop_of, Names}
+use Rattle.serve_text.specs.StopKinds.{stop_of}
 use Rattle.serve_app.specs.Meaning.{meaning_in, HasPictures, IsBookOf, MeansClip}
 use Rattle.serve_app.specs.Info.{IsInfoOf, IsToldInfo, InfoShows}
 use Rattle.serve_stream.specs.Clips.{book_told, IsClipOf, SomeFailed, PutsFrames, PutsSome, StreamShows}
@@ -308,9 +308,7 @@ module _ {S : Type 0} (of : of_source.Ghosts S) (told : Bool) (world : World) (s
 
 -- the stop of a script is told as a stop of the render
 pub told_as : (meaning : m.Meaning) (stop : ScriptStop) → Evaluates meaning (Err stop) → Tells meaning (Err (stop_of stop))
-told_as meaning (of_text.Fault kind name line) is = (f.script kind name line, (inl refl, is))
-told_as meaning (of_text.Refused name true line) is = (f.refused name, (inr (tt, refl), is))
-told_as meaning (of_text.Refused name false line) is = (f.refused name, (inr (tt, refl), is))
+told_as meaning (of_text.Fault kind name line) is = is
 told_as meaning (of_text.Input name fault) is = is
 told_as meaning of_text.Read is = tt
 told_as meaning of_text.Memory is = tt
@@ -320,7 +318,7 @@ pub before_stops : {K : Type 0} (told : Bool) (world : World) (script : List ℕ
     → (IsTrue told → Tells (meaning_in world script) (Err stop)) → EndsBefore {X = Opened} before now (Err stop) → (HasRisen before now → failed)
     → RenderShows failed sink (told_of told world) script out out stop
 before_stops told world script sink out failed before now (of_stop.Script kind name line) tells ends fails =
-    (in_told told world (λ w. (fault : Fault) × (Names kind name line fault × (meaning_in w script ≡ m.wrong fault))) tells, refl)
+    (in_told told world (λ w. meaning_in w script ≡ m.wrong (f.script kind name line)) tells, refl)
 before_stops told world script sink out failed before now (of_stop.Input name fault) tells ends fails =
     (in_told told world (λ w. meaning_in w script ≡ m.wrong (input name fault)) tells, refl)
 before_stops told world script sink out failed before now (of_stop.Changed name frame want got) tells ends fails = absurd ends

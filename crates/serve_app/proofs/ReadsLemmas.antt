@@ -37,7 +37,6 @@ use Rattle.serve_app.proofs.PlayLemmas.{told_as, in_told}
 
 shown : (fault : Fault) (stop : ScriptStop) → Shows fault stop → Evaluates (m.wrong fault) (Err stop)
 shown fault (s.Fault kind name line) is = ap m.wrong is
-shown fault (s.Refused name nests line) is = ap m.wrong is
 shown fault (s.Input name why) is = ap m.wrong is
 shown fault s.Read is = absurd is
 shown fault s.Memory is = tt

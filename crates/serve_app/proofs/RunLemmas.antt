@@ -11,10 +11,11 @@ use Rattle.fv_plane.specs.Clip.{Clip}
 use Rattle.fv_plane.specs.declared.format.Info.{Info}
 use Rattle.y4m_stream.specs.Stream.{stream}
 use Rattle.avs_meaning.specs.Faults.{Fault, input}
+use Rattle.avs_meaning.specs.Faults as of_fault
 use Rattle.avs_meaning.specs.declared.fault.ScriptKind.{ScriptKind}
 use Rattle.serve_text.specs.declared.stop.Stop.{Stop}
 use Rattle.serve_text.specs.declared.stop.Stop.TheVariants.{Script, Input, Changed, Read, Write, Memory}
-use Rattle.serve_text.specs.StopKinds.{status_of_stop, Names}
+use Rattle.serve_text.specs.StopKinds.{status_of_stop}
 use Rattle.serve_app.specs.Info.{IsInfoOf, IsToldInfo, InfoShows}
 use Rattle.serve_app.specs.Playing.{PutsClip, PutsInfo}
 use Rattle.serve_app.specs.Reads.{ReadsOnce}
@@ -51,10 +52,6 @@ use Rattle.serve_app.proofs.TextLemmas.{none_is_prefix, frames_are_prefix}
 
 clip_of : (one other : Clip) → a_clip one ≡ a_clip other → one ≡ other
 clip_of one other is = cc
-
-script_status : (kind : ScriptKind) (name : List ℕ) (line : ℕ) (fault : Fault) → Names kind name line fault → status_of_fault fault ≡ 2
-script_status kind name line fault (inl is) = rw is refl
-script_status kind name line fault (inr is) = rw is.1 refl
 
 -- ---- statuses of stops
 
@@ -140,8 +137,7 @@ module _ {F S K E : Type 0} (files : of_files.Ghosts F S) (sink : Ghosts K) (lin
   complete_of : (stop : Stop) → Cause stop → Says lines err said (stop_line stop) → (world : World) (meaning : Meaning) → files.world f ≡ Some world → Means world script meaning
       → (FilesFailed files f g → ⊥) → (Fails → ⊥) → (status_of_stop stop ≡ status_of meaning) ⊎ (status_of_stop stop ≡ 6)
   complete_of (Script kind name line) shown says world meaning is means no_fault no_failure =
-      let wrong = shown.0 world is in
-      inl (sym (script_status kind name line wrong.0 wrong.1.0) ∙ same_status world (a_fault wrong.0) meaning wrong.1.1 means)
+      inl (same_status world (a_fault (of_fault.script kind name line)) meaning (shown.0 world is) means)
   complete_of (Input name fault) shown says world meaning is means no_fault no_failure = inl (same_status world (a_fault (input name fault)) meaning (shown.0 world is) means)
   complete_of (Changed name frame want got) shown says world meaning is means no_fault no_failure = absurd (shown.0 world is)
   complete_of Read shown says world meaning is means no_fault no_failure = absurd (no_fault shown)

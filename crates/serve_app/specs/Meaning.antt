@@ -6,7 +6,7 @@ use Rattle.fv_plane.specs.Picture.{Picture}
 use Rattle.clip_graph.specs.Plan.{Application}
 use Rattle.prefetch.specs.Clips.{clip_at}
 use Rattle.avs_parse.specs.Load.{script_of}
-use Rattle.avs_meaning.specs.Faults.{Fault, script, refused, input}
+use Rattle.avs_meaning.specs.Faults.{Fault, script, input}
 use Rattle.avs_meaning.specs.Crews.{Numbers}
 use Rattle.avs_meaning.specs.Meaning as m
 use Rattle.avs_meaning.specs.Outside.{outside_of}
@@ -63,7 +63,6 @@ MeansSomething = (world : World) (name : List ℕ) → HasMeaning world name
 
 abbrev pub status_of_fault : Fault → ℕ
 status_of_fault (script kind name line) = 2
-status_of_fault (refused name) = 2
 status_of_fault (input name fault) = 3
 
 -- the status of a render, where nothing fails

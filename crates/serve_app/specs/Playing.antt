@@ -6,12 +6,12 @@ use Rattle.fv_io.specs.Sink.{Puts}
 use Rattle.fv_io.specs.World.{World}
 use Rattle.fv_plane.specs.Clip.{Clip}
 use Rattle.y4m_stream.specs.Stream.{stream}
-use Rattle.avs_meaning.specs.Faults.{Fault, input}
+use Rattle.avs_meaning.specs.Faults.{input}
+use Rattle.avs_meaning.specs.Faults as of_fault
 use Rattle.avs_meaning.specs.Meaning as m
 use Rattle.avs_eval.specs.declared.evaluation.Opened.{Opened}
 use Rattle.serve_app.specs.Info.{IsInfoOf}
 use Rattle.serve_app.specs.Meaning.{MeansClip}
-use Rattle.serve_text.specs.StopKinds.{Names}
 use Rattle.serve_text.specs.declared.stop.Stop.{Stop}
 use Rattle.serve_text.specs.declared.stop.Stop.TheVariants as of_stop
 
@@ -20,7 +20,7 @@ use Rattle.serve_text.specs.declared.stop.Stop.TheVariants as of_stop
 -- the answer is the script's meaning
 abbrev pub Tells : m.Meaning → Result Opened Stop → Type 0
 Tells meaning (Ok opened) = meaning ≡ m.clip opened.graph opened.root opened.prefetch
-Tells meaning (Err (of_stop.Script kind name line)) = (fault : Fault) × (Names kind name line fault × (meaning ≡ m.wrong fault))
+Tells meaning (Err (of_stop.Script kind name line)) = meaning ≡ m.wrong (of_fault.script kind name line)
 Tells meaning (Err (of_stop.Input name fault)) = meaning ≡ m.wrong (input name fault)
 Tells meaning (Err (of_stop.Changed name frame want got)) = ⊥
 Tells meaning (Err of_stop.Read) = Unit {0}

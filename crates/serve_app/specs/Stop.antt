@@ -7,8 +7,8 @@ use Rattle.fv_plane.specs.Clip.{Clip}
 use Rattle.fv_plane.specs.declared.format.Info.{Info}
 use Rattle.prefetch.specs.Rendered.{PutsNothing}
 use Rattle.avs_meaning.specs.Faults.{Fault, input}
+use Rattle.avs_meaning.specs.Faults as of_fault
 use Rattle.avs_meaning.specs.declared.fault.ScriptKind.{ScriptKind}
-use Rattle.serve_text.specs.StopKinds.{Names}
 use Rattle.serve_text.specs.declared.stop.Stop.{Stop}
 use Rattle.serve_text.specs.declared.stop.Stop.TheVariants as of_stop
 use Rattle.serve_app.specs.Meaning.{MeansClip, Means, a_fault}
@@ -33,8 +33,7 @@ HasFault told script fault = InWorld told (λ world. Means world script (a_fault
 
 -- where a world is told, the first fault of the script is of this kind, in the text of this name, at this line
 abbrev pub IsScriptFault : Option World → List ℕ → ScriptKind → List ℕ → ℕ → Type 0
-IsScriptFault told script kind name line =
-    InWorld told (λ world. (fault : Fault) × (Names kind name line fault × Means world script (a_fault fault)))
+IsScriptFault told script kind name line = HasFault told script (of_fault.script kind name line)
 
 -- a file changed, which no file of a told world does
 abbrev pub HasChanged : Option World → Type 0

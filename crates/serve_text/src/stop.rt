@@ -1,6 +1,6 @@
 // `Stop`: why a run ends early, with its exit status.
 ghost use Rattle.std.specs.Prelude.{◌≡◌};
-ghost use Rattle.serve_text.specs.StopKinds.{refusal, status_of_stop};
+ghost use Rattle.serve_text.specs.StopKinds.{status_of_stop};
 
 use avs_meaning::{InputFault, ScriptKind, ScriptStop};
 use fv_io::Text;
@@ -52,17 +52,6 @@ impl Stop {
     }
 }
 
-// How a text is refused: it nests too deep, or another way.
-fn refusal(nests: bool) -> ScriptKind
-    ensures { result ≡ refusal nests }
-{
-    if nests {
-        ScriptKind::NestLimit
-    } else {
-        ScriptKind::Syntax
-    }
-}
-
 impl From<ScriptStop> for Stop {
     ghost use Rattle.std.specs.Prelude.{◌≡◌};
     ghost use Rattle.serve_text.specs.StopKinds.{stop_of};
@@ -72,11 +61,6 @@ impl From<ScriptStop> for Stop {
     fn from(of: ScriptStop) -> Stop {
         match of {
             ScriptStop::Fault { kind, name, line } => Stop::Script { kind, name, line },
-            ScriptStop::Refused { name, nests, line } => Stop::Script {
-                kind: refusal(nests),
-                name,
-                line,
-            },
             ScriptStop::Input { name, fault } => Stop::Input { name, fault },
             ScriptStop::Read => Stop::Read,
             ScriptStop::Memory => Stop::Memory,
