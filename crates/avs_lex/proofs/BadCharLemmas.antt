@@ -2,7 +2,7 @@
 use Rattle.std.proofs.Common.{◌≡◌, ◌≢◌, ◌⊎◌, ◌∙◌, ℕ, ℤ, pos, zero, suc, ◌+◌, ◌-◌, ◌<◌, ◌≤◌, ap, sym, refl, arith, List, [], ◌∷◌, ◌++◌, length, take, drop, get_or, Bool, true, false, ◌&&◌, ◌||◌, ◌==◌, nat_le, nat_eq, Option, Some, None, find, codes, lit<, length-drop, length-take-le, inl, inr}
 use Rattle.std.specs.List.{list_all, starts_with, prefix_len, position_or_len}
 use Rattle.std.specs.Char.{is_ascii_digit, is_ascii_hexdigit}
-use Rattle.std.specs.Int.{cast_signed, w32}
+use Rattle.std.specs.Int.{cast_signed, w64}
 use Rattle.std.proofs.lemmas.Bool.Decides.{nat_tests}
 use Rattle.std.proofs.lemmas.List.{take-append-drop, drop-take}
 use Rattle.std.proofs.lemmas.List.Sums.{prefix_len_passes}
@@ -11,7 +11,7 @@ use Rattle.avs_lex.specs.declared.fault.LexKind.TheVariants.{BadChar, FloatLiter
 use Rattle.avs_lex.specs.declared.token.TokenKind.{TokenKind}
 use Rattle.avs_lex.specs.declared.token.TokenKind.TheVariants as k
 use Rattle.avs_lex.specs.Characters.{Text, newline, quote, hash, dollar, star, dot, slash, left_bracket, backslash, is_newline, is_blank, begins_name}
-use Rattle.avs_lex.specs.Spelling.{spelling, pairs, singles, first_of, through, value, triple, IsDecimal, IsHexadecimal, Spells}
+use Rattle.avs_lex.specs.Spelling.{is_number, hexadecimal_digits, spelling, pairs, singles, first_of, through, value, triple, IsDecimal, IsHexadecimal, Spells}
 use Rattle.avs_lex.specs.Piece.{front, is_end_line, ends_line, decimal, hexadecimal, string, string_to, comment_to, nested_end, line_end, joined, punctuation, punctuation_of}
 use Rattle.avs_lex.specs.Tokens.{begins_line, LexFault}
 use Rattle.avs_lex.specs.BeginsNothing.{IsJoined, BeginsNothing}
@@ -28,7 +28,7 @@ decimal_other rest is =
     let size = prefix_len is_ascii_digit rest in
     either (get_or rest size 0 == dot) ⊥
     (λ e. let same : Fault FloatLiteral ≡ Fault BadChar = rw e at is in cc same)
-    (λ e. either (nat_le (value 10 (take size rest)) 2147483647) ⊥
+    (λ e. either (is_number (pos (value 10 (take size rest)))) ⊥
     (λ f. let same : One (k.Int (pos (value 10 (take size rest)))) size ≡ Fault BadChar = rw (e, f) at is in cc same)
     (λ f. let same : Fault IntRange ≡ Fault BadChar = rw (e, f) at is in cc same))
 
@@ -37,8 +37,8 @@ hexadecimal_none rest is =
     let size = prefix_len is_ascii_hexdigit (drop 1 rest) in
     either (size == 0) (size ≡ 0)
     (λ e. grind (arith, nat_tests))
-    (λ e. either (nat_le size 8) (size ≡ 0)
-    (λ f. let same : One (k.Int (cast_signed w32 (value 16 (take size (drop 1 rest))))) (1 + size) ≡ Fault BadChar = rw (e, f) at is in cc same)
+    (λ e. either (nat_le size hexadecimal_digits) (size ≡ 0)
+    (λ f. let same : One (k.Int (cast_signed w64 (value 16 (take size (drop 1 rest))))) (1 + size) ≡ Fault BadChar = rw (e, f) at is in cc same)
     (λ f. let same : Fault IntRange ≡ Fault BadChar = rw (e, f) at is in cc same))
 
 string_to_other : (end : Option ℕ) → string_to end ≢ Fault BadChar

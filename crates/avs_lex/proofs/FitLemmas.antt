@@ -2,7 +2,7 @@
 use Rattle.std.proofs.Common.{◌≡◌, ◌∙◌, ℕ, ◌+◌, ◌-◌, ◌<◌, ◌≤◌, sym, refl, ap, arith, [], ◌∷◌, ◌++◌, length, take, drop, get_or, replicate, Bool, true, false, not, ◌&&◌, ◌||◌, ◌==◌, nat_lt, nat_le, Option, Some, None, nat_eq, ◌⊎◌, inl, inr, length-take, length-drop, length-take-le, get_or-take, codes, lit<, pos}
 use Rattle.std.specs.List.{starts_with, prefix_len, position_or_len}
 use Rattle.std.specs.Char.{is_ascii_digit, is_ascii_hexdigit}
-use Rattle.std.specs.Int.{cast_signed, w32}
+use Rattle.std.specs.Int.{cast_signed, w64}
 use Rattle.std.proofs.lemmas.Bool.Decides.{nat_tests}
 use Rattle.std.proofs.lemmas.List.{length-replicate, take-append-drop, get_or_past, get_or-drop, take-take, drop-take, drop-drop}
 use Rattle.std.proofs.lemmas.List.Sums.{prefix_len-le-length, prefix_len_passes, passes_at_first}
@@ -12,7 +12,7 @@ use Rattle.avs_lex.specs.declared.fault.LexKind.{LexKind}
 use Rattle.avs_lex.specs.declared.token.TokenKind.{TokenKind}
 use Rattle.avs_lex.specs.declared.token.TokenKind.TheVariants.{Ident}
 use Rattle.avs_lex.specs.Characters.{Text, newline, quote, hash, dollar, star, dot, slash, left_bracket, backslash, right_bracket, is_newline, is_blank, begins_name, continues_name}
-use Rattle.avs_lex.specs.Spelling.{through, value, spelling, pairs, singles, first_of, triple, quotes_of, IsDecimal, IsHexadecimal, IsQuoted, Spells}
+use Rattle.avs_lex.specs.Spelling.{through, is_number, hexadecimal_digits, value, spelling, pairs, singles, first_of, triple, quotes_of, IsDecimal, IsHexadecimal, IsQuoted, Spells}
 use Rattle.avs_lex.specs.Piece.{nested_end, comment_to, string_to, string, line_end, joined, decimal, hexadecimal, punctuation, punctuation_of, front, piece, is_end_line, IsWithin}
 use Rattle.avs_lex.proofs.TestLemmas.{by_test, either}
 use Rattle.avs_lex.proofs.NumberLemmas.{list_all-taken}
@@ -89,14 +89,14 @@ name rest some first =
 decimal_fits : (rest : Text) → 0 < length rest → is_ascii_digit (get_or rest 0 0) ≡ true → IsFit rest (decimal rest)
 decimal_fits rest some first =
     let size = prefix_len is_ascii_digit rest in
-    let number = value 10 (take size rest) in
+    let number = pos (value 10 (take size rest)) in
     let ends = run is_ascii_digit rest digit-ascii (taken is_ascii_digit rest some first) in
     let goal = IsFit rest (decimal rest) in
     either (get_or rest size 0 == dot) goal
     (λ e. rw e fault)
-    (λ e. either (nat_le number 2147483647) goal
+    (λ e. either (is_number number) goal
     (λ f.
-    let spelled : IsDecimal (pos number) (take size rest) = record { some = rw (length-take-le size rest ends.within) ends.some; digits = list_all-taken is_ascii_digit rest; small = f; is = refl } in
+    let spelled : IsDecimal number (take size rest) = record { some = rw (length-take-le size rest ends.within) ends.some; digits = list_all-taken is_ascii_digit rest; small = f; is = refl } in
     rw (e, f) (record { fits = (ends, inl spelled) }))
     (λ f. rw (e, f) fault))
 
@@ -107,7 +107,7 @@ hexadecimal_fits rest first =
     let goal = IsFit rest (hexadecimal rest) in
     either (size == 0) goal
     (λ e. rw e fault)
-    (λ e. either (nat_le size 8) goal
+    (λ e. either (nat_le size hexadecimal_digits) goal
     (λ f.
     let positive : 0 < size = grind (arith, nat_tests) in
     let within : 1 + size ≤ length rest = omega (arith, prefix_len-le-length is_ascii_hexdigit digits, length-drop 1 rest) in
@@ -118,7 +118,7 @@ hexadecimal_fits rest first =
     let long : length (take (1 + size) rest) ≡ 1 + size = length-take-le (1 + size) rest within in
     let opens : get_or (take (1 + size) rest) 0 0 ≡ dollar = get_or-take (1 + size) rest 0 0 (omega arith) ∙ first in
     let written : drop 1 (take (1 + size) rest) ≡ take size digits = drop-take 1 size rest in
-    let spelled : IsHexadecimal (cast_signed w32 (value 16 (take size digits))) (take (1 + size) rest) =
+    let spelled : IsHexadecimal (cast_signed w64 (value 16 (take size digits))) (take (1 + size) rest) =
     record { some = omega (arith, long); few = grind (arith, nat_tests); opens = opens; digits = rw written (list_all-taken is_ascii_hexdigit digits); is = rw written refl } in
     rw (e, f) (record { fits = (ends, inr spelled) }))
     (λ f. rw (e, f) fault))

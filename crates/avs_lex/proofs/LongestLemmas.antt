@@ -2,7 +2,7 @@
 use Rattle.std.proofs.Common.{◌≡◌, ◌∙◌, inl, inr, ℕ, ℤ, pos, zero, suc, ◌+◌, ◌-◌, ◌<◌, ◌≤◌, ap, sym, refl, arith, List, [], ◌∷◌, ◌++◌, length, take, drop, get_or, Bool, true, false, ◌&&◌, ◌==◌, nat_le, nat_eq, Option, Some, None, length-drop, length-take-le, get_or-take, lit<, lit≤, ◌||◌}
 use Rattle.std.specs.List.{list_all, starts_with, prefix_len}
 use Rattle.std.specs.Char.{is_ascii_digit, is_ascii_hexdigit}
-use Rattle.std.specs.Int.{cast_signed, w32}
+use Rattle.std.specs.Int.{cast_signed, w64}
 use Rattle.std.proofs.lemmas.Bool.Decides.{nat_tests}
 use Rattle.std.proofs.lemmas.List.{take-append-drop, drop-append-le, drop-take, length_push, get_or_append_left}
 use Rattle.std.proofs.lemmas.List.Sums.{prefix_len_passes}
@@ -12,7 +12,7 @@ use Rattle.avs_lex.specs.declared.token.Token.{Token}
 use Rattle.avs_lex.specs.declared.token.TokenKind.{TokenKind}
 use Rattle.avs_lex.specs.declared.token.TokenKind.TheVariants.{Ident, Int, Str, End, Equal, NotEqual, LessEqual, GreaterEqual, PlusPlus, AndAnd, OrOr}
 use Rattle.avs_lex.specs.Characters.{Text, quote, dollar, dot, begins_name, continues_name}
-use Rattle.avs_lex.specs.Spelling.{spelling, through, value, triple, quotes_of, IsName, IsDecimal, IsHexadecimal, IsQuoted, Spells}
+use Rattle.avs_lex.specs.Spelling.{is_number, hexadecimal_digits, spelling, through, value, triple, quotes_of, IsName, IsDecimal, IsHexadecimal, IsQuoted, Spells}
 use Rattle.avs_lex.specs.Piece.{front, piece, is_end_line, decimal, hexadecimal, string, string_to}
 use Rattle.avs_lex.specs.Tokens.{begins_line, piece_at, token_at, ReadTo, begin, blank, token, Tokens}
 use Rattle.avs_lex.specs.Laws.{IsLongest}
@@ -45,11 +45,11 @@ name_longest open_parentheses rest kind size end is longer within name =
 decimal_size : (rest : Text) (kind : TokenKind) (size : ℕ) → decimal rest ≡ One kind size → size ≡ prefix_len is_ascii_digit rest
 decimal_size rest kind size is =
     let digits = prefix_len is_ascii_digit rest in
-    let number = value 10 (take digits rest) in
+    let number = pos (value 10 (take digits rest)) in
     either (get_or rest digits 0 == dot) (size ≡ digits)
     (λ e. let same : Fault FloatLiteral ≡ One kind size = rw e at is in cc same)
-    (λ e. either (nat_le number 2147483647) (size ≡ digits)
-    (λ f. let same : One (Int (pos number)) digits ≡ One kind size = rw (e, f) at is in cc same)
+    (λ e. either (is_number number) (size ≡ digits)
+    (λ f. let same : One (Int number) digits ≡ One kind size = rw (e, f) at is in cc same)
     (λ f. let same : Fault IntRange ≡ One kind size = rw (e, f) at is in cc same))
 
 hexadecimal_size : (rest : Text) (kind : TokenKind) (size : ℕ) → hexadecimal rest ≡ One kind size → size ≡ 1 + prefix_len is_ascii_hexdigit (drop 1 rest)
@@ -57,8 +57,8 @@ hexadecimal_size rest kind size is =
     let digits = prefix_len is_ascii_hexdigit (drop 1 rest) in
     either (digits == 0) (size ≡ 1 + digits)
     (λ e. let same : Fault BadChar ≡ One kind size = rw e at is in cc same)
-    (λ e. either (nat_le digits 8) (size ≡ 1 + digits)
-    (λ f. let same : One (Int (cast_signed w32 (value 16 (take digits (drop 1 rest))))) (1 + digits) ≡ One kind size = rw (e, f) at is in cc same)
+    (λ e. either (nat_le digits hexadecimal_digits) (size ≡ 1 + digits)
+    (λ f. let same : One (Int (cast_signed w64 (value 16 (take digits (drop 1 rest))))) (1 + digits) ≡ One kind size = rw (e, f) at is in cc same)
     (λ f. let same : Fault IntRange ≡ One kind size = rw (e, f) at is in cc same))
 
 pub front_hexadecimal : (open_parentheses : ℕ) (rest : Text) → get_or rest 0 0 ≡ dollar → front open_parentheses rest ≡ hexadecimal rest

@@ -1,6 +1,6 @@
 -- What is written word by word is read word by word.
 use Rattle.std.proofs.Common.{◌≡◌, ◌≢◌, ◌∙◌, inl, inr, ℕ, zero, suc, ◌+◌, ◌<◌, ◌≤◌, ap, sym, refl, arith, [], ◌∷◌, ◌++◌, length, take, drop, get_or, Bool, true, false, ◌&&◌, ◌==◌, nat_le, nat_eq, Some, get_or-take, codes, lit<, ℤ}
-use Rattle.std.specs.Int.{cast_signed, w32}
+use Rattle.std.specs.Int.{cast_signed, w64}
 use Rattle.std.proofs.lemmas.List.Sums.{prefix_len_is}
 use Rattle.std.proofs.lemmas.List.{get_or-drop, get_or_append_left, take_at, drop-append-le}
 use Rattle.avs_lex.proofs.WordLemmas.{starts_with_at, starts_with_more, starts_with_long, starts_with_take, through_more}
@@ -12,7 +12,7 @@ use Rattle.avs_lex.specs.declared.fault.LexKind.TheVariants.{BadChar}
 use Rattle.avs_lex.specs.declared.token.TokenKind.{TokenKind}
 use Rattle.avs_lex.specs.declared.token.TokenKind.TheVariants.{Ident, Int, Str, Newline, End}
 use Rattle.avs_lex.specs.Characters.{Text, newline, quote, dollar, dot, backslash, is_blank, begins_name, continues_name}
-use Rattle.avs_lex.specs.Spelling.{spelling, through, value, triple, quotes_of, IsName, IsDecimal, IsHexadecimal, IsQuoted, Spells}
+use Rattle.avs_lex.specs.Spelling.{hexadecimal_digits, spelling, through, value, triple, quotes_of, IsName, IsDecimal, IsHexadecimal, IsQuoted, Spells}
 use Rattle.avs_lex.specs.Piece.{front, joined, decimal, hexadecimal, string, is_end_line, ends_line, without_blanks}
 use Rattle.avs_lex.proofs.TestLemmas.{either}
 use Rattle.avs_lex.proofs.SpellingLemmas.{is_punctuation}
@@ -80,13 +80,13 @@ decimal_front n open_parentheses (c ∷ bytes) rest number blank =
     let other : begins_name c ≡ false = grind (arith, nat_tests) in
     front_decimal open_parentheses (c ∷ (bytes ++ rest)) other digit ∙ decimal_word n (c ∷ bytes) rest number blank
 
-hexadecimal_word : (n : ℤ) (digits rest : Text) → 0 < length digits → length digits ≤ 8 → list_all is_ascii_hexdigit digits ≡ true → n ≡ cast_signed w32 (value 16 digits) → BeginsBlank rest
+hexadecimal_word : (n : ℤ) (digits rest : Text) → 0 < length digits → length digits ≤ hexadecimal_digits → list_all is_ascii_hexdigit digits ≡ true → n ≡ cast_signed w64 (value 16 digits) → BeginsBlank rest
     → hexadecimal (dollar ∷ (digits ++ rest)) ≡ One (Int n) (1 + length digits)
 hexadecimal_word n digits rest some few all is blank =
     let size = ends_run is_ascii_hexdigit digits rest refl refl blank all in
     let taken : take (length digits) (digits ++ rest) ≡ digits = take_at digits rest (length digits) refl in
     let any : (length digits == 0) ≡ false = grind (arith, nat_tests) in
-    let short : nat_le (length digits) 8 ≡ true = grind (arith, nat_tests) in
+    let short : nat_le (length digits) hexadecimal_digits ≡ true = grind (arith, nat_tests) in
     rw (size, any, short, taken, is) refl
 
 hexadecimal_front : (n : ℤ) (open_parentheses : ℕ) (bytes rest : Text) → IsHexadecimal n bytes → BeginsBlank rest → front open_parentheses (bytes ++ rest) ≡ One (Int n) (length bytes)
@@ -94,7 +94,7 @@ unfolding front
 hexadecimal_front n open_parentheses [] rest number blank = absurd (omega (arith, number.some))
 hexadecimal_front n open_parentheses (c ∷ digits) rest number blank =
     let size : 1 + length digits ≡ length (c ∷ digits) = omega arith in
-    let few : length digits ≤ 8 = omega (arith, number.few) in
+    let few : length digits ≤ hexadecimal_digits = omega (arith, number.few) in
     let some : 0 < length digits = omega (arith, number.some) in
     rw number.opens (hexadecimal_word n digits rest some few number.digits number.is blank ∙ ap (One (Int n)) size)
 

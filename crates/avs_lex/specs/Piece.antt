@@ -3,14 +3,14 @@
 use Rattle.std.specs.Prelude.{ℕ, ◌+◌, ◌-◌, [], ◌∷◌, ◌++◌, length, take, drop, slice_index, codes, nat_eq, nat_le, Bool, ◌&&◌, ◌||◌, ◌==◌, if◌then◌else◌, Option, Some, None, pos, ◌<◌, ◌≤◌, ⊤}
 use Rattle.std.specs.List.{starts_with, prefix_len, position_or_len}
 use Rattle.std.specs.Char.{is_ascii_digit, is_ascii_hexdigit}
-use Rattle.std.specs.Int.{cast_signed, w32}
+use Rattle.std.specs.Int.{cast_signed, w64}
 use Rattle.avs_lex.specs.declared.piece.Piece.{Piece}
 use Rattle.avs_lex.specs.declared.piece.Piece.TheVariants.{Blank, One, EndOfScript, Fault}
 use Rattle.avs_lex.specs.declared.fault.LexKind.TheVariants.{FloatLiteral, IntRange, OpenString, OpenComment, BadChar}
 use Rattle.avs_lex.specs.declared.token.TokenKind.{TokenKind}
 use Rattle.avs_lex.specs.declared.token.TokenKind.TheVariants.{Ident, Int, Str, Newline}
 use Rattle.avs_lex.specs.Characters.{Text, newline, quote, hash, dollar, star, dot, slash, left_bracket, backslash, right_bracket, is_newline, is_blank, begins_name, continues_name}
-use Rattle.avs_lex.specs.Spelling.{through, value, spelling, pairs, singles, first_of, triple}
+use Rattle.avs_lex.specs.Spelling.{through, is_number, hexadecimal_digits, value, spelling, pairs, singles, first_of, triple}
 
 -- The offset after a `[* *]` comment, where n bytes of it are read and this many such comments are open inside it.
 abbrev pub nested_end : ℕ → ℕ → Text → Option ℕ
@@ -58,18 +58,18 @@ joined rest =
     let blanks = prefix_len is_blank (drop 1 rest) in
     if length rest == 1 + blanks then Blank (1 + blanks) else (if slice_index rest (1 + blanks) == newline then Blank (2 + blanks) else Fault BadChar)
 
--- digits without a `.` after them; at most 2147483647
+-- digits of a number, without a `.` after them
 abbrev pub decimal : Text → Piece
 decimal rest =
     let size = prefix_len is_ascii_digit rest in
-    let number = value 10 (take size rest) in
-    if slice_index rest size == dot then Fault FloatLiteral else (if nat_le number 2147483647 then One (Int (pos number)) size else Fault IntRange)
+    let number = pos (value 10 (take size rest)) in
+    if slice_index rest size == dot then Fault FloatLiteral else (if is_number number then One (Int number) size else Fault IntRange)
 
--- `$` and 1 to 8 hexadecimal digits, in two's complement
+-- `$` and 1 to 16 hexadecimal digits, in two's complement
 abbrev pub hexadecimal : Text → Piece
 hexadecimal rest =
     let size = prefix_len is_ascii_hexdigit (drop 1 rest) in
-    if size == 0 then Fault BadChar else (if nat_le size 8 then One (Int (cast_signed w32 (value 16 (take size (drop 1 rest))))) (1 + size) else Fault IntRange)
+    if size == 0 then Fault BadChar else (if nat_le size hexadecimal_digits then One (Int (cast_signed w64 (value 16 (take size (drop 1 rest))))) (1 + size) else Fault IntRange)
 
 abbrev pub punctuation_of : Option TokenKind → Piece
 punctuation_of None = Fault BadChar

@@ -1,8 +1,8 @@
 -- How tokens are spelled (AviSynth+ wiki, 'Grammar': "The full AviSynth grammar").
-use Rattle.std.specs.Prelude.{◌≡◌, ◌⊎◌, ℕ, ◌+◌, ◌*◌, ◌-◌, ◌<◌, ◌≤◌, ℤ, pos, List, [], ◌∷◌, length, take, drop, replicate, slice_index, codes, nat_eq, nat_le, Option, Some, None, IsTrue, find, fold, if◌then◌else◌}
+use Rattle.std.specs.Prelude.{◌≡◌, ◌⊎◌, ℕ, ◌+◌, ◌*◌, ◌-◌, ◌^◌, ◌<◌, ◌≤◌, ℤ, pos, negsuc, List, [], ◌∷◌, length, take, drop, replicate, slice_index, codes, nat_eq, nat_lt, Bool, Option, Some, None, IsTrue, find, fold, if◌then◌else◌}
 use Rattle.std.specs.List.{list_all, starts_with}
 use Rattle.std.specs.Char.{is_ascii_digit, is_ascii_hexdigit, digit_value}
-use Rattle.std.specs.Int.{cast_signed, w32}
+use Rattle.std.specs.Int.{cast_signed, w64}
 use Rattle.avs_lex.specs.declared.token.TokenKind.{TokenKind}
 use Rattle.avs_lex.specs.declared.token.TokenKind.TheVariants.{Ident, Int, Str, Newline, End, LeftParen, RightParen, LeftBrace, RightBrace, Comma, Dot, Assign, Equal, NotEqual, Less, LessEqual, Greater, GreaterEqual, Plus, PlusPlus, Minus, Times, Divide, Remainder, AndAnd, OrOr, Not, Question, Colon}
 use Rattle.avs_lex.specs.Characters.{Text, quote, dollar, begins_name, continues_name}
@@ -60,6 +60,15 @@ pub record IsName (bytes : Text) : Type 0 where
   pub begins : IsTrue (begins_name (slice_index bytes 0))
   pub continues : IsTrue (list_all continues_name bytes)
 
+-- The numbers of scripts have 64 bits: they go from -2^63 to 2^63 - 1.
+abbrev pub is_number : ℤ → Bool
+is_number (pos n) = nat_lt n (2 ^ 63)
+is_number (negsuc n) = nat_lt n (2 ^ 63)
+
+-- how many hexadecimal digits 64 bits have
+abbrev pub hexadecimal_digits : ℕ
+hexadecimal_digits = 16
+
 -- the number that these digits write
 abbrev pub value : ℕ → Text → ℕ
 value base digits = fold (λ n c. base * n + digit_value c) 0 digits
@@ -68,16 +77,16 @@ value base digits = fold (λ n c. base * n + digit_value c) 0 digits
 pub record IsDecimal (n : ℤ) (bytes : Text) : Type 0 where
   pub some : 0 < length bytes
   pub digits : IsTrue (list_all is_ascii_digit bytes)
-  pub small : IsTrue (nat_le (value 10 bytes) 2147483647)
+  pub small : IsTrue (is_number (pos (value 10 bytes)))
   pub is : n ≡ pos (value 10 bytes)
 
 -- `$` and hexadecimal digits, in two's complement
 pub record IsHexadecimal (n : ℤ) (bytes : Text) : Type 0 where
   pub some : 1 < length bytes
-  pub few : length bytes ≤ 9
+  pub few : length bytes ≤ 1 + hexadecimal_digits
   pub opens : slice_index bytes 0 ≡ dollar
   pub digits : IsTrue (list_all is_ascii_hexdigit (drop 1 bytes))
-  pub is : n ≡ cast_signed w32 (value 16 (drop 1 bytes))
+  pub is : n ≡ cast_signed w64 (value 16 (drop 1 bytes))
 
 -- the size up to the end of the first occurrence of the word, plus n
 abbrev pub through : Text → ℕ → Text → Option ℕ

@@ -1,13 +1,16 @@
 // Decimal and hexadecimal numbers at the start of a text.
-ghost use Rattle.std.specs.Prelude.{◌≡◌, ◌<◌, ◌≤◌, ◌^◌, length, pos, nat_le, Some, None, if◌then◌else◌, IsTrue};
+ghost use Rattle.std.specs.Prelude.{◌≡◌, ◌<◌, ◌≤◌, length, pos, Some, None, if◌then◌else◌, IsTrue};
 ghost use Rattle.std.specs.List.{list_all};
 ghost use Rattle.std.specs.Char.{digit_value, is_ascii_hexdigit};
 ghost use Rattle.avs_lex.specs.Piece as s;
-ghost use Rattle.avs_lex.specs.Spelling.{value};
+ghost use Rattle.avs_lex.specs.Spelling.{is_number, hexadecimal_digits, value};
 
 use crate::piece::Piece;
 use crate::run::{byte_at, digits_len, hexdigits_len};
 use crate::{LexKind, TokenKind};
+
+// How many hexadecimal digits 64 bits have.
+const HEXADECIMAL_DIGITS: usize = 16;
 
 // The value of a digit of base 36, and 36 for any other character.
 fn digit_value(digit: u8) -> u8
@@ -23,23 +26,21 @@ fn digit_value(digit: u8) -> u8
 }
 
 // The number that decimal digits write, if it is in range.
-fn decimal_value(digits: &[u8]) -> Option<i32>
-    ensures { let number = value 10 digits.now in
-        result ≡ (if nat_le number 2147483647 then Some (pos number) else None) }
+fn decimal_value(digits: &[u8]) -> Option<i64>
+    ensures { let number = pos (value 10 digits.now) in result ≡ (if is_number number then Some number else None) }
 {
     let mut number: u64 = 0;
     for digit in digits {
-        number = 10 * number + u64::from(digit_value(*digit));
-        if number > 2_147_483_647 {
-            return None;
-        }
+        number = number
+            .checked_mul(10)?
+            .checked_add(u64::from(digit_value(*digit)))?;
     }
-    Some(number as i32)
+    i64::try_from(number).ok()
 }
 
 // The number that hexadecimal digits write.
-fn hexadecimal_value(digits: &[u8]) -> u32
-    requires few { length digits.now ≤ 8 }
+fn hexadecimal_value(digits: &[u8]) -> u64
+    requires few { length digits.now ≤ hexadecimal_digits }
     requires digits { IsTrue (list_all is_ascii_hexdigit digits.now) }
     ensures { result ≡ value 16 digits.now }
 {
@@ -47,7 +48,7 @@ fn hexadecimal_value(digits: &[u8]) -> u32
     for digit in digits {
         number = 16 * number + u64::from(digit_value(*digit));
     }
-    number as u32
+    number
 }
 
 /// What a decimal digit begins.
@@ -74,7 +75,7 @@ pub fn hexadecimal(rest: &[u8]) -> Piece
     if size == 0 {
         return Piece::Fault(LexKind::BadChar);
     }
-    if size > 8 {
+    if size > HEXADECIMAL_DIGITS {
         return Piece::Fault(LexKind::IntRange);
     }
     let number = hexadecimal_value(&rest[..size]);

@@ -5,8 +5,8 @@
 pub enum TokenKind {
     /// A letter or `_`, then letters, digits and `_`.
     Ident,
-    /// A number of 32 bits.
-    Int(i32),
+    /// A number of 64 bits.
+    Int(i64),
     /// A string between quotes.
     Str,
     /// A newline outside parentheses.

@@ -48,9 +48,9 @@ a_while : seen (meaning_of (then_ (assign (codes "x") (int (pos 0))) 1
 unfolding to_clip builtin_of builtins bind gcd
 a_while = refl
 
--- x = 0, for (i = 2147483646, 2147483647) { x = x + 1 } and BlankClip(length=x, ..)
+-- x = 0, for (i = 9223372036854775806, 9223372036854775807) { x = x + 1 } and BlankClip(length=x, ..)
 a_for : seen (meaning_of (then_ (assign (codes "x") (int (pos 0))) 1
-    (then_ (for (codes "i") (int (pos 2147483646)) (int (pos 2147483647)) None
+    (then_ (for (codes "i") (int (pos 9223372036854775806)) (int (pos 9223372036854775807)) None
     (then_ (assign (codes "x") (between op.Plus (name (codes "x") 2) (int (pos 1)) 2)) 2 no_more)) 2
     (then_ (value (dots (name (codes "x") 3) 3)) 3 no_more))) 3) ≡ shown 0 2 1 []
 unfolding to_clip builtin_of builtins bind gcd is_past turn

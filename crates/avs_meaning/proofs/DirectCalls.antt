@@ -1,5 +1,5 @@
 -- What ApplyRange calls is called as if it stood there by itself: the bound on its arguments changes nothing.
-use Rattle.std.proofs.Common.{◌≡◌, ℕ, zero, suc, ◌<◌, ◌≤◌, ◌+◌, List, [], ◌∷◌, length, map, Option, Some, None, Ok, Err, refl, ap, arith}
+use Rattle.std.proofs.Common.{◌≡◌, ℕ, zero, suc, ◌<◌, ◌≤◌, ◌+◌, List, [], ◌∷◌, length, map, Bool, true, false, ◌&&◌, if◌then◌else◌, Option, Some, None, Ok, Err, refl, ap, arith}
 use Rattle.std.proofs.lemmas.List.{length-map}
 use Rattle.avs_tree.specs.Tree.{Block}
 use Rattle.avs_values.specs.Binding.{Bound}
@@ -8,17 +8,23 @@ use Rattle.avs_values.specs.declared.binding.Given.{Given}
 use Rattle.avs_values.specs.declared.value.Value.{Value}
 use Rattle.avs_values.specs.declared.value.Value.TheVariants as v
 use Rattle.avs_meaning.proofs.TextArguments.{HasForm, has_form}
+use Rattle.avs_meaning.specs.Arguments.{is_filter_number, out_of_range}
 use Rattle.avs_meaning.specs.Calls.{Callee, user, builtin, takes, Fit, fit_or_last, unnamed}
 use Rattle.avs_meaning.specs.Expressions.{Caller, called, ranged_by, applied, apply_by, call_within, apply}
 use Rattle.avs_meaning.specs.Filters.{ranged}
 use Rattle.avs_meaning.specs.Outside.{Outside}
-use Rattle.avs_meaning.specs.State.{State, Outcome, Run, and_then}
+use Rattle.avs_meaning.specs.State.{State, Outcome, Run, and_then, fails}
 use Rattle.avs_meaning.specs.declared.builtin.Builtin.TheVariants as b
 
 -- what follows gives the same
 followed : {X Y : Type 0} (o : Outcome X) (f g : X → Run Y) → ((x : X) (s : State) → f x s ≡ g x s) → and_then o f ≡ and_then o g
 followed (Ok ended) f g same = same ended.0 ended.1
 followed (Err fault) f g same = refl
+
+-- what is done where a test holds gives the same
+either_way : {X : Type 0} (holds : Bool) (x y other : Run X) (s : State) → x s ≡ y s → (if holds then x else other) s ≡ (if holds then y else other) s
+either_way true x y other s same = same
+either_way false x y other s same = refl
 
 -- The two call alike with fewer arguments than these.
 abbrev pub Alike : Caller → Caller → ℕ → Type 0
@@ -29,7 +35,7 @@ range_alike : (again other : Caller) (count : ℕ) → Alike again other count �
 range_alike again other count same (v.Clip i ∷ v.Int first ∷ v.Int last ∷ v.Text word ∷ []) rest here line s few =
     let args = map unnamed (v.Clip i ∷ rest) in
     let fewer : length args < count = let e : length args ≡ suc (length rest) = length-map (v.Clip i ∷ rest) unnamed in omega arith in
-    ap (λ o. and_then o (ranged here i first last line)) (followed (called here word line s) (λ c. again c args here line) (λ c. other c args here line) (λ c t. same c args here line t fewer))
+    either_way (is_filter_number first && is_filter_number last) _ _ (fails out_of_range here line) s (ap (λ o. and_then o (ranged here i first last line)) (followed (called here word line s) (λ c. again c args here line) (λ c. other c args here line) (λ c t. same c args here line t fewer)))
 range_alike again other count same _ rest here line s few = refl
 
 module _ (outside : Outside) (depth : ℕ) (deeper : Text → Block → Run Value) where

@@ -1,5 +1,5 @@
 -- Executing a tree gives no unit back, nor does a text or a function.
-use Rattle.std.proofs.Common.{ℕ, zero, suc, ◌≤◌, ◌+ℤ◌, ℤ, List, [], ◌∷◌, ◌++◌, map, length, Bool, Option, Some, None, Result, Ok, Err, nat_eq}
+use Rattle.std.proofs.Common.{ℕ, zero, suc, ◌≤◌, ◌+ℤ◌, ℤ, List, [], ◌∷◌, ◌++◌, map, length, Bool, ◌&&◌, Option, Some, None, Result, Ok, Err, nat_eq}
 use Rattle.avs_tree.specs.Tree.{Expr, int, bool, str, name, call, method_calls, minus, not_, chain, compare, conditional, group, Args, no_args, arg, MethodCalls, no_method_calls, method, method_call, Steps, no_steps, step, Kind, global, assign, return, if_, while, for, value, Arms, no_arms, arm, Else, no_else, else_, Block, no_more, then_}
 use Rattle.avs_values.specs.Binding.{Bound}
 use Rattle.avs_values.specs.Values.{Text}
@@ -7,6 +7,7 @@ use Rattle.avs_values.specs.declared.binding.Given.{Given}
 use Rattle.avs_values.specs.declared.value.Value.{Value}
 use Rattle.avs_values.specs.declared.value.Value.TheVariants as v
 use Rattle.avs_meaning.proofs.UnitLemmas.{Leaves, Spends, then_leaves, lifted_leaves, if_runs, spend_leaves, load_short_leaves, filtered_leaves, told_leaves, joined_leaves, set_mode_leaves, prefetch_leaves, ranged_leaves}
+use Rattle.avs_meaning.specs.Arguments.{is_filter_number}
 use Rattle.avs_meaning.specs.Calls.{Callee, user, builtin, callee, takes, Fit, fit_or_last, unnamed, last_name}
 use Rattle.avs_meaning.specs.Expressions.{Caller, ranged_by, call_within, script_by, known, called, may_nest, execute, eval_name, eval, import_, inside, applied, apply_by, apply, apply_last, named, value_of, givens_of, calls_from, steps_from}
 use Rattle.avs_meaning.specs.Loops.{Flow, on, back, go_on, turns, Turn, goes_to, stops, continues, advanced, advance, read_number, number_by, next_number, turned, turn, counts, is_past}
@@ -36,9 +37,10 @@ Calls again = (c : Callee) (args : List Given) (here : Text) (line : ℕ) → Sp
 
 ranged_by_leaves : (again : Caller) → Calls again → (values rest : List Value) (here : Text) (line n : ℕ) (s : State) → s.units ≤ n → Leaves n (ranged_by again values rest here line s)
 ranged_by_leaves again less (v.Clip i ∷ v.Int first ∷ v.Int last ∷ v.Text word ∷ []) rest here line n s few =
-    then_leaves n (and_then (called here word line s) (λ c. again c (map unnamed (v.Clip i ∷ rest)) here line)) _
+    if_runs n (is_filter_number first && is_filter_number last) _ _ s
+    (then_leaves n (and_then (called here word line s) (λ c. again c (map unnamed (v.Clip i ∷ rest)) here line)) _
     (then_leaves n (called here word line s) _ (called_leaves here word line n s few) (λ c t fewer. less c (map unnamed (v.Clip i ∷ rest)) here line n t fewer))
-    (λ x t fewer. ranged_leaves here i first last line x n t fewer)
+    (λ x t fewer. ranged_leaves here i first last line x n t fewer)) tt
 ranged_by_leaves again less _ rest here line n s few = tt
 
 -- ---- loops, of which the body spends

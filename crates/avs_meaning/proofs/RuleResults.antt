@@ -1,5 +1,5 @@
 -- The rules allow the outcome of the definitions.
-use Rattle.std.proofs.Common.{◌≡◌, ℕ, zero, suc, ◌+◌, ◌<◌, ◌≤◌, ℤ, List, [], ◌∷◌, ◌++◌, length, map, Bool, true, false, Option, Some, None, Result, Ok, Err, refl, sym, subst, if◌then◌else◌, arith}
+use Rattle.std.proofs.Common.{◌≡◌, ℕ, zero, suc, ◌+◌, ◌<◌, ◌≤◌, ℤ, List, [], ◌∷◌, ◌++◌, length, map, Bool, true, false, ◌&&◌, Option, Some, None, Result, Ok, Err, refl, sym, subst, if◌then◌else◌, arith}
 use Rattle.std.proofs.lemmas.List.{length-map}
 use Rattle.avs_tree.specs.Loaded.{Loaded}
 use Rattle.avs_tree.specs.Tree.{Expr, int, bool, str, name, call, method_calls, minus, not_, chain, compare, conditional, group, Args, no_args, arg, MethodCalls, no_method_calls, method, method_call, Steps, no_steps, step, Block}
@@ -14,15 +14,16 @@ use Rattle.avs_meaning.proofs.RuleSteps.{again_of, branched, call_of, load_of, u
 use Rattle.avs_meaning.proofs.DirectCalls.{apply_direct}
 use Rattle.avs_meaning.proofs.RangeArguments.{IsRange}
 use Rattle.avs_meaning.proofs.TextArguments.{IsText, HasForm, has_form}
+use Rattle.avs_meaning.specs.Arguments.{is_filter_number, out_of_range}
 use Rattle.avs_meaning.specs.Calls.{Callee, user, builtin, callee, Fit, fit_or_last, takes, unnamed}
-use Rattle.avs_meaning.specs.Expressions.{ranged_by, eval_name, known, eval, import_, applied, apply_by, apply, named, value_of, givens_of, calls_from, steps_from}
+use Rattle.avs_meaning.specs.Expressions.{ranged_by, eval_name, known, called, eval, import_, applied, apply_by, apply, named, value_of, givens_of, calls_from, steps_from}
 use Rattle.avs_meaning.specs.Filters.{ranged}
 use Rattle.avs_meaning.specs.Meaning.{below, run}
 use Rattle.avs_meaning.specs.Operators.{compared, joined}
 use Rattle.avs_meaning.specs.Outside.{Outside}
 use Rattle.avs_meaning.specs.Rules as r
 use Rattle.avs_meaning.specs.Rules.{is_logical, receiver, retried}
-use Rattle.avs_meaning.specs.State.{State, Defined, Outcome, Run, and_then, ◌>>=◌, imported, variable}
+use Rattle.avs_meaning.specs.State.{State, Defined, Outcome, Run, and_then, ◌>>=◌, fails, imported, variable}
 use Rattle.avs_meaning.specs.Statements.{condition}
 use Rattle.avs_meaning.specs.Texts.{load_short}
 use Rattle.avs_meaning.specs.declared.builtin.Builtin.TheVariants as b
@@ -143,18 +144,27 @@ module _ (outside : Outside) where
       → r.Applies outside n here s c given last line (apply outside n (below outside n) c given last here line s)
 
   after_called : (n sig count : ℕ) (here : Text) → SomeApply n here count → (i : ℕ) (first last : ℤ) (word : Text) (bound : Bound) (line : ℕ) (s : State) (o : Option Callee)
-      → bound.values ≡ v.Clip i ∷ v.Int first ∷ v.Int last ∷ v.Text word ∷ [] → length (map unnamed (v.Clip i ∷ bound.rest)) < count → callee word s.functions ≡ o
+      → bound.values ≡ v.Clip i ∷ v.Int first ∷ v.Int last ∷ v.Text word ∷ [] → (is_filter_number first && is_filter_number last) ≡ true
+      → length (map unnamed (v.Clip i ∷ bound.rest)) < count → callee word s.functions ≡ o
       → r.Performs outside n here s (builtin b.ApplyRange) sig bound line
       (and_then (and_then (known here o line s) (λ c. again_of outside n c (map unnamed (v.Clip i ∷ bound.rest)) here line)) (ranged here i first last line))
-  after_called n sig count here some i first last word bound line s (Some c) is few found =
-      r.performs_range is found (some c (map unnamed (v.Clip i ∷ bound.rest)) None line s few)
-  after_called n sig count here some i first last word bound line s None is few found = r.range_unknown is found
+  after_called n sig count here some i first last word bound line s (Some c) is fits few found =
+      r.performs_range is fits found (some c (map unnamed (v.Clip i ∷ bound.rest)) None line s few)
+  after_called n sig count here some i first last word bound line s None is fits few found = r.range_unknown is fits found
+
+  after_tested : (n sig count : ℕ) (here : Text) → SomeApply n here count → (i : ℕ) (first last : ℤ) (word : Text) (bound : Bound) (line : ℕ) (s : State) (fits : Bool)
+      → bound.values ≡ v.Clip i ∷ v.Int first ∷ v.Int last ∷ v.Text word ∷ [] → (is_filter_number first && is_filter_number last) ≡ fits
+      → length (map unnamed (v.Clip i ∷ bound.rest)) < count
+      → r.Performs outside n here s (builtin b.ApplyRange) sig bound line
+      ((if fits then (called here word line >>= (λ c. again_of outside n c (map unnamed (v.Clip i ∷ bound.rest)) here line) >>= ranged here i first last line) else fails out_of_range here line) s)
+  after_tested n sig count here some i first last word bound line s true is fits few = after_called n sig count here some i first last word bound line s (callee word s.functions) is fits few refl
+  after_tested n sig count here some i first last word bound line s false is fits few = r.range_refused is fits
 
   some_range : (n sig count : ℕ) (here : Text) → SomeApply n here count → (values : List Value) (bound : Bound) (line : ℕ) (s : State) → bound.values ≡ values → IsRange values → length bound.rest + 3 ≤ count
       → r.Performs outside n here s (builtin b.ApplyRange) sig bound line (ranged_by (again_of outside n) values bound.rest here line s)
   some_range n sig count here some (v.Clip i ∷ v.Int first ∷ v.Int last ∷ v.Text word ∷ []) bound line s is has few =
       let e : length (map unnamed (v.Clip i ∷ bound.rest)) ≡ suc (length bound.rest) = length-map (v.Clip i ∷ bound.rest) unnamed in
-      after_called n sig count here some i first last word bound line s (callee word s.functions) is (omega arith) refl
+      after_tested n sig count here some i first last word bound line s (is_filter_number first && is_filter_number last) is refl (omega arith)
   some_range n sig count here some _ bound line s is has few = absurd has
 
   some_performs : (n : ℕ) → AllBelow outside n → (here : Text) (c : Callee) (count sig : ℕ) (bound : Bound) (line : ℕ) (s : State) → SomeApply n here count → HasForm c count bound

@@ -96,8 +96,9 @@ module _ (outside : Outside) where
     only_performs r.performs_filter count form = refl
     only_performs r.performs_set_mode count form = refl
     only_performs r.performs_prefetch count form = refl
-    only_performs (r.performs_range is known app) count form = rw (is, known) (rw (only_applies app))
-    only_performs (r.range_unknown is unknown) count form = rw (is, unknown)
+    only_performs (r.performs_range is fits known app) count form = rw (is, fits, known) (rw (only_applies app))
+    only_performs (r.range_unknown is fits unknown) count form = rw (is, fits, unknown)
+    only_performs (r.range_refused is unfit) count form = rw (is, unfit)
     only_performs {line = line} {sig = sig} {here = here} {s = s} {bound = bound} (r.performs_user {n = n} {d = d} body) count form = user_called outside n sig (again_of outside (suc n)) d bound here line s ∙ rw (only_executes body)
     only_performs {line = line} {here = here} {s = s} (r.performs_eval {n = n} {text = text} is load) count form = rw is (eval_called outside n text here line s ∙ only_loads load)
     only_performs {line = line} {here = here} {s = s} (r.performs_import {n = n} {file = file} {text = text} is found load) count form = rw is (import_called outside n file text here line s found ∙ only_loads load)

@@ -22,7 +22,7 @@ use Rattle.clip_term.specs.declared.filter.Filter.TheVariants as f
 use Rattle.clip_term.specs.declared.op.TimeOp.TheVariants as t
 use Rattle.clip_graph.specs.Plan.{Application, infos_among, sources_in}
 use Rattle.mt_modes.specs.Modes.{is_mode, mode_in, with_setting}
-use Rattle.avs_meaning.specs.Arguments.{Reading, takes}
+use Rattle.avs_meaning.specs.Arguments.{Reading, takes, all_fit_filters, out_of_range}
 use Rattle.avs_meaning.specs.Expressions.{told}
 use Rattle.avs_meaning.specs.Crews.{Numbers}
 use Rattle.avs_meaning.specs.Faults.{Fault}
@@ -149,7 +149,8 @@ filter_applied_leaves here filter bound (i ∷ rest) line n s few =
 
 pub filtered_leaves : (here : Text) (outside : Outside) (filter : Filter) (sig : ℕ) (bound : Bound) (line n : ℕ) (s : State) → s.units ≤ n → Leaves n (filtered here outside filter sig bound line s)
 filtered_leaves here outside f.Y4MSource sig bound line n s few = open_source_leaves here outside bound.values line n s few
-filtered_leaves here outside f.BlankClip sig bound line n s few = blank_leaves here sig bound.values line n s few
+filtered_leaves here outside f.BlankClip sig bound line n s few =
+    if_runs n (all_fit_filters bound.values) (filters.blank here sig bound.values line) (fails out_of_range here line) s (blank_leaves here sig bound.values line n s few) tt
 filtered_leaves here outside filter sig bound line n s few = filter_applied_leaves here filter bound _ line n s few
 
 pub told_leaves : (here : Text) (function : ClipFn) (values : List Value) (line n : ℕ) (s : State) → s.units ≤ n → Leaves n (told here function values line s)

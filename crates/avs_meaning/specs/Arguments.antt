@@ -1,7 +1,8 @@
 -- What a filter does with its arguments (AviSynth+ wiki, "Internal filters").
-use Rattle.std.specs.Prelude.{ℕ, ◌==◌, ℤ, pos, negsuc, int_lt, ◌-ℤ◌, List, [], ◌∷◌, slice_get, codes, Bool, false, ◌&&◌, ◌||◌, Option, Some, None, Result, Ok, Err, if◌then◌else◌}
+use Rattle.std.specs.Prelude.{ℕ, ◌^◌, ◌==◌, nat_lt, ℤ, pos, negsuc, int_lt, ◌-ℤ◌, List, [], ◌∷◌, slice_get, codes, Bool, true, false, ◌&&◌, ◌||◌, Option, Some, None, is_some, Result, Ok, Err, if◌then◌else◌}
 use Rattle.std.specs.List.{list_all, list_any}
 use Rattle.std.specs.Option.{unwrap_or}
+use Rattle.avs_values.specs.Binding.{Bound}
 use Rattle.avs_values.specs.Values.{Text}
 use Rattle.avs_values.specs.declared.value.Value.{Value}
 use Rattle.avs_values.specs.declared.value.Value.TheVariants as v
@@ -49,6 +50,25 @@ abbrev pub numbers_among : List Value → List ℤ
 numbers_among [] = []
 numbers_among (v.Int n ∷ rest) = n ∷ numbers_among rest
 numbers_among (x ∷ rest) = numbers_among rest
+
+-- ---- the numbers that filters take
+
+-- They go from -2^31 to 2^31 - 1.
+abbrev pub is_filter_number : ℤ → Bool
+is_filter_number (pos n) = nat_lt n (2 ^ 31)
+is_filter_number (negsuc n) = nat_lt n (2 ^ 31)
+
+abbrev pub fits_filters : Value → Bool
+fits_filters (v.Int n) = is_filter_number n
+fits_filters _ = true
+
+-- Each number among values is one that filters take.
+abbrev pub all_fit_filters : List Value → Bool
+all_fit_filters values = list_all fits_filters values
+
+-- how another number is refused
+abbrev pub out_of_range : ScriptKind
+out_of_range = k.Filter fault.BadRange
 
 -- ---- the planes that Invert names
 
@@ -167,6 +187,18 @@ module _ (values : List Value) where
   read rest frames f.AssumeFPS = Ok (time (t.AssumeFPS (number 1) (or_number 2 (pos 1))))
   read rest frames f.ChangeFPS = Ok (time (t.ChangeFPS (number 1) (or_number 2 (pos 1))))
   read rest frames filter = read_space filter
+
+-- Trim's arguments fit where exactly one of the last three is given.
+abbrev pub suits : Filter → List Value → Bool
+suits f.Trim values = is_some (trim_bound (number_at values 2) (number_at values 3) (number_at values 4))
+suits filter values = true
+
+-- Of arguments that fit, a number that no filter takes is refused before anything else.
+abbrev pub reading : Bound → ℕ → Filter → Reading
+reading given frames filter =
+    if suits filter given.values then
+    (if all_fit_filters given.values && all_fit_filters given.rest then read given.values (numbers_among given.rest) frames filter else Err out_of_range)
+    else Err k.NoMatch
 
 -- as many inputs, and such lists, as a filter takes
 abbrev pub takes : Act → ℕ → Bool

@@ -1,5 +1,5 @@
 -- What an expression does: its value, and how the state changes (AviSynth+ wiki, 'Grammar' and 'Script functions').
-use Rattle.std.specs.Prelude.{ℕ, zero, suc, nat_eq, List, [], ◌∷◌, ◌++◌, map, length, codes, Option, Some, None, Result, Ok, Err, if◌then◌else◌}
+use Rattle.std.specs.Prelude.{ℕ, zero, suc, nat_eq, ◌&&◌, List, [], ◌∷◌, ◌++◌, map, length, codes, Option, Some, None, Result, Ok, Err, if◌then◌else◌}
 use Rattle.avs_tree.specs.Tree.{Expr, int, bool, str, name, call, method_calls, minus, not_, chain, compare, conditional, group, Args, no_args, arg, MethodCalls, no_method_calls, method, method_call, Steps, no_steps, step, Block}
 use Rattle.avs_values.specs.Binding.{Bound}
 use Rattle.avs_values.specs.Functions.{plain}
@@ -8,6 +8,7 @@ use Rattle.avs_values.specs.declared.binding.Given.{Given}
 use Rattle.avs_values.specs.declared.operators.UnaryOp.TheVariants as u
 use Rattle.avs_values.specs.declared.value.Value.{Value}
 use Rattle.avs_values.specs.declared.value.Value.TheVariants as v
+use Rattle.avs_meaning.specs.Arguments.{is_filter_number, out_of_range}
 use Rattle.avs_meaning.specs.Calls.{Callee, user, builtin, callee, takes, Fit, fit_or_last, unnamed, last_name, parameters}
 use Rattle.avs_meaning.specs.ClipFunctions.{clip_value}
 use Rattle.avs_meaning.specs.Filters.{info_of, filtered, ranged}
@@ -48,10 +49,12 @@ module _ (here : Text) where
 abbrev pub Caller : Type 0
 Caller = Callee → List Given → Text → ℕ → Run Value
 
--- ApplyRange calls a function by its name, with its clip first.
+-- ApplyRange calls a function by its name, with its clip first. Of its own numbers one that no filter takes is refused first.
 abbrev pub ranged_by : Caller → List Value → List Value → Text → ℕ → Run Value
 ranged_by again (v.Clip i ∷ v.Int first ∷ v.Int last ∷ v.Text word ∷ []) rest here line =
-    called here word line >>= (λ c. again c (map unnamed (v.Clip i ∷ rest)) here line) >>= ranged here i first last line
+    if is_filter_number first && is_filter_number last then
+    (called here word line >>= (λ c. again c (map unnamed (v.Clip i ∷ rest)) here line) >>= ranged here i first last line)
+    else fails out_of_range here line
 ranged_by again _ rest here line = fails k.NoMatch here line
 
 -- how many calls may still nest, and what executes the statements of a text one call deeper

@@ -17,7 +17,7 @@ use Rattle.clip_term.specs.declared.filter.Filter.TheVariants as f
 use Rattle.clip_term.specs.declared.op.TimeOp.TheVariants as t
 use Rattle.clip_graph.specs.Plan.{Application, deepest, infos_among, sources_in}
 use Rattle.mt_modes.specs.Modes.{mode_in}
-use Rattle.avs_meaning.specs.Arguments.{Reading, read, takes, number_at, text_at, clips_among, numbers_among}
+use Rattle.avs_meaning.specs.Arguments.{Reading, reading, takes, number_at, text_at, clips_among, all_fit_filters, out_of_range}
 use Rattle.avs_meaning.specs.Faults.{input}
 use Rattle.avs_meaning.specs.Outside.{Outside}
 use Rattle.avs_meaning.specs.State.{Run, ◌>>=◌, pure, fails}
@@ -120,12 +120,13 @@ module _ (here : Text) where
   applied filter given [] line = fails k.NoMatch here line
   applied filter given (i ∷ rest) line =
       info_of i line >>= (λ info.
-      applied_by (read given.values (numbers_among given.rest) info.frames filter) filter (i ∷ rest) line)
+      applied_by (reading given info.frames filter) filter (i ∷ rest) line)
 
   -- a filter with its arguments, which are bound by the signature of this number
   abbrev pub filtered : Outside → Filter → ℕ → Bound → ℕ → Run Value
   filtered outside f.Y4MSource n given line = open_source outside given.values line
-  filtered outside f.BlankClip n given line = blank n given.values line
+  filtered outside f.BlankClip n given line =
+      if all_fit_filters given.values then blank n given.values line else fails out_of_range here line
   filtered outside filter n given line = applied filter given (clips_among given.values ++ clips_among given.rest) line
 
   -- ApplyRange shows what its function gave in a range of frames of the clip, and the clip elsewhere.

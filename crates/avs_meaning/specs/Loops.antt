@@ -1,7 +1,7 @@
 -- How statements end, and loops (AviSynth+ wiki, "Control structures").
 use Rattle.std.specs.Prelude.{ℕ, zero, suc, ℤ, pos, ◌+ℤ◌, int_lt, Bool, Option, Some, None, Result, Ok, Err, if◌then◌else◌}
 use Rattle.avs_values.specs.Operators.{is_zero}
-use Rattle.avs_values.specs.Outcome.{is_32_bits}
+use Rattle.avs_values.specs.Outcome.{is_number}
 use Rattle.avs_values.specs.Values.{Text}
 use Rattle.avs_values.specs.declared.value.Value.{Value}
 use Rattle.avs_values.specs.declared.value.Value.TheVariants as v
@@ -28,7 +28,7 @@ ends = pure (on v.Undefined)
 -- ---- numbers of `for`
 
 abbrev pub next_number : ℤ → Option ℤ
-next_number n = if is_32_bits n then Some n else None
+next_number n = if is_number n then Some n else None
 
 -- A number is past the end of a loop.
 unfoldable pub is_past : ℤ → ℤ → ℤ → Bool
@@ -49,7 +49,7 @@ abbrev pub continues : (ℤ → Run Flow) → Turn → Run Flow
 continues rest (goes_to n) = rest n
 continues rest (stops flow) = pure flow
 
--- The variable becomes the next number, where that has 32 bits.
+-- The variable becomes the next number, where that has 64 bits.
 abbrev pub advanced : Text → Option ℤ → Run (Option ℤ)
 advanced x None = pure None
 advanced x (Some n) = set x (v.Int n) >> pure (Some n)

@@ -1,7 +1,7 @@
 -- What scripts do, by rules: each says what follows in one case (AviSynth+ wiki, 'Grammar' and "Control structures").
 -- Nothing bounds the turns of a loop but the units that they cost. Expressions.antt and Statements.antt say the same by
 -- functions: each start has the one outcome that these give (RuleLaws.antt).
-use Rattle.std.specs.Prelude.{◌≡◌, ℕ, zero, suc, ℤ, pos, List, [], ◌∷◌, ◌++◌, map, Bool, true, false, Option, Some, None, Ok, Err}
+use Rattle.std.specs.Prelude.{◌≡◌, ℕ, zero, suc, ℤ, pos, List, [], ◌∷◌, ◌++◌, map, Bool, true, false, ◌&&◌, Option, Some, None, Ok, Err}
 use Rattle.avs_tree.specs.Loaded.{Loaded}
 use Rattle.avs_tree.specs.Tree.{Expr, int, bool, str, name, call, method_calls, minus, not_, chain, compare, conditional, group, Args, no_args, arg, MethodCalls, no_method_calls, method, method_call, Steps, no_steps, step, Kind, global, assign, return, if_, while, for, value, Arms, no_arms, arm, Else, no_else, else_, Block, no_more, then_}
 use Rattle.avs_tree.specs.declared.tree.Operator.{Operator}
@@ -15,6 +15,7 @@ use Rattle.avs_values.specs.declared.plain_fn.PlainFn.{PlainFn}
 use Rattle.avs_values.specs.declared.value.Value.{Value}
 use Rattle.avs_values.specs.declared.value.Value.TheVariants as v
 use Rattle.clip_term.specs.declared.filter.Filter.{Filter}
+use Rattle.avs_meaning.specs.Arguments.{is_filter_number, out_of_range}
 use Rattle.avs_meaning.specs.Calls.{Callee, user, builtin, callee, takes, fit_or_last, unnamed, last_name, parameters}
 use Rattle.avs_meaning.specs.Expressions.{eval_name, told}
 use Rattle.avs_meaning.specs.Faults.{Fault, script}
@@ -216,12 +217,19 @@ module _ (outside : Outside) where
       -- ApplyRange calls a function by its name, with its clip first.
       performs_range : {n line sig i : ℕ} {here word : Text} {s : State} {first last : ℤ} {args : Bound} {c : Callee}
           {out : Outcome Value}
-          → args.values ≡ v.Clip i ∷ v.Int first ∷ v.Int last ∷ v.Text word ∷ [] → callee word s.functions ≡ Some c
+          → args.values ≡ v.Clip i ∷ v.Int first ∷ v.Int last ∷ v.Text word ∷ []
+          → (is_filter_number first && is_filter_number last) ≡ true → callee word s.functions ≡ Some c
           → Applies n here s c (map unnamed (v.Clip i ∷ args.rest)) None line out
           → Performs n here s (builtin b.ApplyRange) sig args line (and_then out (ranged here i first last line))
       range_unknown : {n line sig i : ℕ} {here word : Text} {s : State} {first last : ℤ} {args : Bound}
-          → args.values ≡ v.Clip i ∷ v.Int first ∷ v.Int last ∷ v.Text word ∷ [] → callee word s.functions ≡ None
+          → args.values ≡ v.Clip i ∷ v.Int first ∷ v.Int last ∷ v.Text word ∷ []
+          → (is_filter_number first && is_filter_number last) ≡ true → callee word s.functions ≡ None
           → Performs n here s (builtin b.ApplyRange) sig args line (Err (script k.UnknownName here line))
+      -- A number of the range is none that filters take.
+      range_refused : {n line sig i : ℕ} {here word : Text} {s : State} {first last : ℤ} {args : Bound}
+          → args.values ≡ v.Clip i ∷ v.Int first ∷ v.Int last ∷ v.Text word ∷ []
+          → (is_filter_number first && is_filter_number last) ≡ false
+          → Performs n here s (builtin b.ApplyRange) sig args line (Err (script out_of_range here line))
       performs_user : {n line sig : ℕ} {here : Text} {s : State} {d : Defined} {args : Bound} {out : Outcome Value}
           → Executes n d.text (entered d args s) d.function.body v.Undefined out
           → Performs (suc n) here s (user d) sig args line (left s out)
@@ -364,7 +372,7 @@ module _ (outside : Outside) where
           → is_past last by i ≡ false → Turns n here s body line (Ok (on y, turned))
           → advance here word by line turned ≡ Ok (Some next, after)
           → Counts n here after word next last by body line out → Counts n here s word i last by body line out
-      -- The next number would leave 32 bits.
+      -- The next number would leave 64 bits.
       for_leaves_range : {n line : ℕ} {here word : Text} {s turned after : State} {i last by : ℤ} {body : Block} {y : Value}
           → is_past last by i ≡ false → Turns n here s body line (Ok (on y, turned))
           → advance here word by line turned ≡ Ok (None, after)

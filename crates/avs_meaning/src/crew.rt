@@ -25,15 +25,23 @@ impl Model for Crew {
 
 impl Crew {
     /// So many workers, and windows of so many frames, if they are given. None comes where a number is out of its range.
-    pub fn new(threads: u32, frames: Option<u32>) -> Option<Crew>
+    pub fn new(threads: u64, frames: Option<u64>) -> Option<Crew>
         ensures { result ≡ d.crew_in threads frames }
     {
         if threads < 1 || threads > 16 {
             return None;
         }
+        let threads = threads as u32;
         match frames {
+            None => Some(Crew {
+                threads,
+                frames: None,
+            }),
             Some(count) if count < 1 || count > 32 => None,
-            _ => Some(Crew { threads, frames }),
+            Some(count) => Some(Crew {
+                threads,
+                frames: Some(count as u32),
+            }),
         }
     }
 

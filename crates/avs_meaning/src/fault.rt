@@ -51,7 +51,7 @@ pub enum ScriptKind {
     File(FileKind),
     /// A value is of another kind than the operator or the statement takes.
     TypeFault,
-    /// A number is outside 32 bits.
+    /// A number is outside 64 bits.
     Overflow,
     /// A division by 0, or its remainder.
     DivZero,

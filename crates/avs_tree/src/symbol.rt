@@ -31,7 +31,7 @@ pub enum Punctuation {
 #[derive(Clone, Copy, Debug, PartialEq, Eq)]
 pub enum Symbol {
     Name,
-    Int(i32),
+    Int(i64),
     Str,
     Keyword(Keyword),
     Operator(Operator),

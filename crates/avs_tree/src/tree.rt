@@ -79,7 +79,7 @@ pub struct Arm {
 #[cycle(expressions)]
 #[derive(Drop, Debug)]
 pub enum Expr {
-    Int(i32),
+    Int(i64),
     Bool(bool),
     Str(Text),
     Name {

@@ -1,6 +1,6 @@
 -- The functions say TypeFault of no arguments that suit their signatures.
 use Rattle.std.proofs.Common.{◌≡◌, ◌≢◌, ℕ, ℤ, pos, ◌-ℤ◌, ◌-◌, List, [], ◌∷◌, length, Bool, true, false, ◌&&◌, Option, Some, None, Ok, Err, refl, ap, sym, ◌∙◌, codes, int_lt, int_le, slice_get, if◌then◌else◌}
-use Rattle.std.specs.Int.{w32, cast_signed, int_min, int_max}
+use Rattle.std.specs.Int.{w64, cast_signed, int_min, int_max}
 use Rattle.std.specs.Int.RustNames.{unsigned_abs}
 use Rattle.std.specs.List.{list_all}
 use Rattle.std.specs.Str.{chars}
@@ -9,7 +9,7 @@ use Rattle.avs_values.specs.Binding.{Bound, Suits, all_suit, rest_suits}
 use Rattle.avs_values.specs.Functions.{plain, signature, required, optional, chosen, select, defined, default, assertion, is_of_kind}
 use Rattle.avs_values.specs.Laws.{BoundArgumentsHaveTheirKinds}
 use Rattle.avs_values.specs.Numbers.{absolute, sign, folded, least, greatest, bit_and, bit_or, bit_xor, bit_not, is_decimal, value, is_hexadecimal, hex_value, hex}
-use Rattle.avs_values.specs.Outcome.{Outcome, number, is_32_bits}
+use Rattle.avs_values.specs.Outcome.{Outcome, number, is_number}
 use Rattle.avs_values.specs.Texts.{str_len, u_case, l_case, rev_str, first, after, at_most, left_str, right_str, cut, mid_str, position_from, find_str, chr, number_of, ord}
 use Rattle.avs_values.specs.Values.{Text, has_kind}
 use Rattle.avs_values.specs.declared.fault.ValueFault.TheVariants as f
@@ -29,7 +29,7 @@ either true x y left right = left
 either false x y left right = right
 
 number_typed : (n : ℤ) → is_type_fault (number n) ≡ false
-number_typed n = either (is_32_bits n) (Ok (v.Int n)) (Err f.Overflow) refl refl
+number_typed n = either (is_number n) (Ok (v.Int n)) (Err f.Overflow) refl refl
 
 folded_typed : (pick : ℤ → ℤ → ℤ) (n : ℤ) (rest : List Value) → list_all (has_kind k.Int) rest ≡ true → is_type_fault (folded pick n rest) ≡ false
 folded_typed pick n [] all = refl
@@ -84,7 +84,7 @@ value_typed (v.Text t ∷ []) is = either (is_decimal t) (number (signed_digits_
 value_typed _ is = absurd (cc)
 
 hex_value_typed : (xs : List Value) → all_suit (required k.Text ∷ []) xs ≡ true → is_type_fault (hex_value xs) ≡ false
-hex_value_typed (v.Text t ∷ []) is = either (is_hexadecimal t) (Ok (v.Int (cast_signed w32 (digits_value 16 t)))) (Err f.BadText) refl refl
+hex_value_typed (v.Text t ∷ []) is = either (is_hexadecimal t) (Ok (v.Int (cast_signed w64 (digits_value 16 t)))) (Err f.BadText) refl refl
 hex_value_typed _ is = absurd (cc)
 
 hex_typed : (xs : List Value) → all_suit (required k.Int ∷ []) xs ≡ true → is_type_fault (hex xs) ≡ false

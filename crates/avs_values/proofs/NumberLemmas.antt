@@ -1,7 +1,7 @@
 -- What `parse` and `from_str_radix` fail at.
 use Rattle.std.proofs.Common.{◌≡◌, ℤ, pos, negsuc, ◌<◌, ◌≤◌, ◌^◌, [], ◌∷◌, length, drop, Bool, true, false, not, ◌&&◌, ◌==◌, nat_le, Err, arith, refl, if◌then◌else◌, cond, lit<}
 use Rattle.std.specs.Char.{is_ascii_digit, is_ascii_hexdigit}
-use Rattle.std.specs.Int.{w32}
+use Rattle.std.specs.Int.{w64}
 use Rattle.std.specs.Int.RustNames.{FitsSigned}
 use Rattle.std.specs.List.{list_all}
 use Rattle.std.specs.Str.Parse.{AllDigits, IsNumeral, digits_value, signed_digits_value, starts_with_minus, without_leading_plus, without_leading_sign}
@@ -9,7 +9,7 @@ use Rattle.std.proofs.Math.Nat.{pow-le-pow_right}
 use Rattle.std.proofs.lemmas.Bool.Decides.{nat_tests}
 use Rattle.std.proofs.lemmas.Int.Digits.{digits_value-lt}
 use Rattle.avs_values.specs.Numbers.{is_decimal, is_hexadecimal}
-use Rattle.avs_values.specs.Outcome.{number, is_32_bits}
+use Rattle.avs_values.specs.Outcome.{number, is_number}
 use Rattle.avs_values.specs.Values.{Text}
 use Rattle.avs_values.specs.declared.fault.ValueFault.TheVariants as f
 
@@ -47,25 +47,25 @@ signed_by t false is = let same = decimal_without_plus t (right (not (length t =
 signed_numeral : (t : Text) → is_decimal t ≡ true → IsNumeral 10 (without_leading_sign t)
 signed_numeral t is = signed_by t (starts_with_minus t) is
 
-fits : (z : ℤ) → is_32_bits z ≡ true → FitsSigned w32 z
+fits : (z : ℤ) → is_number z ≡ true → FitsSigned w64 z
 fits (pos n) is = record { sfits = grind (arith, nat_tests) }
 fits (negsuc n) is = record { sfits = grind (arith, nat_tests) }
 
-overflows : (z : ℤ) (b : Bool) → is_32_bits z ≡ b → ¬ (FitsSigned w32 z) → number z ≡ Err f.Overflow
+overflows : (z : ℤ) (b : Bool) → is_number z ≡ b → ¬ (FitsSigned w64 z) → number z ≡ Err f.Overflow
 overflows z true is unfit = absurd (unfit (fits z is))
 overflows z false is unfit = rw is
 
--- A decimal number that `parse` does not read is outside 32 bits.
-pub decimal_overflows : (t : Text) → is_decimal t ≡ true → ¬ (IsNumeral 10 (without_leading_sign t) × FitsSigned w32 (signed_digits_value 10 t)) → number (signed_digits_value 10 t) ≡ Err f.Overflow
-decimal_overflows t is unfit = overflows (signed_digits_value 10 t) (is_32_bits (signed_digits_value 10 t)) refl (λ fit. unfit (signed_numeral t is, fit))
+-- A decimal number that `parse` does not read is outside 64 bits.
+pub decimal_overflows : (t : Text) → is_decimal t ≡ true → ¬ (IsNumeral 10 (without_leading_sign t) × FitsSigned w64 (signed_digits_value 10 t)) → number (signed_digits_value 10 t) ≡ Err f.Overflow
+decimal_overflows t is unfit = overflows (signed_digits_value 10 t) (is_number (signed_digits_value 10 t)) refl (λ fit. unfit (signed_numeral t is, fit))
 
--- `from_str_radix` reads each hexadecimal number of at most 8 digits.
-pub hexadecimal_fits : (t : Text) → is_hexadecimal t ≡ true → IsNumeral 16 (without_leading_plus t) × (digits_value 16 (without_leading_plus t) < 2 ^ 32)
+-- `from_str_radix` reads each hexadecimal number of at most 16 digits.
+pub hexadecimal_fits : (t : Text) → is_hexadecimal t ≡ true → IsNumeral 16 (without_leading_plus t) × (digits_value 16 (without_leading_plus t) < 2 ^ 64)
 hexadecimal_fits t is =
-    let sizes : (nat_le 1 (length t) && nat_le (length t) 8) ≡ true = left (nat_le 1 (length t) && nat_le (length t) 8) _ is in
+    let sizes : (nat_le 1 (length t) && nat_le (length t) 16) ≡ true = left (nat_le 1 (length t) && nat_le (length t) 16) _ is in
     let some : nat_le 1 (length t) ≡ true = left (nat_le 1 (length t)) _ sizes in
-    let few : nat_le (length t) 8 ≡ true = right (nat_le 1 (length t)) _ sizes in
-    let digits : list_all is_ascii_hexdigit t ≡ true = right (nat_le 1 (length t) && nat_le (length t) 8) _ is in
-    let bound : length t ≤ 8 = grind (arith, nat_tests) in
-    let most : 16 ^ length t ≤ 16 ^ 8 = pow-le-pow_right (lit< tt) bound in
+    let few : nat_le (length t) 16 ≡ true = right (nat_le 1 (length t)) _ sizes in
+    let digits : list_all is_ascii_hexdigit t ≡ true = right (nat_le 1 (length t) && nat_le (length t) 16) _ is in
+    let bound : length t ≤ 16 = grind (arith, nat_tests) in
+    let most : 16 ^ length t ≤ 16 ^ 16 = pow-le-pow_right (lit< tt) bound in
     rw (hexadecimal_without_plus t digits) ((grind (arith, nat_tests), hexadecimal_digits t digits), omega (arith, most, digits_value-lt 16 t (hexadecimal_digits t digits)))

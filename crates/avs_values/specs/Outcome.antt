@@ -9,13 +9,13 @@ use Rattle.avs_values.specs.declared.value.Value.TheVariants as v
 abbrev pub Outcome : Type 0
 Outcome = Result Value ValueFault
 
--- from -2^31 to 2^31 - 1
-abbrev pub is_32_bits : ℤ → Bool
-is_32_bits (pos n) = nat_lt n (2 ^ 31)
-is_32_bits (negsuc n) = nat_lt n (2 ^ 31)
+-- The numbers of scripts have 64 bits: they go from -2^63 to 2^63 - 1.
+abbrev pub is_number : ℤ → Bool
+is_number (pos n) = nat_lt n (2 ^ 63)
+is_number (negsuc n) = nat_lt n (2 ^ 63)
 
 abbrev pub number : ℤ → Outcome
-number n = if is_32_bits n then Ok (v.Int n) else Err f.Overflow
+number n = if is_number n then Ok (v.Int n) else Err f.Overflow
 
 -- how many bytes a text has at most
 abbrev pub text_limit : ℕ

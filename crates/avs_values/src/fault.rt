@@ -9,7 +9,7 @@ use std::alloc::AllocError;
 pub enum ValueFault {
     /// A value is of another kind than the operator or the function takes.
     TypeFault,
-    /// A number is outside 32 bits.
+    /// A number is outside 64 bits.
     Overflow,
     /// A division by 0, or its remainder.
     DivZero,

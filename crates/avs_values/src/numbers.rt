@@ -12,6 +12,9 @@ use fv_io::Text;
 use itoa::Buffer;
 use std::alloc::Global;
 
+// How many hexadecimal digits 64 bits have.
+const HEXADECIMAL_DIGITS: usize = 16;
+
 pub fn absolute(values: &[Value]) -> Result<Value, ValueFault>
     ensures { result ≡ s.absolute values.now }
 {
@@ -33,7 +36,7 @@ pub fn sign(values: &[Value]) -> Result<Value, ValueFault>
     Ok(Value::Int(n.signum()))
 }
 
-fn least_of(first: i32, rest: &[Value]) -> Result<Value, ValueFault>
+fn least_of(first: i64, rest: &[Value]) -> Result<Value, ValueFault>
     ensures { result ≡ s.folded int_min first rest.now }
 {
     let mut found = first;
@@ -46,7 +49,7 @@ fn least_of(first: i32, rest: &[Value]) -> Result<Value, ValueFault>
     Ok(Value::Int(found))
 }
 
-fn greatest_of(first: i32, rest: &[Value]) -> Result<Value, ValueFault>
+fn greatest_of(first: i64, rest: &[Value]) -> Result<Value, ValueFault>
     ensures { result ≡ s.folded int_max first rest.now }
 {
     let mut found = first;
@@ -146,17 +149,17 @@ pub fn value(values: &[Value]) -> Result<Value, ValueFault>
     if !is_decimal(text) {
         return Err(ValueFault::BadText);
     }
-    match text.parse::<i32>() {
+    match text.parse::<i64>() {
         Ok(n) => Ok(Value::Int(n)),
         Err(_) => Err(ValueFault::Overflow),
     }
 }
 
-// Whether a text is 1 to 8 hexadecimal digits.
+// Whether a text is 1 to 16 hexadecimal digits.
 fn is_hexadecimal(text: &str) -> bool
     ensures { result ≡ s.is_hexadecimal text.now }
 {
-    1 <= text.len() && text.len() <= 8 && are_hexdigits(text.as_bytes())
+    1 <= text.len() && text.len() <= HEXADECIMAL_DIGITS && are_hexdigits(text.as_bytes())
 }
 
 pub fn hex_value(values: &[Value]) -> Result<Value, ValueFault>
@@ -169,7 +172,7 @@ pub fn hex_value(values: &[Value]) -> Result<Value, ValueFault>
     if !is_hexadecimal(text) {
         return Err(ValueFault::BadText);
     }
-    match u32::from_str_radix(text, 16) {
+    match u64::from_str_radix(text, 16) {
         Ok(bits) => Ok(Value::Int(bits.cast_signed())),
         Err(_) => Err(ValueFault::BadText),
     }

@@ -34,7 +34,7 @@ pub enum BinaryOp {
 // How many bytes a text has at most.
 const TEXT_LIMIT: usize = 1_048_576;
 
-fn quotient(a: i32, b: i32) -> Result<Value, ValueFault>
+fn quotient(a: i64, b: i64) -> Result<Value, ValueFault>
     ensures { result ≡ s.arithmetic o.Divide a b }
 {
     if b == 0 {
@@ -43,7 +43,7 @@ fn quotient(a: i32, b: i32) -> Result<Value, ValueFault>
     Ok(Value::Int(a.checked_div(b).ok_or(ValueFault::Overflow)?))
 }
 
-fn remainder(a: i32, b: i32) -> Result<Value, ValueFault>
+fn remainder(a: i64, b: i64) -> Result<Value, ValueFault>
     ensures { result ≡ s.arithmetic o.Remainder a b }
 {
     if b == 0 {
@@ -52,7 +52,7 @@ fn remainder(a: i32, b: i32) -> Result<Value, ValueFault>
     Ok(Value::Int(a.wrapping_rem(b)))
 }
 
-fn arithmetic(op: BinaryOp, a: i32, b: i32) -> Result<Value, ValueFault>
+fn arithmetic(op: BinaryOp, a: i64, b: i64) -> Result<Value, ValueFault>
     ensures { result ≡ s.arithmetic op a b }
 {
     match op {

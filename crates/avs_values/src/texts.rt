@@ -65,7 +65,7 @@ fn position(text: &str, wanted: &str) -> usize
 fn number(n: usize) -> Result<Value, ValueFault>
     ensures { result ≡ o.number (pos n) }
 {
-    match i32::try_from(n) {
+    match i64::try_from(n) {
         Ok(n) => Ok(Value::Int(n)),
         Err(_) => Err(ValueFault::Overflow),
     }
@@ -118,7 +118,7 @@ pub fn rev_str(alloc: Global, values: &[Value]) -> Result<Value, ValueFault>
 }
 
 // A text of at most so many characters.
-fn at_most(alloc: Global, count: i32, text: &str) -> Result<Value, ValueFault>
+fn at_most(alloc: Global, count: i64, text: &str) -> Result<Value, ValueFault>
     ensures { Gives (s.at_most count text.now) result }
 {
     if count < 0 {
@@ -204,7 +204,7 @@ pub fn ord(values: &[Value]) -> Result<Value, ValueFault>
         return Err(ValueFault::TypeFault);
     };
     match text.as_str().chars().next() {
-        Some(c) => Ok(Value::Int(c as i32)),
+        Some(c) => Ok(Value::Int(i64::from(u32::from(c)))),
         None => Err(ValueFault::BadText),
     }
 }

@@ -10,7 +10,7 @@ use std::alloc::{AllocError, Global};
 pub enum Value {
     Undefined,
     Bool(bool),
-    Int(i32),
+    Int(i64),
     Text(Text),
     Clip(u32),
 }
