@@ -12,7 +12,6 @@ pub mod RuleUniqueness
 pub mod RuleResults
 pub mod StatementResults
 pub mod RuleLemmas
-pub mod ExampleScripts
 pub mod FaultExamples
 pub mod ClipExamples
 pub mod WorldExamples

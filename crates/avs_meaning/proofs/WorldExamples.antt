@@ -1,4 +1,4 @@
--- Files of a world as scripts and as clips, each computed.
+-- Each is computed.
 use Rattle.std.proofs.Common.{◌≡◌, [], ◌∷◌, refl, Ok, Err}
 use Rattle.std.specs.Prelude.{codes, Some, None}
 use lib.Utf8.{encode}
@@ -8,27 +8,15 @@ use Rattle.y4m_stream.specs.Parameters.{parameter_fault, info_of}
 use Rattle.avs_meaning.specs.Outside.{script_in, clip_in, frames_from}
 use Rattle.avs_meaning.specs.declared.fault.FileKind.TheVariants as f
 use Rattle.avs_meaning.specs.declared.fault.InputFault.TheVariants as i
+use Rattle.avs_meaning.specs.WorldExamples.{ScriptsInWorlds}
 
-no_file : script_in None ≡ Err f.NotThere
-no_file = refl
-
-a_script : script_in (Some (codes "Version")) ≡ Ok (codes "Version")
-unfolding is_utf8 chars encode
-a_script = refl
-
--- a byte that no UTF-8 has
-no_text : script_in (Some (255 ∷ [])) ≡ Err f.NotUtf8
-unfolding is_utf8 chars
-no_text = refl
-
-no_clip : clip_in (Some (codes "RIFF")) ≡ Err (i.Y4m NotY4m)
-no_clip = refl
-
-no_frames : clip_in (Some (codes "YUV4MPEG2 W1 H1 Cmono\n")) ≡ Err (i.Y4m NoFrames)
-unfolding frames_from parameter_fault info_of
-no_frames = refl
-
--- the second frame has no sample
-cut_frame : clip_in (Some (codes "YUV4MPEG2 W1 H1 Cmono\nFRAME\n0FRAME\n")) ≡ Err (i.Y4m (Truncated 1))
-unfolding frames_from parameter_fault info_of
-cut_frame = refl
+pub scripts_in_worlds : ScriptsInWorlds
+unfolding is_utf8 chars encode frames_from parameter_fault info_of
+scripts_in_worlds = record {
+  no_file = refl;
+  a_script = refl;
+  no_text = refl;
+  no_clip = refl;
+  no_frames = refl;
+  cut_frame = refl;
+}

@@ -19,3 +19,7 @@ pub mod Meaning
 pub mod Rules
 pub mod Laws
 pub mod RuleLaws
+pub mod ExampleScripts
+pub mod ClipExamples
+pub mod FaultExamples
+pub mod WorldExamples

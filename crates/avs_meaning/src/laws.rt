@@ -1,4 +1,7 @@
 // Laws of the definitions, each the contract of a function with an empty body.
+ghost use Rattle.avs_meaning.specs.ClipExamples.{ClipsOfScripts};
+ghost use Rattle.avs_meaning.specs.FaultExamples.{FaultsOfScripts};
+ghost use Rattle.avs_meaning.specs.WorldExamples.{ScriptsInWorlds};
 ghost use Rattle.avs_meaning.specs.Laws.{ClipsAreStreams, FiltersAreKnown, NamesDiffer};
 ghost use Rattle.avs_meaning.specs.RuleLaws.{RulesAreEvaluation, RulesAreExecution};
 
@@ -30,4 +33,11 @@ pub fn rules_are_execution()
 #[tactic(auto, using(crate::proofs::RuleLemmas::rules_are_evaluation))]
 pub fn rules_are_evaluation()
     ensures { RulesAreEvaluation }
+{}
+
+/// Scripts whose meaning is computed, and files of a world as scripts and as clips.
+pub fn examples()
+    ensures clips { ClipsOfScripts }
+    ensures faults { FaultsOfScripts }
+    ensures files { ScriptsInWorlds }
 {}
