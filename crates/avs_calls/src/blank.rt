@@ -1,10 +1,11 @@
 // `BlankClip`: its arguments, their refusals, and the clip that they make.
-ghost use Rattle.std.specs.Prelude.{◌≡◌, ◌≤◌, option_map, OnOk};
+ghost use Rattle.std.specs.Prelude.{◌≡◌, ◌≤◌, IsTrue, option_map, OnOk};
 ghost use Rattle.fv_plane.specs.Refusals.{first_fault};
 ghost use Rattle.fv_plane.specs.Info.{IsPar};
 ghost use Rattle.clip_term.specs.Blank as b;
 ghost use Rattle.clip_term.specs.Refusals.{part_of, no_colour};
 ghost use Rattle.clip_term.specs.Texts.{format_named};
+ghost use Rattle.avs_meaning.specs.Arguments.{all_fit_filters};
 ghost use Rattle.avs_meaning.specs.Filters as f;
 ghost use Rattle.avs_state.specs.Answers.{Gives};
 ghost use Rattle.avs_state.specs.Sources.{sources_of};
@@ -37,7 +38,8 @@ pub(crate) struct BlankArgs<'a> {
 impl<'a> BlankArgs<'a> {
     /// The arguments that values are from a place on, in the order of the signature.
     fn of(values: &'a [Value], first: usize) -> BlankArgs<'a>
-        requires { first ≤ 1 }
+        requires place { first ≤ 1 }
+        requires fit { IsTrue (all_fit_filters values.now) }
         ensures { args_view result ≡ f.blank_args values.now first }
     {
         BlankArgs {
@@ -273,6 +275,7 @@ pub(crate) fn blank(
     script_name: &Text,
     line: u32,
 ) -> Result<Value, ScriptStop>
+    requires fit { IsTrue (all_fit_filters values.now) }
     ensures gives { Gives (λ x. x) (f.blank script_name.now signature values.now line (state_of machine.old)) result
         (state_of machine.new) }
     ensures asks { AsksNothing machine.old machine.new }

@@ -8,13 +8,13 @@ ghost use Rattle.avs_state.specs.Answers.{Gives};
 ghost use Rattle.avs_state.specs.Sources.{sources_of};
 ghost use Rattle.avs_state.specs.States.{state_of, AsksNothing};
 
-use crate::arguments::add_clips;
+use crate::arguments::{add_clips, all_fit_filters};
 use crate::blank::blank;
 use crate::read::{Unread, read, takes};
 use avs_meaning::{ScriptKind, ScriptStop};
 use avs_state::{Machine, fault_at};
 use avs_values::{Bound, Value};
-use clip_term::{Filter, Op, TimeOp};
+use clip_term::{Filter, FilterFault, Op, TimeOp};
 use fv_io::Text;
 use std::alloc::Global;
 
@@ -31,9 +31,8 @@ fn apply_to(
     line: u32,
 ) -> Result<Value, ScriptStop>
     requires { frames ≤ 1000000 }
-    ensures gives { Gives (λ x. x) (f.applied_by script_name.now (a.read given.now.values.items (a.numbers_among
-        given.now.rest.items) frames filter) filter inputs.now line (state_of machine.old)) result (state_of
-        machine.new) }
+    ensures gives { Gives (λ x. x) (f.applied_by script_name.now (a.reading (bound_view given.now) frames filter) filter
+        inputs.now line (state_of machine.old)) result (state_of machine.new) }
     ensures asks { AsksNothing machine.old machine.new }
     ensures sources { OnOk result (sources_of (state_of machine.new).plan ≡ sources_of (state_of machine.old).plan) }
 {
@@ -101,6 +100,14 @@ pub fn filter(
     ensures sources { OnOk result (sources_of (state_of machine.new).plan ≡ sources_of (state_of machine.old).plan) }
 {
     if let Filter::BlankClip = filter {
+        if !all_fit_filters(&given.values) {
+            return Err(fault_at(
+                alloc,
+                ScriptKind::Filter(FilterFault::BadRange),
+                script_name,
+                line,
+            ));
+        }
         return blank(alloc, machine, signature, &given.values, script_name, line);
     }
     apply(alloc, machine, filter, given, script_name, line)

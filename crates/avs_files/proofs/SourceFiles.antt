@@ -1,5 +1,5 @@
 -- Each source of a plan that a run makes is a file that is a clip.
-use Rattle.std.proofs.Common.{◌≡◌, refl, ℕ, zero, suc, ℤ, List, [], ◌∷◌, ◌++◌, Bool, true, false, Option, Some, None, Result, Ok, Err, if◌then◌else◌, nat_le, nat_lt, length, slice_get, ◌+ℤ◌, map, nat_eq}
+use Rattle.std.proofs.Common.{◌≡◌, refl, ℕ, zero, suc, ℤ, List, [], ◌∷◌, ◌++◌, Bool, true, false, ◌&&◌, Option, Some, None, Result, Ok, Err, if◌then◌else◌, nat_le, nat_lt, length, slice_get, ◌+ℤ◌, map, nat_eq}
 use Rattle.fv_plane.specs.declared.format.Info.{Info}
 use Rattle.fv_plane.specs.Refusals.{first_fault}
 use Rattle.avs_tree.specs.Loaded.{Loaded, NoTree}
@@ -180,7 +180,8 @@ module _ (outside : Outside) where
 
   filtered_keeps : (here : Text) (filter : Filter) (sig : ℕ) (bound : Bound) (line : ℕ) (s : State) → AreFiles s.plan → Has (filtered here outside filter sig bound line s)
   filtered_keeps here f.Y4MSource sig bound line s are = open_source_keeps here bound.values line s are
-  filtered_keeps here f.BlankClip sig bound line s are = blank_keeps here sig bound.values line s are
+  filtered_keeps here f.BlankClip sig bound line s are =
+      if_runs (arguments.all_fit_filters bound.values) (filters.blank here sig bound.values line) (fails arguments.out_of_range here line) s (blank_keeps here sig bound.values line s are) tt
   filtered_keeps here filter sig bound line s are = filter_applied_keeps here filter bound _ line s are
 
   told_keeps : (here : Text) (function : ClipFn) (values : List Value) (line : ℕ) (s : State) → AreFiles s.plan → Has (told here function values line s)
@@ -243,9 +244,10 @@ module _ (outside : Outside) where
 
   ranged_by_keeps : (again : Caller) → Calls again → (values rest : List Value) (here : Text) (line : ℕ) (s : State) → AreFiles s.plan → Has (ranged_by again values rest here line s)
   ranged_by_keeps again kept (v.Clip i ∷ v.Int first ∷ v.Int last ∷ v.Text word ∷ []) rest here line s are =
-      then_keeps (and_then (called here word line s) (λ c. again c (map unnamed (v.Clip i ∷ rest)) here line)) _
+      if_runs (arguments.is_filter_number first && arguments.is_filter_number last) _ _ s
+      (then_keeps (and_then (called here word line s) (λ c. again c (map unnamed (v.Clip i ∷ rest)) here line)) _
       (then_keeps (called here word line s) _ (called_keeps here word line s are) (λ c t still. kept c (map unnamed (v.Clip i ∷ rest)) here line t still))
-      (λ x t still. ranged_keeps here i first last line x t still)
+      (λ x t still. ranged_keeps here i first last line x t still)) tt
   ranged_by_keeps again kept _ rest here line s are = tt
 
   -- ---- loops, of which the body keeps them

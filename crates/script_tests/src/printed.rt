@@ -27,7 +27,8 @@ fn printed_twice(alloc: Global, text: &str) -> Result<(Text, Text), Fail> {
 fn scripts_are_printed_and_read_again(rt: HostRuntime) -> Result<(), Fail> {
     for (text, wanted) in [
         ("a=1+2*3", "a = 1 + 2 * 3\n"),
-        ("a=$FFFFFFFF", "a = $FFFFFFFF\n"),
+        ("a=$FFFFFFFF", "a = 4294967295\n"),
+        ("a=$ffffffffffffffff", "a = $FFFFFFFFFFFFFFFF\n"),
         (
             "f(x=-1,\"b\").g.h(2)",
             "f ( x = - 1 , \"b\" ) . g . h ( 2 )\n",
