@@ -1,5 +1,5 @@
 -- The filters by their numbers and names.
-use Rattle.std.proofs.Common.{◌≡◌, ◌∙◌, List, Some, map, refl, sym, ap}
+use Rattle.std.proofs.Common.{◌≡◌, ◌∙◌, Some, map, refl, sym, ap}
 use Rattle.std.specs.Prelude.{slice_get}
 use Rattle.std.specs.Option.{option_map}
 use Rattle.std.proofs.lemmas.Option.{slice_get-map}

@@ -7,5 +7,6 @@ pub mod Blank
 pub mod Texts
 pub mod Filters
 pub mod ClipTerm
+pub mod Ops
 pub mod Terms
 pub mod FaultNames

@@ -185,6 +185,9 @@ impl Filter {
     pub fn named(name: &str) -> Option<Filter>
         ensures { result ≡ filter_named name.now }
     {
-        Filter::ALL.iter().copied().find(|filter| filter.has_name(name))
+        Filter::ALL
+            .iter()
+            .copied()
+            .find(|filter| filter.has_name(name))
     }
 }

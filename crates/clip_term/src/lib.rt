@@ -14,5 +14,7 @@ mod term;
 pub use fault::FilterFault;
 pub use filter::Filter;
 pub use numbers::Numbers;
-pub use op::{Channels, JoinOp, Matrix, Op, Origin, SoftOp, SpaceOp, TimeOp, TrimBound};
+pub use op::{
+    Channels, JoinOp, Matrix, Op, Origin, SoftOp, SourcePart, SpaceOp, TimeOp, TrimBound,
+};
 pub use term::Term;
