@@ -1,24 +1,21 @@
 -- The filters, with their names and the modes that they declare (AviSynth+ wiki, "Internal filters" and "SetFilterMTMode").
-use Rattle.std.specs.Prelude.{◌≡◌, ℕ, Bool, List, [], ◌∷◌, codes, Option, Some, None, slice_get}
+use Rattle.std.specs.Prelude.{◌≡◌, ℕ, ◌≤◌, Bool, List, [], ◌∷◌, codes, Option, Some, None, slice_get}
 use Rattle.std.specs.List.{find, list_any}
 use Rattle.std.specs.Str.{str_eq_ignore_ascii_case}
 use Rattle.clip_term.specs.declared.filter.Filter.{Filter}
 use Rattle.clip_term.specs.declared.filter.Filter.TheVariants as filter
+use Rattle.clip_term.specs.declared.filter.TheConstants.Filter.{ALL}
 
 -- each filter once
 abbrev pub all_filters : List Filter
-all_filters =
-    filter.Y4MSource ∷ filter.BlankClip ∷ filter.Trim ∷ filter.Reverse ∷ filter.FreezeFrame ∷ filter.SelectEven ∷
-    filter.SelectOdd ∷ filter.SelectEvery ∷ filter.Interleave ∷ filter.UnalignedSplice ∷ filter.AlignedSplice ∷
-    filter.Loop ∷ filter.DuplicateFrame ∷ filter.DeleteFrame ∷ filter.AssumeFPS ∷ filter.ChangeFPS ∷
-    filter.ApplyRange ∷ filter.Crop ∷ filter.CropBottom ∷ filter.AddBorders ∷ filter.LetterBox ∷
-    filter.FlipHorizontal ∷ filter.FlipVertical ∷ filter.Turn180 ∷ filter.TurnLeft ∷ filter.TurnRight ∷
-    filter.Greyscale ∷ filter.Invert ∷ filter.Limiter ∷ filter.SwapUV ∷ filter.UToY8 ∷ filter.VToY8 ∷
-    filter.ConvertToY8 ∷ filter.StackHorizontal ∷ filter.StackVertical ∷ filter.Merge ∷ filter.MergeLuma ∷
-    filter.MergeChroma ∷ filter.YToUV ∷ filter.TemporalSoften ∷ filter.GeneralConvolution ∷ []
+all_filters = ALL
 
--- What is said of a filter: its place among all, its name, and the mode that it declares, if it does. 1 is MT_NICE_FILTER,
--- 2 is MT_MULTI_INSTANCE, 3 is MT_SERIALIZED.
+-- a mode: 1 is MT_NICE_FILTER, 2 is MT_MULTI_INSTANCE, 3 is MT_SERIALIZED
+pub record IsMode (mode : ℕ) : Type 0 where
+  pub least : 1 ≤ mode
+  pub most : mode ≤ 3
+
+-- What is said of a filter: its place among all, its name, and the mode that it declares, if it does.
 pub record Row : Type 0 where
   pub number : ℕ
   pub name : List ℕ

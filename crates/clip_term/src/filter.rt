@@ -47,8 +47,8 @@ pub enum Filter {
 }
 
 impl Filter {
-    ghost use Rattle.std.specs.Prelude.{◌≡◌, ◌≤◌, IfSome};
-    ghost use Rattle.clip_term.specs.Filters.{all_filters, declared_mode, filter_named, has_name, name_of, number_of};
+    ghost use Rattle.std.specs.Prelude.{◌≡◌, IfSome};
+    ghost use Rattle.clip_term.specs.Filters.{IsMode, declared_mode, filter_named, has_name, name_of, number_of};
 
     /// Each filter once. The number of a filter is its place here.
     pub const ALL: [Filter; 41] = [
@@ -99,7 +99,7 @@ impl Filter {
     fn row(self) -> (&'static str, Option<u8>)
         ensures name { result.0.now ≡ name_of self }
         ensures mode { result.1 ≡ declared_mode self }
-        ensures range { IfSome result.1 (λ mode. (1 ≤ mode) × (mode ≤ 3)) }
+        ensures range { IfSome result.1 IsMode }
     {
         match self {
             Filter::Y4MSource => ("Y4MSource", Some(3)),
@@ -166,7 +166,7 @@ impl Filter {
     /// MT_SERIALIZED.
     pub fn declared(self) -> Option<u8>
         ensures mode { result ≡ declared_mode self }
-        ensures range { IfSome result (λ mode. (1 ≤ mode) × (mode ≤ 3)) }
+        ensures range { IfSome result IsMode }
     {
         self.row().1
     }
