@@ -7,6 +7,7 @@ use Rattle.clip_term.specs.Filters.{IsMode}
 use Rattle.clip_term.specs.Ops.{SourcePart, source_part}
 use Rattle.clip_term.specs.Refusals.{no_info}
 use Rattle.clip_term.specs.Terms.{check, IsSound}
+use Rattle.clip_graph.specs.declared.graph.TheConstants.Graph.{MAX_NODES, MAX_DEPTH}
 
 -- what is done, the places of its inputs, the clip that it gives, and how many filters stand one on another up to here
 pub record Application : Type 0 where
@@ -55,9 +56,9 @@ pub record IsApplication (plan : List Application) (i : ℕ) (application : Appl
   pub mode : IsMode application.mode
   pub counted : IsCounted application.act (sources_in (take i plan)) application.mode
   pub depth : application.depth ≡ deepest plan application.inputs + 1
-  pub shallow : application.depth ≤ 512
+  pub shallow : application.depth ≤ MAX_DEPTH
 
--- at most 4,096 applications, each over earlier ones
+-- so many applications at most, each over earlier ones
 pub record IsPlan (plan : List Application) : Type 0 where
-  pub few : length plan ≤ 4096
+  pub few : length plan ≤ MAX_NODES
   pub each : (i : ℕ) → i < length plan → IsApplication plan i (application_at plan i)

@@ -17,9 +17,9 @@ use std::marker::Model;
 /// Why a node was not added.
 #[derive(Clone, Copy, Debug, PartialEq, Eq)]
 pub enum GraphFault {
-    /// There are 4,096 nodes.
+    /// There are `Graph::MAX_NODES` nodes.
     NodeLimit,
-    /// 512 nodes stand one on another.
+    /// `Graph::MAX_DEPTH` nodes stand one on another.
     DepthLimit,
     /// Out of memory.
     Memory,
