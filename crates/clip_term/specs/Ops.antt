@@ -1,5 +1,6 @@
 -- What an op is: the filter that it applies, and the source that it reads.
 use Rattle.std.specs.Prelude.{ℕ, List, Option, Some, None}
+use Rattle.std.specs.Option.{option_map}
 use Rattle.fv_plane.specs.declared.format.Info.{Info}
 use Rattle.clip_term.specs.declared.filter.Filter.{Filter}
 use Rattle.clip_term.specs.declared.filter.Filter.TheVariants as filter
@@ -82,3 +83,7 @@ source_part (time op) = None
 source_part (space op) = None
 source_part (joined op) = None
 source_part (soft op) = None
+
+-- what is known of the clip of a source
+abbrev pub source_info : Act → Option Info
+source_info act = option_map (λ (part : SourcePart). part.info) (source_part act)
