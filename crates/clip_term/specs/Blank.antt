@@ -1,5 +1,5 @@
 -- BlankClip: its arguments, their refusals in argument order, and the clip that they make (AviSynth+ wiki, "BlankClip").
-use Rattle.std.specs.Prelude.{ℕ, ◌*◌, Bool, false, not, ◌||◌, if◌then◌else◌, ◌==◌, ℤ, pos, List, [], ◌∷◌, Option, Some, None, Result, is_some, is_none}
+use Rattle.std.specs.Prelude.{ℕ, ◌*◌, Bool, false, not, ◌||◌, if◌then◌else◌, ◌==◌, ℤ, List, [], ◌∷◌, Option, Some, None, Result, is_some, is_none}
 use Rattle.std.specs.Option.{option_map, unwrap_or}
 use Rattle.fv_plane.specs.declared.format.Info.{Info}
 use Rattle.fv_plane.specs.declared.format.Shape.{Shape}
@@ -11,6 +11,7 @@ use Rattle.fv_plane.specs.declared.format.Tag.TheVariants.{Jpeg}
 use Rattle.fv_plane.specs.Format.{scale}
 use Rattle.fv_plane.specs.FormatNames.{format_named}
 use Rattle.fv_plane.specs.declared.format_names.Format.{Format}
+use Rattle.clip_term.specs.declared.arguments.TheConstants.{BLACK}
 use Rattle.clip_term.specs.declared.fault.FilterFault.{FilterFault}
 use Rattle.clip_term.specs.declared.fault.FilterFault.TheVariants.{BadRange, BadText, NotWholeChroma}
 use Rattle.fv_plane.specs.Look.{Look}
@@ -40,7 +41,7 @@ default_clip = record {
 }
 
 abbrev pub default_colour : ℤ
-default_colour = pos 1081472
+default_colour = BLACK
 
 abbrev pub given_below : Option ℤ → ℕ → Bool
 given_below None n = false

@@ -1,4 +1,5 @@
 pub mod Refusals
+pub mod Arguments
 pub mod Time
 pub mod Space
 pub mod Join

@@ -1,5 +1,5 @@
 -- What filters read from their text arguments (AviSynth+ wiki, "Invert" and "GeneralConvolution").
-use Rattle.std.specs.Prelude.{ℕ, ◌-◌, ◌*◌, ◌+◌, Bool, not, ◌&&◌, ◌||◌, if◌then◌else◌, ◌==◌, nat_le, ℤ, pos, neg_ℤ, List, [], ◌∷◌, length, codes, Option, Some, None, is_some, Result, Ok, Err}
+use Rattle.std.specs.Prelude.{ℕ, ◌-◌, ◌*◌, ◌+◌, Bool, not, ◌&&◌, ◌||◌, if◌then◌else◌, ◌==◌, ℤ, pos, neg_ℤ, List, [], ◌∷◌, length, codes, Option, Some, None, is_some, Result, Ok, Err}
 use Rattle.std.specs.Option.{option_map}
 use Rattle.std.specs.List.{list_all, list_any, filter, filter_map, slice_split, fold}
 use Rattle.std.specs.Char.{is_ascii_digit, to_ascii_uppercase}
@@ -7,6 +7,7 @@ use Rattle.std.specs.Str.{byte}
 use Rattle.clip_term.specs.declared.fault.FilterFault.{FilterFault}
 use Rattle.clip_term.specs.declared.fault.FilterFault.TheVariants.{BadText}
 use Rattle.clip_term.specs.declared.op.Channels.{Channels}
+use Rattle.clip_term.specs.Arguments.{is_weight}
 
 -- Channels: letters in any case
 
@@ -35,7 +36,7 @@ digits_of digits = fold (λ n c. n * 10 + (c - 48)) 0 digits
 
 abbrev pub weight_of : List ℕ → Option ℕ
 weight_of digits =
-    if not (length digits == 0) && list_all is_ascii_digit digits && nat_le (digits_of digits) 1024
+    if not (length digits == 0) && list_all is_ascii_digit digits && is_weight (pos (digits_of digits))
     then Some (digits_of digits) else None
 
 abbrev pub entry_of : List ℕ → Option ℤ
