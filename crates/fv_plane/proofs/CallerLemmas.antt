@@ -5,9 +5,10 @@ use Rattle.fv_plane.specs.declared.format.TheConstants.Shape.{MAX_SIDE, MAX_BYTE
 use Rattle.fv_plane.specs.declared.format.PixelType.{PixelType}
 use Rattle.fv_plane.specs.declared.format.PixelType.TheVariants.{Y8, YV12, YV16, YV24, YV411}
 use Rattle.fv_plane.specs.declared.format.Shape.{Shape}
-use Rattle.fv_plane.specs.Format.{IsLegal, has_whole_sides, planes, plane_width, plane_height, sub_w, sub_h, frame_bytes}
+use Rattle.fv_plane.specs.Format.{IsLegal, has_whole_sides, largest_sample, planes, sample_bytes, plane_width, plane_height, sub_w, sub_h, frame_bytes}
 use Rattle.fv_plane.specs.Picture.{Picture, IsPicture, row_of}
-use Rattle.fv_plane.specs.Bytes.{bytes_of, picture_of}
+use Rattle.fv_plane.specs.Bytes.{AreSamples, bytes_of, bytes_of_row, picture_of, row_of_bytes}
+use Rattle.fv_plane.proofs.BytesLemmas.{row-bytes_of_row}
 use Rattle.fv_plane.proofs.CutLemmas as cut
 
 -- the bytes of luma alone are some
@@ -99,3 +100,21 @@ length-plane picture p is there = let plane = is.sizes p (let count = is.count i
 -- a row of a plane has as many samples as its width
 pub length-row : (picture : Picture) (p y : ℕ) → IsPicture picture → p < planes picture.shape.kind → y < plane_height picture.shape p → length (row_of picture.planes p y) ≡ plane_width picture.shape p
 length-row picture p y is there inside = let plane = is.sizes p (let count = is.count in omega arith) in plane.widths y inside
+
+-- the bytes of samples of one byte are these samples
+pub bytes_of_narrow : (shape : Shape) (row : List ℕ) → sample_bytes shape ≡ 1 → bytes_of_row shape row ≡ row
+unfolding bytes_of_row
+bytes_of_narrow shape row narrow = refl
+
+-- the samples of bytes are these bytes, where a sample is one
+pub narrow_of_bytes : (shape : Shape) (bytes : List ℕ) → sample_bytes shape ≡ 1 → row_of_bytes shape bytes ≡ bytes
+unfolding row_of_bytes
+narrow_of_bytes shape bytes narrow = refl
+
+-- the samples of a row's bytes are the row
+pub row_again : (shape : Shape) (row : List ℕ) → ((x : ℕ) → get_or row x 0 ≤ largest_sample shape) → row_of_bytes shape (bytes_of_row shape row) ≡ row
+row_again shape row bounded = row-bytes_of_row shape row
+
+-- no byte is over the largest sample of one byte
+pub bytes_are_narrow : (shape : Shape) (bytes : List ℕ) → sample_bytes shape ≡ 1 → ((x : ℕ) → get_or bytes x 0 ≤ 255) → AreSamples shape bytes
+bytes_are_narrow shape bytes narrow bounded x = rw (narrow_of_bytes shape bytes narrow) (bounded x)
