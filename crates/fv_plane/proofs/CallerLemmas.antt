@@ -7,7 +7,7 @@ use Rattle.fv_plane.specs.declared.format.PixelType.TheVariants.{Y8, YV12, YV16,
 use Rattle.fv_plane.specs.declared.format.Shape.{Shape}
 use Rattle.fv_plane.specs.Format.{IsLegal, has_whole_sides, largest_sample, planes, sample_bytes, plane_width, plane_height, sub_w, sub_h, frame_bytes}
 use Rattle.fv_plane.specs.Picture.{Picture, IsPicture, row_of}
-use Rattle.fv_plane.specs.Bytes.{AreSamples, bytes_of, bytes_of_row, picture_of, row_of_bytes}
+use Rattle.fv_plane.specs.Bytes.{bytes_of, bytes_of_row, picture_of, row_of_bytes}
 use Rattle.fv_plane.proofs.BytesLemmas.{row-bytes_of_row}
 use Rattle.fv_plane.proofs.CutLemmas as cut
 
@@ -114,7 +114,3 @@ narrow_of_bytes shape bytes narrow = refl
 -- the samples of a row's bytes are the row
 pub row_again : (shape : Shape) (row : List ℕ) → ((x : ℕ) → get_or row x 0 ≤ largest_sample shape) → row_of_bytes shape (bytes_of_row shape row) ≡ row
 row_again shape row bounded = row-bytes_of_row shape row
-
--- no byte is over the largest sample of one byte
-pub bytes_are_narrow : (shape : Shape) (bytes : List ℕ) → sample_bytes shape ≡ 1 → ((x : ℕ) → get_or bytes x 0 ≤ 255) → AreSamples shape bytes
-bytes_are_narrow shape bytes narrow bounded x = rw (narrow_of_bytes shape bytes narrow) (bounded x)

@@ -1,10 +1,10 @@
 -- A frame as bytes: the planes in their order, each row by row from the top, with nothing between them (yuv4mpeg(5) of
 -- mjpegtools).
-use Rattle.std.specs.Prelude.{◌≡◌, ℕ, zero, suc, ◌+◌, ◌≤◌, Option, None, Some, if◌then◌else◌, ◌==◌}
+use Rattle.std.specs.Prelude.{◌≡◌, ℕ, zero, suc, ◌+◌, Option, None, Some, if◌then◌else◌, ◌==◌}
 use Rattle.std.specs.Prelude.{List, [], ◌∷◌, length, drop, slice_index_or, map}
 use Rattle.std.specs.List.{flat_map}
 use Rattle.fv_plane.specs.declared.format.Shape.{Shape}
-use Rattle.fv_plane.specs.Format.{IsLegal, largest_sample, planes, plane_height, plane_bytes, row_bytes, frame_bytes}
+use Rattle.fv_plane.specs.Format.{IsLegal, planes, plane_height, plane_bytes, row_bytes, frame_bytes}
 use Rattle.fv_plane.specs.Rows.{rows_of}
 use Rattle.fv_plane.specs.Picture.{Picture, IsPicture}
 
@@ -15,10 +15,6 @@ bytes_of_row shape row = row
 -- the samples of a row's bytes: a byte is one sample of eight bits
 unfoldable pub row_of_bytes : Shape → List ℕ → List ℕ
 row_of_bytes shape bytes = bytes
-
--- no sample of a row's bytes is over the largest
-abbrev pub AreSamples : Shape → List ℕ → Type 0
-AreSamples shape bytes = (x : ℕ) → slice_index_or (row_of_bytes shape bytes) x 0 ≤ largest_sample shape
 
 abbrev pub bytes_of_rows : Shape → List (List ℕ) → List ℕ
 bytes_of_rows shape rows = flat_map (bytes_of_row shape) rows

@@ -5,7 +5,7 @@ ghost use Rattle.fv_plane.specs.Format.{IsLegal, HasSamePlane, planes, plane_wid
 ghost use Rattle.fv_plane.specs.Rows.{IsPlaneLike, width_of, bytes_put};
 ghost use Rattle.fv_plane.specs.Picture.{IsPicture, with_row, with_rows, blank};
 ghost use Rattle.fv_plane.specs.Picture.{plain_plane as of_one_value, plain_chroma as of_one_colour};
-ghost use Rattle.fv_plane.specs.Bytes.{AreSamples, row_of_bytes, rows_of_bytes, decoded_rows, chroma_list, plane_list, plane_of};
+ghost use Rattle.fv_plane.specs.Bytes.{row_of_bytes, rows_of_bytes, decoded_rows, chroma_list, plane_list, plane_of};
 
 use crate::{Colour, Frame, Plane, PlaneBuilder, Shape};
 use std::alloc::{AllocError, Global};
@@ -146,12 +146,11 @@ impl FrameBuilder {
         })
     }
 
-    /// Puts the bytes of a row, none of whose samples is over the largest, in its place. The other rows stay.
+    /// Puts the bytes of a row in its place. The other rows stay.
     pub fn put_row(&mut self, plane: u32, y: u32, row: &[u8])
         requires plane { plane < planes self.old.shape.kind }
         requires inside { y < plane_height self.old.shape plane }
         requires whole { length row.now ≡ row_bytes self.old.shape plane }
-        requires samples { AreSamples self.old.shape row.now }
         ensures shape { self.new.shape ≡ self.old.shape }
         ensures rows { self.new.planes ≡ with_row self.old.planes plane y (row_of_bytes self.old.shape row.now) }
         ensures sizes { IsPicture self.new }
@@ -165,7 +164,6 @@ impl FrameBuilder {
         requires plane { plane < planes self.old.shape.kind }
         requires inside { y + count ≤ plane_height self.old.shape plane }
         requires whole { length rows.now ≡ count * row_bytes self.old.shape plane }
-        requires samples { AreSamples self.old.shape rows.now }
         ensures shape { self.new.shape ≡ self.old.shape }
         ensures rows { self.new.planes
             ≡ with_rows self.old.planes plane y (rows_of_bytes self.old.shape plane count rows.now) }
