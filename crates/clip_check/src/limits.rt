@@ -62,10 +62,10 @@ pub fn limits(c: Info, frames: u128, rate: FrameRate, sides: Sides) -> Result<In
     if frames == 0 {
         return Err(FilterFault::EmptyClip);
     }
-    if frames > 1_000_000 {
+    if frames > Info::MAX_FRAMES as u128 {
         return Err(FilterFault::LengthLimit);
     }
-    if made.num > 2_147_483_647 || made.den > 2_147_483_647 {
+    if made.num > Info::MAX_RATE as u128 || made.den > Info::MAX_RATE as u128 {
         return Err(FilterFault::RateLimit);
     }
     if sides.width > Shape::MAX_SIDE as u128 || sides.height > Shape::MAX_SIDE as u128 {

@@ -6,7 +6,7 @@ ghost use Rattle.fv_plane.specs.Refusals.{first_fault};
 ghost use Rattle.fv_plane.specs.declared.format.PixelType.TheVariants.{Y8, YV16, YV411};
 ghost use Rattle.clip_term.specs.declared.fault.FilterFault.TheVariants.{BadRange, TurnFormat, NeedsChroma};
 ghost use Rattle.clip_term.specs.declared.op.SpaceOp.TheVariants as op;
-ghost use Rattle.clip_term.specs.Refusals.{beyond, is_whole, are_whole, no_colour, same_kind};
+ghost use Rattle.clip_term.specs.Refusals.{beyond, is_whole, are_whole, same_kind};
 ghost use Rattle.clip_term.specs.Space.{size_from, cut_refusals, bad_bounds, is_no_part, is_outside, cover_more, bad_borders, space_refusals, space_shape, check_space};
 ghost use Rattle.clip_term.specs.ClipTerm.{space};
 ghost use Rattle.clip_term.specs.Terms.{IsSound, AreLawful};
@@ -16,7 +16,7 @@ ghost use Rattle.clip_check.specs.Summaries.{TellsAll};
 use crate::limits::{Sides, limits, rate_of, sides_of};
 use crate::shared::{beyond, is_whole};
 use crate::summary::Summary;
-use clip_term::{FilterFault, SpaceOp};
+use clip_term::{FilterFault, SpaceOp, no_colour};
 use fv_plane::{Info, PixelType, Shape};
 
 fn are_whole(shape: Shape, left: u64, top: u64, right: u64, bottom: u64) -> bool
@@ -101,12 +101,6 @@ fn bottom_fault(shape: Shape, n: i32) -> Option<FilterFault>
         shape.width as i64,
         height_above(shape.height, n),
     )
-}
-
-fn no_colour(color: i32) -> bool
-    ensures { result ≡ no_colour color }
-{
-    beyond(color, 16_777_215)
 }
 
 fn bad_borders(left: i32, top: i32, right: i32, bottom: i32, color: i32) -> bool

@@ -7,6 +7,7 @@ use Rattle.std.proofs.lemmas.Bool.{cases_eq}
 use Rattle.fv_plane.specs.declared.format.Info.{Info}
 use Rattle.clip_term.specs.ClipTerm.{ClipTerm, applied, no_terms, and_term}
 use Rattle.clip_graph.specs.declared.node.Node.{Node}
+use Rattle.clip_graph.specs.declared.graph.TheConstants.Graph.{MAX_NODES}
 use Rattle.clip_graph.specs.Nodes.{application_of, plan_of}
 use Rattle.clip_graph.specs.Plan.{Application, application_at, no_application, infos_among, deepest, is_source, sources_in, IsApplication, IsPlan}
 use Rattle.clip_graph.specs.Unfolding.{terms_by, term_within, TermsStay}
@@ -47,7 +48,7 @@ application_kept plan new i is there old =
     }
 
 -- a plan with one more application is a plan
-pub IsPlan-push : (plan : List Application) (new : Application) → IsPlan plan → length plan < 4096 → IsApplication plan (length plan) new → IsPlan (plan ++ new ∷ [])
+pub IsPlan-push : (plan : List Application) (new : Application) → IsPlan plan → length plan < MAX_NODES → IsApplication plan (length plan) new → IsPlan (plan ++ new ∷ [])
 IsPlan-push plan new is room last = record {
   few = omega (arith, length_push plan new);
   each = λ i there. elim (cases_eq i (length plan)) [
@@ -63,7 +64,7 @@ sources_in-push plan new =
     sum_by-append (λ (a : Application). if is_source a.act then 1 else 0) plan (new ∷ []) ∙ ap (λ (n : ℕ). sources_in plan + n) (omega arith)
 
 -- the nodes of a graph with one more node, and the number of their sources
-pub IsPlan-nodes : (old new : List Node) (node : Node) (sources : ℕ) → new ≡ old ++ node ∷ [] → IsPlan (plan_of old) → length old < 4096 → sources ≡ sources_in (plan_of old)
+pub IsPlan-nodes : (old new : List Node) (node : Node) (sources : ℕ) → new ≡ old ++ node ∷ [] → IsPlan (plan_of old) → length old < MAX_NODES → sources ≡ sources_in (plan_of old)
     → IsApplication (plan_of old) (length (plan_of old)) (application_of node)
     → IsPlan (plan_of new) × (sources + (if is_source (application_of node).act then 1 else 0) ≡ sources_in (plan_of new))
 IsPlan-nodes old new node sources pushed is room counts last =

@@ -1,10 +1,13 @@
 -- The plan of a script: the filters that it applied, each over earlier ones.
-use Rattle.std.specs.Prelude.{◌≡◌, ℕ, ◌+◌, ◌<◌, ◌≤◌, max, Bool, true, false, List, [], ◌∷◌, length, map, take, Ok, slice_index_or}
+use Rattle.std.specs.Prelude.{◌≡◌, ℕ, ◌+◌, ◌<◌, ◌≤◌, max, Bool, List, [], ◌∷◌, length, map, take, Ok, slice_index_or, is_some, IfSome}
 use Rattle.std.specs.List.{count_by}
 use Rattle.fv_plane.specs.declared.format.Info.{Info}
-use Rattle.clip_term.specs.ClipTerm.{Act, source, plain, time, space, joined, soft}
+use Rattle.clip_term.specs.ClipTerm.{Act, plain}
+use Rattle.clip_term.specs.Filters.{IsMode}
+use Rattle.clip_term.specs.Ops.{SourcePart, source_part}
 use Rattle.clip_term.specs.Refusals.{no_info}
 use Rattle.clip_term.specs.Terms.{check, IsSound}
+use Rattle.clip_graph.specs.declared.graph.TheConstants.Graph.{MAX_NODES, MAX_DEPTH}
 
 -- what is done, the places of its inputs, the clip that it gives, and how many filters stand one on another up to here
 pub record Application : Type 0 where
@@ -35,8 +38,7 @@ deepest plan [] = 0
 deepest plan (i ∷ places) = max (application_at plan i).depth (deepest plan places)
 
 abbrev pub is_source : Act → Bool
-is_source (source name number info) = true
-is_source _ = false
+is_source act = is_some (source_part act)
 
 -- the number of sources in a plan
 abbrev pub sources_in : List Application → ℕ
@@ -44,17 +46,7 @@ sources_in plan = count_by (λ (application : Application). is_source applicatio
 
 -- a source has its number among the sources, and mode 3
 abbrev pub IsCounted : Act → ℕ → ℕ → Type 0
-IsCounted (source name number info) before mode = (number ≡ before) × (mode ≡ 3)
-IsCounted (plain info colour) before mode = Unit {0}
-IsCounted (time op) before mode = Unit {0}
-IsCounted (space op) before mode = Unit {0}
-IsCounted (joined op) before mode = Unit {0}
-IsCounted (soft op) before mode = Unit {0}
-
--- 1 is MT_NICE_FILTER, 2 is MT_MULTI_INSTANCE, 3 is MT_SERIALIZED
-pub record IsMode (mode : ℕ) : Type 0 where
-  pub least : 1 ≤ mode
-  pub most : mode ≤ 3
+IsCounted act before mode = IfSome (source_part act) (λ (part : SourcePart). (part.number ≡ before) × (mode ≡ 3))
 
 -- an application that may stand at place i
 pub record IsApplication (plan : List Application) (i : ℕ) (application : Application) : Type 0 where
@@ -64,9 +56,9 @@ pub record IsApplication (plan : List Application) (i : ℕ) (application : Appl
   pub mode : IsMode application.mode
   pub counted : IsCounted application.act (sources_in (take i plan)) application.mode
   pub depth : application.depth ≡ deepest plan application.inputs + 1
-  pub shallow : application.depth ≤ 512
+  pub shallow : application.depth ≤ MAX_DEPTH
 
--- at most 4,096 applications, each over earlier ones
+-- so many applications at most, each over earlier ones
 pub record IsPlan (plan : List Application) : Type 0 where
-  pub few : length plan ≤ 4096
+  pub few : length plan ≤ MAX_NODES
   pub each : (i : ℕ) → i < length plan → IsApplication plan i (application_at plan i)

@@ -3,7 +3,8 @@ ghost use Rattle.std.specs.Prelude.{◌≡◌, ◌+◌, ◌<◌, if◌then◌els
 ghost use Rattle.std.specs.List.{All};
 ghost use Rattle.clip_term.specs.ClipTerm.{act_of};
 ghost use Rattle.clip_term.specs.Terms.{check, IsSound};
-ghost use Rattle.clip_graph.specs.Plan.{IsPlan, IsMode, IsCounted, application_at, deepest, infos_among, is_source, sources_in};
+ghost use Rattle.clip_term.specs.Filters.{IsMode};
+ghost use Rattle.clip_graph.specs.Plan.{IsPlan, IsCounted, application_at, deepest, infos_among, is_source, sources_in};
 ghost use Rattle.clip_graph.specs.Added.{Added};
 ghost use Rattle.clip_graph.specs.Nodes.{application_of, plan_of};
 
@@ -16,9 +17,9 @@ use std::marker::Model;
 /// Why a node was not added.
 #[derive(Clone, Copy, Debug, PartialEq, Eq)]
 pub enum GraphFault {
-    /// There are 4,096 nodes.
+    /// There are `Graph::MAX_NODES` nodes.
     NodeLimit,
-    /// 512 nodes stand one on another.
+    /// `Graph::MAX_DEPTH` nodes stand one on another.
     DepthLimit,
     /// Out of memory.
     Memory,
@@ -63,9 +64,9 @@ fn deepest(nodes: &[Node], inputs: &[u32]) -> u32
 fn one_if_source(op: &Op) -> u32
     ensures { result ≡ (if is_source (act_of op.now) then 1 else 0) }
 {
-    match op {
-        Op::Source { .. } => 1,
-        _ => 0,
+    match op.source_part() {
+        Some(_) => 1,
+        None => 0,
     }
 }
 

@@ -5,6 +5,8 @@ use Rattle.std.specs.Option.{unwrap_or}
 use Rattle.std.specs.List.{list_all, list_any, sum_by, fold}
 use Rattle.std.proofs.lemmas.Bool.Decides.{nat_tests}
 use Rattle.std.proofs.lemmas.Int.{ints}
+use Rattle.fv_plane.specs.declared.format.TheConstants.Info.{MAX_FRAMES, MAX_RATE}
+use Rattle.fv_plane.specs.declared.format.TheConstants.Shape.{MAX_SIDE, MAX_BYTES}
 use Rattle.fv_plane.specs.declared.format.Info.{Info}
 use Rattle.fv_plane.specs.declared.format.Shape.{Shape}
 use Rattle.fv_plane.specs.declared.format.PixelType.{PixelType}
@@ -53,23 +55,23 @@ limits_lawful c frames rate shape info e par some more fits =
     let made : Info = record c { frames = frames; num = low.num; den = low.den; shape = shape } in
     let told = passed (limit_refusals frames low shape) (Ok made) info e in
     let tests = told.0 in
-    let rates = or_false (nat_lt 2147483647 low.num) (nat_lt 2147483647 low.den) tests.1.1.0 in
-    let sizes = or_false (nat_lt 65535 shape.width || nat_lt 65535 shape.height) (nat_lt 16777216 (frame_bytes shape)) tests.1.1.1.0 in
-    let sides = or_false (nat_lt 65535 shape.width) (nat_lt 65535 shape.height) sizes.0 in
-    let most_num = few 2147483647 low.num rates.0 in
-    let most_den = few 2147483647 low.den rates.1 in
+    let rates = or_false (nat_lt MAX_RATE low.num) (nat_lt MAX_RATE low.den) tests.1.1.0 in
+    let sizes = or_false (nat_lt MAX_SIDE shape.width || nat_lt MAX_SIDE shape.height) (nat_lt MAX_BYTES (frame_bytes shape)) tests.1.1.1.0 in
+    let sides = or_false (nat_lt MAX_SIDE shape.width) (nat_lt MAX_SIDE shape.height) sizes.0 in
+    let most_num = few MAX_RATE low.num rates.0 in
+    let most_den = few MAX_RATE low.den rates.1 in
     let lawful : IsLawful made = record {
       shape = record {
         some_width = fits.some_width;
         some_height = fits.some_height;
         whole_width = fits.whole_width;
         whole_height = fits.whole_height;
-        most_width = few 65535 shape.width sides.0;
-        most_height = few 65535 shape.height sides.1;
-        most_bytes = few 16777216 (frame_bytes shape) sizes.1;
+        most_width = few MAX_SIDE shape.width sides.0;
+        most_height = few MAX_SIDE shape.height sides.1;
+        most_bytes = few MAX_BYTES (frame_bytes shape) sizes.1;
       };
       some = some_number frames tests.0;
-      most = few 1000000 frames tests.1.0;
+      most = few MAX_FRAMES frames tests.1.0;
       rate = lowest_terms rate.num rate.den some more (omega arith) (omega arith);
       par = par;
     } in

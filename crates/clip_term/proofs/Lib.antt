@@ -1,3 +1,4 @@
+pub mod FilterLemmas
 pub mod ExampleClips
 pub mod TimeExamples
 pub mod SpaceExamples

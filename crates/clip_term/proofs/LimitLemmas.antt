@@ -3,6 +3,8 @@ use Rattle.std.proofs.Common.{◌≡◌, ℕ, ◌+◌, ◌<◌, Ok, false, refl,
 use Rattle.std.specs.Prelude.{nat_lt, ◌==◌}
 use Rattle.std.proofs.Math.Nat.{div-one}
 use Rattle.std.proofs.lemmas.Bool.Decides.{nat_tests}
+use Rattle.fv_plane.specs.declared.format.TheConstants.Info.{MAX_FRAMES, MAX_RATE}
+use Rattle.fv_plane.specs.declared.format.TheConstants.Shape.{MAX_SIDE, MAX_BYTES}
 use Rattle.fv_plane.specs.declared.format.Info.{Info}
 use Rattle.fv_plane.specs.Format.{frame_bytes}
 use Rattle.fv_plane.specs.Info.{IsLawful}
@@ -22,10 +24,10 @@ lawful_passes c is =
       div-one c.num,
       div-one c.den,
       some,
-      less_false 1000000 c.frames (omega (arith, is.most)),
-      less_false 2147483647 c.num (omega (arith, is.rate.most_num)),
-      less_false 2147483647 c.den (omega (arith, is.rate.most_den)),
-      less_false 65535 c.shape.width (omega (arith, is.shape.most_width)),
-      less_false 65535 c.shape.height (omega (arith, is.shape.most_height)),
-      less_false 16777216 (frame_bytes c.shape) (omega (arith, is.shape.most_bytes)),
+      less_false MAX_FRAMES c.frames (omega (arith, is.most)),
+      less_false MAX_RATE c.num (omega (arith, is.rate.most_num)),
+      less_false MAX_RATE c.den (omega (arith, is.rate.most_den)),
+      less_false MAX_SIDE c.shape.width (omega (arith, is.shape.most_width)),
+      less_false MAX_SIDE c.shape.height (omega (arith, is.shape.most_height)),
+      less_false MAX_BYTES (frame_bytes c.shape) (omega (arith, is.shape.most_bytes)),
     ) refl

@@ -9,7 +9,8 @@ use Rattle.clip_term.specs.declared.op.SoftOp.TheVariants as f
 use Rattle.clip_term.specs.declared.filter.Filter.TheVariants as filter
 use Rattle.clip_term.specs.ClipTerm.{time, joined, soft}
 use Rattle.clip_term.specs.Blank.{check_blank, default_clip}
-use Rattle.clip_term.specs.Texts.{channels_named, matrix_named, format_named}
+use Rattle.fv_plane.specs.FormatNames.{format_named}
+use Rattle.clip_term.specs.Texts.{channels_named, matrix_named}
 use Rattle.clip_term.specs.Filters.{declared_mode}
 use Rattle.clip_term.specs.Time.{from_input}
 use Rattle.clip_term.specs.Terms.{info_of, infos_of, term_sample, term_samples, term_picture, make, asked}
@@ -81,7 +82,7 @@ matrix_with_a_sign_alone = refl
 matrix_with_a_plus : matrix_named (codes "1 2 3 4 +5 6 7 8 9") ≡ None
 matrix_with_a_plus = refl
 
-format_in_any_case : format_named (codes "yV411") ≡ Some YV411
+format_in_any_case : format_named (codes "yV411") ≡ Some (record { kind = YV411 })
 format_in_any_case = refl
 
 format_unknown : format_named (codes "YV13") ≡ None

@@ -1,6 +1,6 @@
 -- BlankClip: its arguments, their refusals in argument order, and the clip that they make (AviSynth+ wiki, "BlankClip").
-use Rattle.std.specs.Prelude.{ℕ, ◌*◌, Bool, false, not, ◌||◌, if◌then◌else◌, ◌==◌, ℤ, pos, List, [], ◌∷◌, Option, Some, None, Result, is_some, is_none}
-use Rattle.std.specs.Option.{unwrap_or}
+use Rattle.std.specs.Prelude.{ℕ, ◌*◌, Bool, false, not, ◌||◌, if◌then◌else◌, ◌==◌, ℤ, List, [], ◌∷◌, Option, Some, None, Result, is_some, is_none}
+use Rattle.std.specs.Option.{option_map, unwrap_or}
 use Rattle.fv_plane.specs.declared.format.Info.{Info}
 use Rattle.fv_plane.specs.declared.format.Shape.{Shape}
 use Rattle.fv_plane.specs.declared.format.Colour.{Colour}
@@ -9,12 +9,14 @@ use Rattle.fv_plane.specs.declared.format.PixelType.TheVariants.{YV12}
 use Rattle.fv_plane.specs.declared.format.Field.TheVariants.{Progressive}
 use Rattle.fv_plane.specs.declared.format.Tag.TheVariants.{Jpeg}
 use Rattle.fv_plane.specs.Format.{scale}
+use Rattle.fv_plane.specs.FormatNames.{format_named}
+use Rattle.fv_plane.specs.declared.format_names.Format.{Format}
+use Rattle.clip_term.specs.declared.arguments.TheConstants.{BLACK}
 use Rattle.clip_term.specs.declared.fault.FilterFault.{FilterFault}
 use Rattle.clip_term.specs.declared.fault.FilterFault.TheVariants.{BadRange, BadText, NotWholeChroma}
 use Rattle.fv_plane.specs.Look.{Look}
 use Rattle.fv_plane.specs.Refusals.{Refusals, first_fault}
 use Rattle.clip_term.specs.Refusals.{rate_of, nat_of, below, is_whole, no_colour, part_of, unless, limits}
-use Rattle.clip_term.specs.Texts.{format_named}
 
 -- None is an argument that isn't given
 pub record BlankArgs : Type 0 where
@@ -39,7 +41,7 @@ default_clip = record {
 }
 
 abbrev pub default_colour : ℤ
-default_colour = pos 1081472
+default_colour = BLACK
 
 abbrev pub given_below : Option ℤ → ℕ → Bool
 given_below None n = false
@@ -51,7 +53,7 @@ bad_format (Some text) = is_none (format_named text)
 
 abbrev pub format_or : PixelType → Option (List ℕ) → PixelType
 format_or kind None = kind
-format_or kind (Some text) = unwrap_or (format_named text) kind
+format_or kind (Some text) = unwrap_or (option_map (λ (format : Format). format.kind) (format_named text)) kind
 
 abbrev pub nat_or : ℕ → Option ℤ → ℕ
 nat_or n None = n

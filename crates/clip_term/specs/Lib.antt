@@ -1,4 +1,5 @@
 pub mod Refusals
+pub mod Arguments
 pub mod Time
 pub mod Space
 pub mod Join
@@ -7,5 +8,6 @@ pub mod Blank
 pub mod Texts
 pub mod Filters
 pub mod ClipTerm
+pub mod Ops
 pub mod Terms
 pub mod FaultNames

@@ -3,6 +3,8 @@ use Rattle.std.specs.Prelude.{ℕ, ◌*◌, ◌/◌, ◌%◌, Bool, true, false,
 use Rattle.std.specs.List.{list_all}
 use Rattle.fv_plane.specs.declared.format.Info.{Info}
 use Rattle.fv_plane.specs.declared.format.Shape.{Shape}
+use Rattle.fv_plane.specs.declared.format.TheConstants.Info.{MAX_FRAMES, MAX_RATE}
+use Rattle.fv_plane.specs.declared.format.TheConstants.Shape.{MAX_SIDE, MAX_BYTES}
 use Rattle.fv_plane.specs.declared.format.PixelType.{PixelType}
 use Rattle.fv_plane.specs.declared.format.PixelType.TheVariants.{Y8, YV12, YV16, YV24, YV411}
 use Rattle.fv_plane.specs.declared.format.Field.TheVariants.{Progressive}
@@ -104,9 +106,9 @@ disagreements infos =
 abbrev pub limit_refusals : ℕ → Rate → Shape → Refusals FilterFault
 limit_refusals frames rate shape =
     (EmptyClip, frames == 0)
-    ∷ (LengthLimit, nat_lt 1000000 frames)
-    ∷ (RateLimit, nat_lt 2147483647 rate.num || nat_lt 2147483647 rate.den)
-    ∷ (TooLarge, nat_lt 65535 shape.width || nat_lt 65535 shape.height || nat_lt 16777216 (frame_bytes shape))
+    ∷ (LengthLimit, nat_lt MAX_FRAMES frames)
+    ∷ (RateLimit, nat_lt MAX_RATE rate.num || nat_lt MAX_RATE rate.den)
+    ∷ (TooLarge, nat_lt MAX_SIDE shape.width || nat_lt MAX_SIDE shape.height || nat_lt MAX_BYTES (frame_bytes shape))
     ∷ []
 
 -- what ends each row: the clip c with this length, rate and size, where it passes no limit

@@ -1,6 +1,6 @@
 -- The filters that mix a sample with its neighbours, in time or in place (AviSynth+ wiki, "TemporalSoften" and
 -- "GeneralConvolution").
-use Rattle.std.specs.Prelude.{ℕ, ◌+◌, ◌-◌, ◌*◌, ◌/◌, ◌%◌, min, ◌&&◌, ◌||◌, if◌then◌else◌, ◌==◌, nat_le, ℤ, pos, negsuc, ◌+ℤ◌, ◌*ℤ◌, int_lt, int_div, List, [], ◌∷◌, length, map, Result}
+use Rattle.std.specs.Prelude.{ℕ, ◌+◌, ◌-◌, ◌*◌, ◌/◌, ◌%◌, min, ◌&&◌, ◌||◌, if◌then◌else◌, ◌==◌, nat_le, ℤ, pos, ◌+ℤ◌, ◌*ℤ◌, int_lt, int_div, List, [], ◌∷◌, length, map, Result}
 use Rattle.std.specs.List.{range_with_len, sum}
 use Rattle.fv_plane.specs.declared.format.Info.{Info}
 use Rattle.fv_plane.specs.declared.format.Shape.{Shape}
@@ -12,7 +12,8 @@ use Rattle.clip_term.specs.declared.op.SoftOp.{SoftOp}
 use Rattle.clip_term.specs.declared.op.SoftOp.TheVariants as op
 use Rattle.fv_plane.specs.Look.{Look, look_at}
 use Rattle.fv_plane.specs.Refusals.{Refusals, first_fault}
-use Rattle.clip_term.specs.Refusals.{rate_of, nat_of, below, above, beyond, info_at, unless, limits}
+use Rattle.clip_term.specs.Arguments.{is_no_bias}
+use Rattle.clip_term.specs.Refusals.{rate_of, nat_of, below, beyond, info_at, unless, limits}
 use Rattle.clip_term.specs.Time.{from_input, in_range}
 
 -- TemporalSoften: a sample that differs by more than the threshold counts as the middle one
@@ -64,7 +65,7 @@ convolved bias matrix shape from p x y =
 abbrev pub soft_refusals : SoftOp → Refusals FilterFault
 soft_refusals (op.TemporalSoften radius luma chroma) =
     (BadRange, beyond radius 7 || beyond luma 255 || beyond chroma 255) ∷ []
-soft_refusals (op.GeneralConvolution bias matrix) = (BadRange, int_lt bias (negsuc 254) || above bias 255) ∷ []
+soft_refusals (op.GeneralConvolution bias matrix) = (BadRange, is_no_bias bias) ∷ []
 
 abbrev pub check_soft : SoftOp → List Info → Result Info FilterFault
 check_soft op infos =

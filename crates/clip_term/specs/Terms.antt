@@ -1,5 +1,5 @@
 -- A clip's info, each of its samples, and its pictures.
-use Rattle.std.specs.Prelude.{◌≡◌, ℕ, ◌+◌, ◌<◌, Bool, true, ◌&&◌, ◌||◌, ◌==◌, nat_le, ℤ, negsuc, int_lt, List, [], ◌∷◌, length, map, not, IsTrue, Result, Ok, Err, slice_index_or}
+use Rattle.std.specs.Prelude.{◌≡◌, ℕ, ◌+◌, ◌<◌, Bool, true, ◌&&◌, ◌||◌, ◌==◌, nat_le, ℤ, List, [], ◌∷◌, length, map, IsTrue, Result, Ok, Err, slice_index_or}
 use Rattle.std.specs.List.{All, range_with_len, list_all}
 use Rattle.fv_plane.specs.declared.format.Info.{Info}
 use Rattle.fv_plane.specs.declared.format.Shape.{Shape}
@@ -14,7 +14,8 @@ use Rattle.clip_term.specs.declared.op.JoinOp.TheVariants as join_op
 use Rattle.clip_term.specs.declared.op.SoftOp.{SoftOp}
 use Rattle.clip_term.specs.declared.op.SoftOp.TheVariants as soft_op
 use Rattle.fv_plane.specs.Look.{Look, nothing, look_at, look_in, picture_from}
-use Rattle.clip_term.specs.Refusals.{above, info_at, no_info}
+use Rattle.clip_term.specs.Arguments.{is_weight}
+use Rattle.clip_term.specs.Refusals.{info_at, no_info}
 use Rattle.clip_term.specs.Time.{check_time, source_number, from_input, in_range}
 use Rattle.clip_term.specs.Space.{check_space, space_at}
 use Rattle.clip_term.specs.Join.{check_join, join_at}
@@ -117,8 +118,7 @@ time_lists (time_op.DeleteFrame frames) = nat_le 1 (length frames)
 time_lists _ = true
 
 abbrev pub is_matrix : List ℤ → Bool
-is_matrix entries =
-    (length entries == 9 || length entries == 25) && list_all (λ z. not (int_lt z (negsuc 1023) || above z 1024)) entries
+is_matrix entries = (length entries == 9 || length entries == 25) && list_all is_weight entries
 
 abbrev pub soft_lists : SoftOp → Bool
 soft_lists (soft_op.TemporalSoften radius luma chroma) = true

@@ -1,25 +1,13 @@
--- What filters read from their text arguments (AviSynth+ wiki, "Color spaces", "Invert" and "GeneralConvolution").
-use Rattle.std.specs.Prelude.{ℕ, ◌-◌, ◌*◌, ◌+◌, Bool, not, ◌&&◌, ◌||◌, if◌then◌else◌, ◌==◌, nat_le, ℤ, pos, neg_ℤ, List, [], ◌∷◌, length, codes, Option, Some, None, is_some, Result, Ok, Err}
+-- What filters read from their text arguments (AviSynth+ wiki, "Invert" and "GeneralConvolution").
+use Rattle.std.specs.Prelude.{ℕ, ◌-◌, ◌*◌, ◌+◌, Bool, not, ◌&&◌, ◌||◌, if◌then◌else◌, ◌==◌, ℤ, pos, neg_ℤ, List, [], ◌∷◌, length, codes, Option, Some, None, is_some, Result, Ok, Err}
 use Rattle.std.specs.Option.{option_map}
-use Rattle.std.specs.List.{list_all, list_any, find, filter, filter_map, slice_split, fold}
+use Rattle.std.specs.List.{list_all, list_any, filter, filter_map, slice_split, fold}
 use Rattle.std.specs.Char.{is_ascii_digit, to_ascii_uppercase}
-use Rattle.std.specs.Str.{byte, str_eq_ignore_ascii_case}
-use Rattle.fv_plane.specs.declared.format.PixelType.{PixelType}
-use Rattle.fv_plane.specs.declared.format.PixelType.TheVariants.{Y8, YV12, YV16, YV24, YV411}
+use Rattle.std.specs.Str.{byte}
 use Rattle.clip_term.specs.declared.fault.FilterFault.{FilterFault}
 use Rattle.clip_term.specs.declared.fault.FilterFault.TheVariants.{BadText}
 use Rattle.clip_term.specs.declared.op.Channels.{Channels}
-
--- Formats by name
-
-abbrev pub format_names : List (List ℕ × PixelType)
-format_names =
-    (codes "Y8", Y8) ∷ (codes "YV12", YV12) ∷ (codes "YV16", YV16) ∷ (codes "YV24", YV24) ∷ (codes "YV411", YV411) ∷ []
-
-abbrev pub format_named : List ℕ → Option PixelType
-format_named text =
-    option_map (λ (row : List ℕ × PixelType). row.1)
-    (find (λ (row : List ℕ × PixelType). str_eq_ignore_ascii_case text row.0) format_names)
+use Rattle.clip_term.specs.Arguments.{is_weight}
 
 -- Channels: letters in any case
 
@@ -48,7 +36,7 @@ digits_of digits = fold (λ n c. n * 10 + (c - 48)) 0 digits
 
 abbrev pub weight_of : List ℕ → Option ℕ
 weight_of digits =
-    if not (length digits == 0) && list_all is_ascii_digit digits && nat_le (digits_of digits) 1024
+    if not (length digits == 0) && list_all is_ascii_digit digits && is_weight (pos (digits_of digits))
     then Some (digits_of digits) else None
 
 abbrev pub entry_of : List ℕ → Option ℤ

@@ -1,4 +1,5 @@
 // Laws of the definitions, each the contract of a function with an empty body.
+ghost use Rattle.clip_term.specs.Filters.{FiltersAreListed};
 ghost use Rattle.clip_term.specs.Terms.{AsksInRange, ChecksLawful, MakesPictures, SoundLawful};
 
 /// What a filter makes of its inputs' pictures is the clip's picture.
@@ -20,4 +21,10 @@ pub fn asks_in_range()
 /// The info of a sound clip is lawful.
 pub fn sound_lawful()
     ensures { SoundLawful }
+{}
+
+/// Each filter is found by its number and by its names.
+#[tactic(auto, using(crate::proofs::FilterLemmas::filters_are_listed))]
+pub fn filters_are_listed()
+    ensures { FiltersAreListed }
 {}

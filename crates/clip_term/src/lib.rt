@@ -4,6 +4,7 @@
 //! and size, the frames that are asked, and samples. `specs/Terms.antt` goes over the tree.
 #![tactic(auto)]
 
+mod arguments;
 mod fault;
 mod filter;
 pub mod laws;
@@ -11,8 +12,14 @@ mod numbers;
 mod op;
 mod term;
 
+pub use arguments::{
+    BLACK, MAX_BIAS, MAX_WEIGHT, colour_of, is_matrix, is_no_bias, is_weight, no_colour, part_of,
+    read_channels,
+};
 pub use fault::FilterFault;
 pub use filter::Filter;
 pub use numbers::Numbers;
-pub use op::{Channels, JoinOp, Matrix, Op, Origin, SoftOp, SpaceOp, TimeOp, TrimBound};
+pub use op::{
+    Channels, JoinOp, Matrix, Op, Origin, SoftOp, SourcePart, SpaceOp, TimeOp, TrimBound,
+};
 pub use term::Term;

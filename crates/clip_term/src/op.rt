@@ -1,5 +1,5 @@
 // The filters with their arguments, as they stand after the defaults were put in.
-use crate::Numbers;
+use crate::{Filter, Numbers};
 use fv_io::Text;
 use fv_plane::{Colour, Info};
 
@@ -128,4 +128,137 @@ pub enum Op {
     Space(SpaceOp),
     Join(JoinOp),
     Soft(SoftOp),
+}
+
+impl TimeOp {
+    ghost use Rattle.std.specs.Prelude.{◌≡◌};
+    ghost use Rattle.clip_term.specs.Ops.{time_filter};
+
+    fn filter(&self) -> Filter
+        ensures { result ≡ time_filter self.now }
+    {
+        match self {
+            TimeOp::Trim { .. } => Filter::Trim,
+            TimeOp::Reverse => Filter::Reverse,
+            TimeOp::FreezeFrame { .. } => Filter::FreezeFrame,
+            TimeOp::SelectEven => Filter::SelectEven,
+            TimeOp::SelectOdd => Filter::SelectOdd,
+            TimeOp::SelectEvery { .. } => Filter::SelectEvery,
+            TimeOp::Interleave => Filter::Interleave,
+            TimeOp::UnalignedSplice => Filter::UnalignedSplice,
+            TimeOp::AlignedSplice => Filter::AlignedSplice,
+            TimeOp::Loop { .. } => Filter::Loop,
+            TimeOp::DuplicateFrame { .. } => Filter::DuplicateFrame,
+            TimeOp::DeleteFrame { .. } => Filter::DeleteFrame,
+            TimeOp::AssumeFPS { .. } => Filter::AssumeFPS,
+            TimeOp::ChangeFPS { .. } => Filter::ChangeFPS,
+            TimeOp::ApplyRange { .. } => Filter::ApplyRange,
+        }
+    }
+}
+
+impl SpaceOp {
+    ghost use Rattle.std.specs.Prelude.{◌≡◌};
+    ghost use Rattle.clip_term.specs.Ops.{space_filter};
+
+    fn filter(&self) -> Filter
+        ensures { result ≡ space_filter self.now }
+    {
+        match self {
+            SpaceOp::Crop { .. } => Filter::Crop,
+            SpaceOp::CropBottom { .. } => Filter::CropBottom,
+            SpaceOp::AddBorders { .. } => Filter::AddBorders,
+            SpaceOp::LetterBox { .. } => Filter::LetterBox,
+            SpaceOp::FlipHorizontal => Filter::FlipHorizontal,
+            SpaceOp::FlipVertical => Filter::FlipVertical,
+            SpaceOp::Turn180 => Filter::Turn180,
+            SpaceOp::TurnLeft => Filter::TurnLeft,
+            SpaceOp::TurnRight => Filter::TurnRight,
+            SpaceOp::Greyscale => Filter::Greyscale,
+            SpaceOp::Invert { .. } => Filter::Invert,
+            SpaceOp::Limiter { .. } => Filter::Limiter,
+            SpaceOp::SwapUV => Filter::SwapUV,
+            SpaceOp::UToY8 => Filter::UToY8,
+            SpaceOp::VToY8 => Filter::VToY8,
+            SpaceOp::ConvertToY8 => Filter::ConvertToY8,
+        }
+    }
+}
+
+impl JoinOp {
+    ghost use Rattle.std.specs.Prelude.{◌≡◌};
+    ghost use Rattle.clip_term.specs.Ops.{join_filter};
+
+    fn filter(&self) -> Filter
+        ensures { result ≡ join_filter self.now }
+    {
+        match self {
+            JoinOp::StackHorizontal => Filter::StackHorizontal,
+            JoinOp::StackVertical => Filter::StackVertical,
+            JoinOp::Merge => Filter::Merge,
+            JoinOp::MergeLuma => Filter::MergeLuma,
+            JoinOp::MergeChroma => Filter::MergeChroma,
+            JoinOp::YToUV => Filter::YToUV,
+        }
+    }
+}
+
+impl SoftOp {
+    ghost use Rattle.std.specs.Prelude.{◌≡◌};
+    ghost use Rattle.clip_term.specs.Ops.{soft_filter};
+
+    fn filter(&self) -> Filter
+        ensures { result ≡ soft_filter self.now }
+    {
+        match self {
+            SoftOp::TemporalSoften { .. } => Filter::TemporalSoften,
+            SoftOp::GeneralConvolution { .. } => Filter::GeneralConvolution,
+        }
+    }
+}
+
+/// The source that an op is.
+#[derive(Clone, Copy)]
+pub struct SourcePart<'o> {
+    /// The name of its file.
+    pub name: &'o Text,
+    /// How many sources were opened before.
+    pub number: u32,
+    /// What is known of its clip.
+    pub info: Info,
+}
+
+impl Op {
+    ghost use Rattle.std.specs.Prelude.{◌≡◌, option_map};
+    ghost use Rattle.clip_term.specs.ClipTerm.{act_of};
+    ghost use Rattle.clip_term.specs.Ops.{filter_of, source_part};
+
+    /// The filter that the op applies.
+    pub fn filter(&self) -> Filter
+        ensures { result ≡ filter_of (act_of self.now) }
+    {
+        match self {
+            Op::Source { .. } => Filter::Y4MSource,
+            Op::Blank { .. } => Filter::BlankClip,
+            Op::Time(op) => op.filter(),
+            Op::Space(op) => op.filter(),
+            Op::Join(op) => op.filter(),
+            Op::Soft(op) => op.filter(),
+        }
+    }
+
+    /// The source that the op is.
+    pub fn source_part(&self) -> Option<SourcePart<'_>>
+        ensures { option_map (λ part. record { name = part.name.now; number = part.number; info = part.info }) result
+            ≡ source_part (act_of self.now) }
+    {
+        match self {
+            Op::Source { name, number, info } => Some(SourcePart {
+                name,
+                number: *number,
+                info: *info,
+            }),
+            Op::Blank { .. } | Op::Time(_) | Op::Space(_) | Op::Join(_) | Op::Soft(_) => None,
+        }
+    }
 }

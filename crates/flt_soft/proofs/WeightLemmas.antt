@@ -10,7 +10,7 @@ use Rattle.std.proofs.lemmas.Nat.{mul-le}
 use Rattle.fv_plane.specs.declared.format.Shape.{Shape}
 use Rattle.fv_plane.specs.Format.{plane_width, plane_height}
 use Rattle.fv_plane.specs.Look.{Look}
-use Rattle.clip_term.specs.Refusals.{above}
+use Rattle.clip_term.specs.Arguments.{is_weight}
 use Rattle.clip_term.specs.Soft.{place, weighed, total}
 use Rattle.clip_term.specs.Terms.{is_matrix}
 use Rattle.clip_term.proofs.PassedLemmas.{all_at}
@@ -149,15 +149,15 @@ total_more weights i d h = rw (drop_more weights i d h) refl
 pub times_one : (z : ℤ) → z *ℤ pos 1 ≡ z
 times_one z = omega (arith, ints)
 
-one_weight : (z : ℤ) → not (int_lt z (negsuc 1023) || above z 1024) ≡ true → IsWeight z
+one_weight : (z : ℤ) → is_weight z ≡ true → IsWeight z
 one_weight (pos n) e = record { low = grind (arith, ints, nat_tests); high = grind (arith, ints, nat_tests) }
 one_weight (negsuc n) e = record { low = grind (arith, ints, nat_tests); high = grind (arith, ints, nat_tests) }
 
-all_weights : (entries : List ℤ) → list_all (λ z. not (int_lt z (negsuc 1023) || above z 1024)) entries ≡ true → AreWeights entries
+all_weights : (entries : List ℤ) → list_all is_weight entries ≡ true → AreWeights entries
 all_weights [] e k = record { low = omega (arith, ints); high = omega (arith, ints) }
-all_weights (entry ∷ entries) e zero = one_weight entry (all_at (λ z. not (int_lt z (negsuc 1023) || above z 1024)) entry entries e).0
-all_weights (entry ∷ entries) e (suc k) = all_weights entries (all_at (λ z. not (int_lt z (negsuc 1023) || above z 1024)) entry entries e).1 k
+all_weights (entry ∷ entries) e zero = one_weight entry (all_at is_weight entry entries e).0
+all_weights (entry ∷ entries) e (suc k) = all_weights entries (all_at is_weight entry entries e).1 k
 
 -- the entries of a sound matrix are weights
 pub weights_are : (entries : List ℤ) → is_matrix entries ≡ true → AreWeights entries
-weights_are entries e = all_weights entries (and_parts (length entries == 9 || length entries == 25) (list_all (λ z. not (int_lt z (negsuc 1023) || above z 1024)) entries) e).1
+weights_are entries e = all_weights entries (and_parts (length entries == 9 || length entries == 25) (list_all is_weight entries) e).1

@@ -1,6 +1,5 @@
 -- What is made of rows of samples.
-use Rattle.std.specs.Prelude.{ℕ, ◌+◌, ◌-◌, ◌*◌, ◌^◌, ◌<◌, ◌≤◌, ℤ, pos, negsuc, ◌+ℤ◌, ◌*ℤ◌, ◌≤ℤ◌, List, ◌++◌, length, replicate, slice_index, slice_index_or, Bool, not, ◌||◌, int_lt}
-use Rattle.clip_term.specs.Refusals.{above}
+use Rattle.std.specs.Prelude.{ℕ, ◌+◌, ◌-◌, ◌*◌, ◌^◌, ◌<◌, ◌≤◌, ℤ, pos, negsuc, ◌+ℤ◌, ◌*ℤ◌, ◌≤ℤ◌, List, ◌++◌, length, replicate, slice_index, slice_index_or}
 
 -- a row with its first and its last sample repeated before and after it
 abbrev pub extended : ℕ → List ℕ → List ℕ
@@ -24,9 +23,6 @@ pub record IsWeight (weight : ℤ) : Type 0 where
 
 abbrev pub AreWeights : List ℤ → Type 0
 AreWeights weights = (k : ℕ) → IsWeight (slice_index_or weights k (pos 0))
-
-abbrev pub is_weight : ℤ → Bool
-is_weight weight = not (int_lt weight (negsuc 1023) || above weight 1024)
 
 -- a sum whose size is below 2^23
 pub record IsSmall (sum : ℤ) : Type 0 where

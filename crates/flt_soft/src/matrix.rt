@@ -4,10 +4,10 @@ ghost use Rattle.std.specs.Char.{is_ascii_digit};
 ghost use Rattle.std.specs.List.{list_all};
 ghost use Rattle.clip_term.specs.Texts.{digits_of, entry_of, is_gap, matrix_named, weight_of};
 ghost use Rattle.clip_term.specs.Terms.{is_matrix};
-ghost use Rattle.flt_soft.specs.Rows.{is_weight};
+ghost use Rattle.clip_term.specs.Arguments.{is_weight};
 ghost use Rattle.flt_soft.specs.declared.matrix.MatrixFault.TheVariants.{BadText};
 
-use clip_term::{Matrix, Numbers};
+use clip_term::{Matrix, Numbers, is_weight};
 use fv_io::Text;
 use std::alloc::Global;
 
@@ -49,7 +49,7 @@ fn weight_of(digits: &[u8]) -> Option<u32>
     ensures small { IfSome result (λ weight. weight ≤ 1024) }
 {
     let number = digits_of(digits);
-    if !digits.is_empty() && are_digits(digits) && number <= 1024 {
+    if !digits.is_empty() && are_digits(digits) && is_weight(number as i32) {
         Some(number)
     } else {
         None

@@ -4,11 +4,12 @@ ghost use Rattle.fv_plane.specs.Format.{IsLegal};
 ghost use Rattle.fv_plane.specs.Look.{across, down};
 ghost use Rattle.fv_plane.specs.Refusals.{first_fault};
 ghost use Rattle.clip_term.specs.declared.op.SpaceOp.TheVariants.{AddBorders, LetterBox};
-ghost use Rattle.clip_term.specs.Refusals.{nat_of, part_of, paint};
+ghost use Rattle.clip_term.specs.Refusals.{nat_of, paint};
 ghost use Rattle.clip_term.specs.Space.{space_picture, space_refusals, space_shape, is_within};
 
 use crate::kernels::{cover_row, pad_row};
 use crate::rows::{RowFilter, make_by_rows};
+use clip_term::part_of;
 use fv_plane::{Frame, Shape};
 use std::alloc::{AllocError, Global};
 
@@ -38,19 +39,6 @@ fn is_within(start: u64, end: u64, at: u64) -> bool
     ensures { result ≡ is_within start end at }
 {
     start <= at && at < end
-}
-
-// The part of a colour that a plane shows.
-fn part_of(colour: u32, plane: u32) -> u8
-    ensures { result ≡ part_of colour plane }
-{
-    if plane == 0 {
-        (colour / 65536 % 256) as u8
-    } else if plane == 1 {
-        (colour / 256 % 256) as u8
-    } else {
-        (colour % 256) as u8
-    }
 }
 
 fn paint(colour: i32, shape: Shape, plane: u32) -> u8

@@ -5,7 +5,7 @@ ghost use Rattle.clip_term.specs.declared.op.SpaceOp.TheVariants.{Crop, CropBott
 ghost use Rattle.clip_term.specs.Refusals.{nat_of, below};
 ghost use Rattle.clip_term.specs.Space.{space_picture, space_refusals, size_from, is_no_part};
 
-use fv_plane::{Frame, Window};
+use fv_plane::Frame;
 use std::alloc::AllocError;
 
 // A size that is 0 or less counts from the far edge.
@@ -33,12 +33,12 @@ pub fn crop(
     ensures { IfOk result (λ made. made ≡ space_picture (Crop left top width height) input.now) }
 {
     let shape = input.shape();
-    input.window(Window {
-        x: left.unsigned_abs(),
-        y: top.unsigned_abs(),
-        width: size_from(left, width, shape.width),
-        height: size_from(top, height, shape.height),
-    })
+    input.window(
+        left.unsigned_abs(),
+        top.unsigned_abs(),
+        size_from(left, width, shape.width),
+        size_from(top, height, shape.height),
+    )
 }
 
 /// `CropBottom`: the picture without its last rows. An `Err` is more shares than can be counted.
@@ -47,12 +47,7 @@ pub fn crop_bottom(input: &Frame, n: i32) -> Result<Frame, AllocError>
     ensures { IfOk result (λ made. made ≡ space_picture (CropBottom n) input.now) }
 {
     let shape = input.shape();
-    input.window(Window {
-        x: 0,
-        y: 0,
-        width: shape.width,
-        height: shape.height - n.unsigned_abs(),
-    })
+    input.window(0, 0, shape.width, shape.height - n.unsigned_abs())
 }
 
 /// `UToY8`: the plane of U as luma. An `Err` is more shares than can be counted.

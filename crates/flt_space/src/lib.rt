@@ -14,5 +14,6 @@ mod rows;
 mod turn;
 
 pub use clip_check::check_space;
+pub use clip_term::read_channels;
 pub use kernels::{invert_row, limit_row};
 pub use make::make_space;

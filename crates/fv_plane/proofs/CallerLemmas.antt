@@ -1,12 +1,14 @@
 -- What other crates may cite: frames and their bytes.
 use Rattle.std.proofs.Common.{◌≡◌, ℕ, ◌<◌, ◌≤◌, ◌*◌, ◌/◌, ◌%◌, ◌==◌, Bool, true, false, nat_le, if◌then◌else◌, eqb-true, eq-eqb, List, [], length, get_or, take, refl, sym, ◌∙◌, ap, arith}
 use Rattle.std.proofs.lemmas.Bool.{and_parts, and_from, leb-true, le-leb}
+use Rattle.fv_plane.specs.declared.format.TheConstants.Shape.{MAX_SIDE, MAX_BYTES}
 use Rattle.fv_plane.specs.declared.format.PixelType.{PixelType}
 use Rattle.fv_plane.specs.declared.format.PixelType.TheVariants.{Y8, YV12, YV16, YV24, YV411}
 use Rattle.fv_plane.specs.declared.format.Shape.{Shape}
-use Rattle.fv_plane.specs.Format.{IsLegal, has_whole_sides, planes, plane_width, plane_height, sub_w, sub_h, frame_bytes}
+use Rattle.fv_plane.specs.Format.{IsLegal, has_whole_sides, largest_sample, planes, sample_bytes, plane_width, plane_height, sub_w, sub_h, frame_bytes}
 use Rattle.fv_plane.specs.Picture.{Picture, IsPicture, row_of}
-use Rattle.fv_plane.specs.Bytes.{bytes_of, picture_of}
+use Rattle.fv_plane.specs.Bytes.{bytes_of, bytes_of_row, picture_of, row_of_bytes}
+use Rattle.fv_plane.proofs.BytesLemmas.{row-bytes_of_row}
 use Rattle.fv_plane.proofs.CutLemmas as cut
 
 -- the bytes of luma alone are some
@@ -18,18 +20,18 @@ pub some_bytes : (shape : Shape) → IsLegal shape → 0 < frame_bytes shape
 some_bytes shape legal = omega (arith, some_luma shape.width shape.height legal.some_width legal.some_height)
 
 -- whole sides, and bytes that are not too many, are a legal shape
-pub legal_by : (shape : Shape) → has_whole_sides shape ≡ true → frame_bytes shape ≤ 16777216 → IsLegal shape
+pub legal_by : (shape : Shape) → has_whole_sides shape ≡ true → frame_bytes shape ≤ MAX_BYTES → IsLegal shape
 legal_by shape whole small =
     let a = and_parts (nat_le 1 shape.width) _ whole in
-    let b = and_parts (nat_le shape.width 65535) _ a.1 in
+    let b = and_parts (nat_le shape.width MAX_SIDE) _ a.1 in
     let c = and_parts (nat_le 1 shape.height) _ b.1 in
-    let d = and_parts (nat_le shape.height 65535) _ c.1 in
+    let d = and_parts (nat_le shape.height MAX_SIDE) _ c.1 in
     let e = and_parts (shape.width % sub_w shape.kind == 0) (shape.height % sub_h shape.kind == 0) d.1 in
     record {
       some_width = leb-true 1 shape.width a.0;
       some_height = leb-true 1 shape.height c.0;
-      most_width = leb-true shape.width 65535 b.0;
-      most_height = leb-true shape.height 65535 d.0;
+      most_width = leb-true shape.width MAX_SIDE b.0;
+      most_height = leb-true shape.height MAX_SIDE d.0;
       whole_width = eqb-true (shape.width % sub_w shape.kind) 0 e.0;
       whole_height = eqb-true (shape.height % sub_h shape.kind) 0 e.1;
       most_bytes = small;
@@ -38,8 +40,8 @@ legal_by shape whole small =
 -- a legal shape has whole sides
 pub whole_sides : (shape : Shape) → IsLegal shape → has_whole_sides shape ≡ true
 whole_sides shape legal =
-    and_from (nat_le 1 shape.width) _ (le-leb 1 shape.width legal.some_width) (and_from (nat_le shape.width 65535) _ (le-leb shape.width 65535 legal.most_width)
-    (and_from (nat_le 1 shape.height) _ (le-leb 1 shape.height legal.some_height) (and_from (nat_le shape.height 65535) _ (le-leb shape.height 65535 legal.most_height)
+    and_from (nat_le 1 shape.width) _ (le-leb 1 shape.width legal.some_width) (and_from (nat_le shape.width MAX_SIDE) _ (le-leb shape.width MAX_SIDE legal.most_width)
+    (and_from (nat_le 1 shape.height) _ (le-leb 1 shape.height legal.some_height) (and_from (nat_le shape.height MAX_SIDE) _ (le-leb shape.height MAX_SIDE legal.most_height)
     (and_from (shape.width % sub_w shape.kind == 0) (shape.height % sub_h shape.kind == 0) (eq-eqb (shape.width % sub_w shape.kind) 0 legal.whole_width)
     (eq-eqb (shape.height % sub_h shape.kind) 0 legal.whole_height)))))
 
@@ -98,3 +100,17 @@ length-plane picture p is there = let plane = is.sizes p (let count = is.count i
 -- a row of a plane has as many samples as its width
 pub length-row : (picture : Picture) (p y : ℕ) → IsPicture picture → p < planes picture.shape.kind → y < plane_height picture.shape p → length (row_of picture.planes p y) ≡ plane_width picture.shape p
 length-row picture p y is there inside = let plane = is.sizes p (let count = is.count in omega arith) in plane.widths y inside
+
+-- the bytes of samples of one byte are these samples
+pub bytes_of_narrow : (shape : Shape) (row : List ℕ) → sample_bytes shape ≡ 1 → bytes_of_row shape row ≡ row
+unfolding bytes_of_row
+bytes_of_narrow shape row narrow = refl
+
+-- the samples of bytes are these bytes, where a sample is one
+pub narrow_of_bytes : (shape : Shape) (bytes : List ℕ) → sample_bytes shape ≡ 1 → row_of_bytes shape bytes ≡ bytes
+unfolding row_of_bytes
+narrow_of_bytes shape bytes narrow = refl
+
+-- the samples of a row's bytes are the row
+pub row_again : (shape : Shape) (row : List ℕ) → ((x : ℕ) → get_or row x 0 ≤ largest_sample shape) → row_of_bytes shape (bytes_of_row shape row) ≡ row
+row_again shape row bounded = row-bytes_of_row shape row

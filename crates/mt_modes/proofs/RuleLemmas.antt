@@ -1,18 +1,27 @@
 -- A table gives what the rule gives.
 use Rattle.std.proofs.Common.{◌≡◌, ℕ, ◌∙◌, List, [], ◌∷◌, Bool, true, false, cond, Option, Some, None, refl, sym, ap, eqb-true, eq-eqb, arith}
-use Rattle.std.specs.Prelude.{nat_eq, ◌==◌, ◌&&◌, if◌then◌else◌, ℤ, pos, negsuc}
-use Rattle.std.specs.List.{find}
+use Rattle.std.specs.Prelude.{codes, nat_eq, ◌==◌, ◌&&◌, if◌then◌else◌, ℤ, pos, negsuc}
+use Rattle.std.specs.List.{find, list_any}
+use Rattle.std.specs.Str.{bytes_eq, str_to_ascii_lowercase}
+use Rattle.std.proofs.lemmas.Slice.Eq.{bytes_eq-Decides}
 use Rattle.std.specs.Map.{lookup}
 use Rattle.std.specs.Option.{option_map, unwrap_or}
 use Rattle.std.proofs.lemmas.Bool.Decides.{nat_tests}
 use Rattle.indexmap.specs.IndexMap.{insert_entry}
 use Rattle.clip_term.specs.declared.filter.Filter.{Filter}
 use Rattle.clip_term.specs.declared.filter.Filter.TheVariants as filter
-use Rattle.clip_term.specs.Filters.{declared_mode}
+use Rattle.clip_term.specs.Filters.{IsMode, declared_mode, filter_named, names_of, number_of, all_filters}
 use Rattle.clip_term.specs.Refusals.{nat_of}
-use Rattle.mt_modes.specs.Modes.{KeepsRule, Setting, Modes, applies, chosen_mode, is_default, is_filter, is_mode, IsMode, latest, may_set, modes_after, sets_default, with_mode}
-use Rattle.mt_modes.specs.Names.{filter_named, number_of}
-use Rattle.mt_modes.proofs.NameLemmas.{default_unnamed, same_number}
+use Rattle.mt_modes.specs.Modes.{KeepsRule, Setting, Modes, applies, chosen_mode, is_default, is_filter, is_mode, latest, may_set, modes_after, sets_default, with_mode}
+use Rattle.clip_term.proofs.FilterLemmas.{same_number}
+
+-- NAMES
+
+-- the name of the default is that of no filter
+default_unnamed : (name : List ℕ) → is_default name ≡ true → filter_named name ≡ None
+default_unnamed name e =
+    let same : str_to_ascii_lowercase name ≡ codes "default_mt_mode" = (bytes_eq-Decides (str_to_ascii_lowercase name) (codes "default_mt_mode")).0 e in
+    ap (λ (low : List ℕ). find (λ (one : Filter). list_any (λ other. bytes_eq low (str_to_ascii_lowercase other)) (names_of one)) all_filters) same
 
 -- ENTRIES
 
@@ -109,46 +118,7 @@ same_rule settings one =
 -- a table gives what the rule gives
 pub keeps_rule : KeepsRule
 keeps_rule settings filter.Y4MSource = refl
-keeps_rule settings filter.BlankClip = same_rule settings filter.BlankClip
-keeps_rule settings filter.Trim = same_rule settings filter.Trim
-keeps_rule settings filter.Reverse = same_rule settings filter.Reverse
-keeps_rule settings filter.FreezeFrame = same_rule settings filter.FreezeFrame
-keeps_rule settings filter.SelectEven = same_rule settings filter.SelectEven
-keeps_rule settings filter.SelectOdd = same_rule settings filter.SelectOdd
-keeps_rule settings filter.SelectEvery = same_rule settings filter.SelectEvery
-keeps_rule settings filter.Interleave = same_rule settings filter.Interleave
-keeps_rule settings filter.UnalignedSplice = same_rule settings filter.UnalignedSplice
-keeps_rule settings filter.AlignedSplice = same_rule settings filter.AlignedSplice
-keeps_rule settings filter.Loop = same_rule settings filter.Loop
-keeps_rule settings filter.DuplicateFrame = same_rule settings filter.DuplicateFrame
-keeps_rule settings filter.DeleteFrame = same_rule settings filter.DeleteFrame
-keeps_rule settings filter.AssumeFPS = same_rule settings filter.AssumeFPS
-keeps_rule settings filter.ChangeFPS = same_rule settings filter.ChangeFPS
-keeps_rule settings filter.ApplyRange = same_rule settings filter.ApplyRange
-keeps_rule settings filter.Crop = same_rule settings filter.Crop
-keeps_rule settings filter.CropBottom = same_rule settings filter.CropBottom
-keeps_rule settings filter.AddBorders = same_rule settings filter.AddBorders
-keeps_rule settings filter.LetterBox = same_rule settings filter.LetterBox
-keeps_rule settings filter.FlipHorizontal = same_rule settings filter.FlipHorizontal
-keeps_rule settings filter.FlipVertical = same_rule settings filter.FlipVertical
-keeps_rule settings filter.Turn180 = same_rule settings filter.Turn180
-keeps_rule settings filter.TurnLeft = same_rule settings filter.TurnLeft
-keeps_rule settings filter.TurnRight = same_rule settings filter.TurnRight
-keeps_rule settings filter.Greyscale = same_rule settings filter.Greyscale
-keeps_rule settings filter.Invert = same_rule settings filter.Invert
-keeps_rule settings filter.Limiter = same_rule settings filter.Limiter
-keeps_rule settings filter.SwapUV = same_rule settings filter.SwapUV
-keeps_rule settings filter.UToY8 = same_rule settings filter.UToY8
-keeps_rule settings filter.VToY8 = same_rule settings filter.VToY8
-keeps_rule settings filter.ConvertToY8 = same_rule settings filter.ConvertToY8
-keeps_rule settings filter.StackHorizontal = same_rule settings filter.StackHorizontal
-keeps_rule settings filter.StackVertical = same_rule settings filter.StackVertical
-keeps_rule settings filter.Merge = same_rule settings filter.Merge
-keeps_rule settings filter.MergeLuma = same_rule settings filter.MergeLuma
-keeps_rule settings filter.MergeChroma = same_rule settings filter.MergeChroma
-keeps_rule settings filter.YToUV = same_rule settings filter.YToUV
-keeps_rule settings filter.TemporalSoften = same_rule settings filter.TemporalSoften
-keeps_rule settings filter.GeneralConvolution = same_rule settings filter.GeneralConvolution
+keeps_rule settings one = same_rule settings one
 
 -- MODES
 

@@ -1,6 +1,6 @@
 -- How filters may run side by side, as SetFilterMTMode sets it (AviSynth+ wiki, "SetFilterMTMode"): 1 is
 -- MT_NICE_FILTER, 2 is MT_MULTI_INSTANCE, 3 is MT_SERIALIZED.
-use Rattle.std.specs.Prelude.{◌≡◌, ℕ, ◌≤◌, Bool, ◌&&◌, ◌||◌, ◌==◌, nat_eq, if◌then◌else◌, List, [], ◌∷◌, codes, Option, Some, None, is_none, false, ℤ, pos, negsuc}
+use Rattle.std.specs.Prelude.{◌≡◌, ℕ, Bool, ◌&&◌, ◌||◌, ◌==◌, nat_eq, if◌then◌else◌, List, [], ◌∷◌, codes, Option, Some, None, is_none, false, ℤ, pos, negsuc}
 use Rattle.std.specs.List.{find}
 use Rattle.std.specs.Map.{lookup}
 use Rattle.std.specs.Option.{option_map, unwrap_or}
@@ -8,8 +8,7 @@ use Rattle.std.specs.Str.{str_eq_ignore_ascii_case}
 use Rattle.indexmap.specs.IndexMap.{insert_entry}
 use Rattle.clip_term.specs.declared.filter.Filter.{Filter}
 use Rattle.clip_term.specs.declared.filter.Filter.TheVariants as filter
-use Rattle.clip_term.specs.Filters.{declared_mode, name_of}
-use Rattle.mt_modes.specs.Names.{number_of, filter_named}
+use Rattle.clip_term.specs.Filters.{IsMode, declared_mode, filter_named, number_of}
 
 -- a call of SetFilterMTMode
 pub record Setting : Type 0 where
@@ -80,19 +79,10 @@ modes_after (setting ∷ earlier) = with_setting (modes_after earlier) setting
 abbrev pub KeepsRule : Type 0
 KeepsRule = (settings : List Setting) (one : Filter) → mode_in (modes_after settings) one ≡ mode_after settings one
 
--- each filter is found by its names
-pub record FindsNames : Type 0 where
-  pub by_name : (one : Filter) → filter_named (name_of one) ≡ Some one
-  pub grayscale : filter_named (codes "Grayscale") ≡ Some filter.Greyscale
-
 -- 1, 2 or 3
 abbrev pub is_mode : ℤ → Bool
 is_mode (pos n) = n == 1 || n == 2 || n == 3
 is_mode (negsuc n) = false
-
-pub record IsMode (mode : ℕ) : Type 0 where
-  pub least : 1 ≤ mode
-  pub most : mode ≤ 3
 
 pub record AreModes (modes : Modes) : Type 0 where
   pub chosen : (number mode : ℕ) → lookup (nat_eq number) modes.chosen ≡ Some mode → IsMode mode

@@ -5,8 +5,7 @@
 #![tactic(auto)]
 
 mod laws;
-mod names;
 mod table;
 
-pub use laws::{finds_names, keeps_rule};
+pub use laws::keeps_rule;
 pub use table::{ModeFault, ModeTable};

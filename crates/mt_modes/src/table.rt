@@ -1,10 +1,10 @@
 // The modes that a script has set.
 ghost use Rattle.std.specs.Prelude.{◌≡◌, ◌↔◌, Err, OnOk, OnErr, false};
 ghost use Rattle.clip_term.specs.Refusals.{nat_of};
-ghost use Rattle.mt_modes.specs.Modes.{Modes, is_default, may_set, mode_in, no_modes, with_setting, IsMode, is_mode};
+ghost use Rattle.mt_modes.specs.Modes.{Modes, is_default, may_set, mode_in, no_modes, with_setting, is_mode};
+ghost use Rattle.clip_term.specs.Filters.{IsMode};
 ghost use Rattle.mt_modes.specs.declared.table.ModeFault.TheVariants.{ModeRefused};
 
-use crate::names::{filter_named, number_of};
 use clip_term::Filter;
 use fv_io::Text;
 use indexmap::IndexMap;
@@ -83,13 +83,13 @@ impl ModeTable {
             self.default_mode = mode;
             return Ok(());
         }
-        let Some(filter) = filter_named(name.as_str()) else {
+        let Some(filter) = Filter::named(name.as_str()) else {
             return Ok(());
         };
         if !may_set(force, filter) {
             return Ok(());
         }
-        match self.chosen.insert(number_of(filter), mode) {
+        match self.chosen.insert(filter.number(), mode) {
             Ok(_) => Ok(()),
             Err(_) => Err(ModeFault::Memory),
         }
@@ -103,7 +103,7 @@ impl ModeTable {
         if filter == Filter::Y4MSource {
             return 3;
         }
-        match self.chosen.get(&number_of(filter)) {
+        match self.chosen.get(&filter.number()) {
             Some(mode) => *mode,
             None => filter.declared().unwrap_or(self.default_mode),
         }

@@ -7,7 +7,7 @@ use Rattle.std.proofs.lemmas.List.{map-append}
 use Rattle.std.proofs.lemmas.Iterator.Consumers.{YieldsList-end}
 use Rattle.std.proofs.lemmas.Iterator.Splits.{YieldsList-from_slice_split}
 use Rattle.std.proofs.lemmas.List.Folds.{list_all-append}
-use Rattle.flt_soft.specs.Rows.{is_weight}
+use Rattle.clip_term.specs.Arguments.{is_weight}
 use Rattle.clip_term.specs.Texts.{is_gap, entry_of}
 use Rattle.flt_soft.proofs.MatrixLemmas.{are_entries, are_less, are_more, entries_in, entries_less, entries_more, matrix_read, matrix_refused}
 use Rattle.flt_soft.proofs.matrix.read_matrix.Goals as goal

@@ -1,6 +1,6 @@
 use Rattle.std.proofs.Common.{◌≡◌, map, true}
 use Rattle.std.specs.List.{list_all}
-use Rattle.flt_soft.specs.Rows.{is_weight}
+use Rattle.clip_term.specs.Arguments.{is_weight}
 use Rattle.flt_soft.proofs.MatrixLemmas.{are_entries, entries_in}
 use Rattle.flt_soft.proofs.matrix.read_matrix.Given as goal
 

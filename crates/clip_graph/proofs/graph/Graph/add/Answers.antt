@@ -2,6 +2,7 @@ use Rattle.std.proofs.Common.{rules, ◌≡◌, ◌+◌, ◌<◌, ℕ, length, a
 use Rattle.std.proofs.lemmas.List.{length-map, take_all}
 use Rattle.std.proofs.lemmas.List.Elements.{All-get_or}
 use Rattle.clip_graph.specs.declared.node.Node.{Node}
+use Rattle.clip_graph.specs.declared.graph.TheConstants.Graph.{MAX_NODES}
 use Rattle.clip_graph.specs.Nodes.{application_of, plan_of}
 use Rattle.std.specs.List.{All}
 use Rattle.clip_term.specs.ClipTerm.{act_of}
@@ -16,7 +17,7 @@ invariant_of-self-2 c =
     let copied : c.in-Ok.inputs.items ≡ c.args.inputs.now = search rules in
     let places : All (λ i. i < length (plan_of old)) c.args.inputs.now = search rules in
     let counted : IsCounted (act_of c.args.op) (sources_in (plan_of old)) c.args.mode = search rules in
-    let room : length old < 4096 = omega (arith, c.self.invariant.0.few, length-map old application_of) in
+    let room : length old < MAX_NODES = omega (arith, c.self.invariant.0.few, length-map old application_of) in
     let last : IsApplication (plan_of old) (length (plan_of old)) (application_of node) = record {
       lower = rw copied (λ j there. All-get_or (λ (i : ℕ). i < length (plan_of old)) c.args.inputs.now j 0 there places);
       sound = search rules;

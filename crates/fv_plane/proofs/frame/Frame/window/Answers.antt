@@ -1,6 +1,6 @@
 use Rattle.std.proofs.Common.{◌≡◌, sym, ap, ◌∙◌, subst}
 use Rattle.fv_plane.specs.declared.format.Shape.{Shape}
-use Rattle.fv_plane.specs.Format.{window_shape}
+use Rattle.fv_plane.specs.Format.{window_at, window_shape}
 use Rattle.fv_plane.specs.Picture.{Picture, IsPicture}
 use Rattle.fv_plane.specs.Bytes.{frame_of}
 use Rattle.fv_plane.specs.Look.{picture_in}
@@ -9,16 +9,16 @@ use Rattle.fv_plane.proofs.frame.Frame.window.Goals as goal
 
 pub invariant_of-result : goal.invariant_of-result
 invariant_of-result c =
-    let shape : window_shape c.self.inside.shape c.args.window ≡ window_shape c.args.self.now.shape c.args.window
-    = ap (λ (v : Picture). window_shape v.shape c.args.window) c.self.view_is in
-    let frame : frame_of (window_shape c.self.inside.shape c.args.window) c.in_ok-plane_in.field-0 c.in_ok-chroma_in.field-0 ≡ picture_in c.args.self.now c.args.window
+    let shape : window_shape c.self.inside.shape (window_at c.args.left c.args.top c.args.width c.args.height) ≡ window_shape c.args.self.now.shape (window_at c.args.left c.args.top c.args.width c.args.height)
+    = ap (λ (v : Picture). window_shape v.shape (window_at c.args.left c.args.top c.args.width c.args.height)) c.self.view_is in
+    let frame : frame_of (window_shape c.self.inside.shape (window_at c.args.left c.args.top c.args.width c.args.height)) c.in_ok-plane_in.field-0 c.in_ok-chroma_in.field-0 ≡ picture_in c.args.self.now (window_at c.args.left c.args.top c.args.width c.args.height)
     = ap (λ (s : Shape). frame_of s c.in_ok-plane_in.field-0 c.in_ok-chroma_in.field-0) shape
-    ∙ frame_listed (window_shape c.args.self.now.shape c.args.window) _ c.in_ok-plane_in.field-0 c.in_ok-chroma_in.field-0 c.in_ok-plane_in.ensures c.in_ok-chroma_in.ensures in
-    subst (λ (v : Picture). IsPicture v) (sym frame) (IsPicture-picture_in c.args.self.now c.args.window (subst (λ (v : Picture). IsPicture v) c.self.view_is c.self.invariant) c.requires)
+    ∙ frame_listed (window_shape c.args.self.now.shape (window_at c.args.left c.args.top c.args.width c.args.height)) _ c.in_ok-plane_in.field-0 c.in_ok-chroma_in.field-0 c.in_ok-plane_in.ensures c.in_ok-chroma_in.ensures in
+    subst (λ (v : Picture). IsPicture v) (sym frame) (IsPicture-picture_in c.args.self.now (window_at c.args.left c.args.top c.args.width c.args.height) (subst (λ (v : Picture). IsPicture v) c.self.view_is c.self.invariant) c.requires)
 
 pub returns : goal.returns
 returns c =
-    let shape : window_shape c.self.inside.shape c.args.window ≡ window_shape c.args.self.now.shape c.args.window
-    = ap (λ (v : Picture). window_shape v.shape c.args.window) c.self.view_is in
+    let shape : window_shape c.self.inside.shape (window_at c.args.left c.args.top c.args.width c.args.height) ≡ window_shape c.args.self.now.shape (window_at c.args.left c.args.top c.args.width c.args.height)
+    = ap (λ (v : Picture). window_shape v.shape (window_at c.args.left c.args.top c.args.width c.args.height)) c.self.view_is in
     ap (λ (s : Shape). frame_of s c.in_ok-plane_in.field-0 c.in_ok-chroma_in.field-0) shape
-    ∙ frame_listed (window_shape c.args.self.now.shape c.args.window) _ c.in_ok-plane_in.field-0 c.in_ok-chroma_in.field-0 c.in_ok-plane_in.ensures c.in_ok-chroma_in.ensures
+    ∙ frame_listed (window_shape c.args.self.now.shape (window_at c.args.left c.args.top c.args.width c.args.height)) _ c.in_ok-plane_in.field-0 c.in_ok-chroma_in.field-0 c.in_ok-plane_in.ensures c.in_ok-chroma_in.ensures

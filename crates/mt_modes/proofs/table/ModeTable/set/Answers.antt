@@ -1,7 +1,8 @@
 use Rattle.std.proofs.Common.{◌≡◌, ◌∙◌, ℕ, List, sym, ap, rules, true, w32}
 use Rattle.std.specs.Prelude.{ℤ, nat_eq}
 use Rattle.std.specs.Map.{lookup}
-use Rattle.mt_modes.specs.Modes.{IsMode, is_mode}
+use Rattle.clip_term.specs.Filters.{IsMode}
+use Rattle.mt_modes.specs.Modes.{is_mode}
 use Rattle.mt_modes.proofs.RuleLemmas.{lookup-insert, mode_is, modes_kept}
 use Rattle.mt_modes.proofs.table.ModeTable.set.Goals as goal
 use Rattle.mt_modes.proofs.table.ModeTable.set.Goals.{in-Ok, in-Err}
@@ -13,7 +14,7 @@ invariant_of-self-2 c =
     let passed : is_mode z ≡ true = search rules in
     let is : IsMode c.unsigned_abs-mode.result = rw c.unsigned_abs-mode.ensures.value (mode_is z passed) in
     let old : List (ℕ × ℕ) = c.self.inside.chosen.entries in
-    let key = c.number_of.result in
+    let key = c.number.result in
     let value = c.unsigned_abs-mode.result in
     elim c.match-insert.branch [
       | in-Ok w ↦ record {

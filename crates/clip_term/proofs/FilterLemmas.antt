@@ -1,0 +1,73 @@
+-- The filters by their numbers and names.
+use Rattle.std.proofs.Common.{◌≡◌, ◌∙◌, Some, map, refl, sym, ap}
+use Rattle.std.specs.Prelude.{slice_get}
+use Rattle.std.specs.Option.{option_map}
+use Rattle.std.proofs.lemmas.Option.{slice_get-map}
+use Rattle.clip_term.specs.declared.filter.Filter.{Filter}
+use Rattle.clip_term.specs.declared.filter.Filter.TheVariants as filter
+use Rattle.clip_term.specs.Filters.{all_filters, filter_named, name_of, number_of, FiltersAreListed}
+
+by_number : (one : Filter) → slice_get all_filters (number_of one) ≡ Some one
+by_number filter.Y4MSource = refl
+by_number filter.BlankClip = refl
+by_number filter.Trim = refl
+by_number filter.Reverse = refl
+by_number filter.FreezeFrame = refl
+by_number filter.SelectEven = refl
+by_number filter.SelectOdd = refl
+by_number filter.SelectEvery = refl
+by_number filter.Interleave = refl
+by_number filter.UnalignedSplice = refl
+by_number filter.AlignedSplice = refl
+by_number filter.Loop = refl
+by_number filter.DuplicateFrame = refl
+by_number filter.DeleteFrame = refl
+by_number filter.AssumeFPS = refl
+by_number filter.ChangeFPS = refl
+by_number filter.ApplyRange = refl
+by_number filter.Crop = refl
+by_number filter.CropBottom = refl
+by_number filter.AddBorders = refl
+by_number filter.LetterBox = refl
+by_number filter.FlipHorizontal = refl
+by_number filter.FlipVertical = refl
+by_number filter.Turn180 = refl
+by_number filter.TurnLeft = refl
+by_number filter.TurnRight = refl
+by_number filter.Greyscale = refl
+by_number filter.Invert = refl
+by_number filter.Limiter = refl
+by_number filter.SwapUV = refl
+by_number filter.UToY8 = refl
+by_number filter.VToY8 = refl
+by_number filter.ConvertToY8 = refl
+by_number filter.StackHorizontal = refl
+by_number filter.StackVertical = refl
+by_number filter.Merge = refl
+by_number filter.MergeLuma = refl
+by_number filter.MergeChroma = refl
+by_number filter.YToUV = refl
+by_number filter.TemporalSoften = refl
+by_number filter.GeneralConvolution = refl
+
+some_same : {A : Type 0} (a b : A) → Some a ≡ Some b → a ≡ b
+some_same a b e = cc
+
+-- what is the same for the filters of the list is the same for each filter
+pub same_for_each : {A : Type 0} (f g : Filter → A) → map f all_filters ≡ map g all_filters → (one : Filter) → f one ≡ g one
+same_for_each f g same one =
+    let n = number_of one in
+    let at_f : slice_get (map f all_filters) n ≡ Some (f one) = slice_get-map f all_filters n ∙ ap (option_map f) (by_number one) in
+    let at_g : slice_get (map g all_filters) n ≡ Some (g one) = slice_get-map g all_filters n ∙ ap (option_map g) (by_number one) in
+    some_same (f one) (g one) (sym at_f ∙ ap (λ l. slice_get l n) same ∙ at_g)
+
+pub filters_are_listed : FiltersAreListed
+filters_are_listed = record {
+  by_number = by_number;
+  by_name = same_for_each (λ one. filter_named (name_of one)) Some refl;
+  grayscale = refl;
+}
+
+-- a number is that of one filter
+pub same_number : (a b : Filter) → number_of a ≡ number_of b → a ≡ b
+same_number a b e = some_same a b (sym (by_number a) ∙ ap (slice_get all_filters) e ∙ by_number b)
