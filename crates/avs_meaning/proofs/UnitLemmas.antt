@@ -20,6 +20,7 @@ use Rattle.clip_term.specs.declared.fault.FilterFault.{FilterFault}
 use Rattle.clip_term.specs.declared.filter.Filter.{Filter}
 use Rattle.clip_term.specs.declared.filter.Filter.TheVariants as f
 use Rattle.clip_term.specs.declared.op.TimeOp.TheVariants as t
+use Rattle.clip_graph.specs.declared.graph.TheConstants.Graph.{MAX_NODES, MAX_DEPTH}
 use Rattle.clip_graph.specs.Plan.{Application, infos_among, sources_in}
 use Rattle.mt_modes.specs.Modes.{is_mode, mode_in, with_setting}
 use Rattle.avs_meaning.specs.Arguments.{Reading, takes, all_fit_filters, out_of_range}
@@ -103,7 +104,7 @@ add_leaves here act inputs info mode line n s few =
     let next = filters.next_application act inputs info mode s.plan in
     let more : Outcome Value = Ok (v.Clip (length s.plan), record s { plan = s.plan ++ next ∷ [] }) in
     let deep : Outcome Value = fails k.DepthLimit here line s in
-    if_leaves n (nat_le filters.node_limit (length s.plan)) (fails k.NodeLimit here line s) (if nat_lt filters.depth_limit next.depth then deep else more) tt (if_leaves n (nat_lt filters.depth_limit next.depth) deep more tt few)
+    if_leaves n (nat_le MAX_NODES (length s.plan)) (fails k.NodeLimit here line s) (if nat_lt MAX_DEPTH next.depth then deep else more) tt (if_leaves n (nat_lt MAX_DEPTH next.depth) deep more tt few)
 
 add_by_leaves : (here : Text) (r : Result Info FilterFault) (act : Act) (inputs : List ℕ) (mode line n : ℕ) (s : State) → s.units ≤ n → Leaves n (filters.add_by here r act inputs mode line s)
 add_by_leaves here (Ok info) act inputs mode line n s few = add_leaves here act inputs info mode line n s few

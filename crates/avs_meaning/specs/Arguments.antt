@@ -1,15 +1,17 @@
 -- What a filter does with its arguments (AviSynth+ wiki, "Internal filters").
-use Rattle.std.specs.Prelude.{ℕ, ◌^◌, ◌==◌, nat_lt, ℤ, pos, negsuc, int_lt, ◌-ℤ◌, List, [], ◌∷◌, slice_get, codes, Bool, true, false, ◌&&◌, ◌||◌, Option, Some, None, is_some, Result, Ok, Err, if◌then◌else◌}
-use Rattle.std.specs.List.{list_all, list_any}
+use Rattle.std.specs.Prelude.{ℕ, ◌^◌, ◌==◌, nat_lt, ℤ, pos, negsuc, ◌-ℤ◌, List, [], ◌∷◌, slice_get, codes, Bool, true, false, ◌&&◌, Option, Some, None, Result, Ok, Err, if◌then◌else◌}
+use Rattle.std.specs.List.{list_all}
 use Rattle.std.specs.Option.{unwrap_or}
 use Rattle.avs_values.specs.Binding.{Bound}
 use Rattle.avs_values.specs.Values.{Text}
 use Rattle.avs_values.specs.declared.value.Value.{Value}
 use Rattle.avs_values.specs.declared.value.Value.TheVariants as v
 use Rattle.clip_term.specs.ClipTerm.{Act, time, space, joined, soft}
-use Rattle.clip_term.specs.Refusals.{above}
+use Rattle.clip_term.specs.Arguments.{is_no_bias}
+use Rattle.clip_term.specs.Blank.{default_colour}
 use Rattle.clip_term.specs.Terms.{time_inputs, time_lists, join_inputs, soft_lists}
-use Rattle.clip_term.specs.Texts.{matrix_named}
+use Rattle.clip_term.specs.Texts.{channels_named, matrix_named}
+use Rattle.clip_term.specs.declared.fault.FilterFault.{FilterFault}
 use Rattle.clip_term.specs.declared.fault.FilterFault.TheVariants as fault
 use Rattle.clip_term.specs.declared.filter.Filter.{Filter}
 use Rattle.clip_term.specs.declared.filter.Filter.TheVariants as f
@@ -70,25 +72,6 @@ all_fit_filters values = list_all fits_filters values
 abbrev pub out_of_range : ScriptKind
 out_of_range = k.Filter fault.BadRange
 
--- ---- the planes that Invert names
-
-abbrev pub is_y : ℕ → Bool
-is_y letter = letter == 89 || letter == 121
-
-abbrev pub is_u : ℕ → Bool
-is_u letter = letter == 85 || letter == 117
-
-abbrev pub is_v : ℕ → Bool
-is_v letter = letter == 86 || letter == 118
-
-abbrev pub is_channel : ℕ → Bool
-is_channel letter = is_y letter || is_u letter || is_v letter
-
--- All letters are Y, U or V, in any case.
-abbrev pub channels_of : Text → Option Channels
-channels_of x =
-    if list_all is_channel x then Some (record { y = list_any is_y x; u = list_any is_u x; v = list_any is_v x }) else None
-
 -- ---- what a filter does
 
 abbrev pub Reading : Type 0
@@ -105,21 +88,15 @@ abbrev pub trims : ℤ → Option TrimBound → Reading
 trims first (Some bound) = Ok (time (t.Trim first bound))
 trims first None = Err k.NoMatch
 
-abbrev pub inverts : Option Channels → Reading
-inverts (Some channels) = Ok (space (s.Invert channels))
-inverts None = Err (k.Filter fault.BadText)
-
-abbrev pub black : ℤ
-black = pos 0x108080
-
--- GeneralConvolution: its bias is refused before its matrix.
-abbrev pub is_no_bias : ℤ → Bool
-is_no_bias bias = int_lt bias (negsuc 254) || above bias 255
+abbrev pub inverts : Result Channels FilterFault → Reading
+inverts (Ok channels) = Ok (space (s.Invert channels))
+inverts (Err refusal) = Err (k.Filter refusal)
 
 abbrev pub convolves_by : ℤ → Option (List ℤ) → Reading
 convolves_by bias (Some entries) = Ok (soft (so.GeneralConvolution bias (record { entries = entries })))
 convolves_by bias None = Err (k.Filter fault.BadText)
 
+-- GeneralConvolution: its bias is refused before its matrix.
 abbrev pub convolves : ℤ → Text → Reading
 convolves bias matrix =
     if is_no_bias bias then Err (k.Filter fault.BadRange) else convolves_by bias (matrix_named matrix)
@@ -153,15 +130,15 @@ module _ (values : List Value) where
   abbrev pub read_space : Filter → Reading
   read_space f.Crop = Ok (space (s.Crop (number 1) (number 2) (number 3) (number 4)))
   read_space f.CropBottom = Ok (space (s.CropBottom (number 1)))
-  read_space f.AddBorders = Ok (space (s.AddBorders (number 1) (number 2) (number 3) (number 4) (or_number 5 black)))
-  read_space f.LetterBox = Ok (space (s.LetterBox (number 1) (number 2) (number 3) (number 4) (or_number 5 black)))
+  read_space f.AddBorders = Ok (space (s.AddBorders (number 1) (number 2) (number 3) (number 4) (or_number 5 default_colour)))
+  read_space f.LetterBox = Ok (space (s.LetterBox (number 1) (number 2) (number 3) (number 4) (or_number 5 default_colour)))
   read_space f.FlipHorizontal = Ok (space s.FlipHorizontal)
   read_space f.FlipVertical = Ok (space s.FlipVertical)
   read_space f.Turn180 = Ok (space s.Turn180)
   read_space f.TurnLeft = Ok (space s.TurnLeft)
   read_space f.TurnRight = Ok (space s.TurnRight)
   read_space f.Greyscale = Ok (space s.Greyscale)
-  read_space f.Invert = inverts (channels_of (unwrap_or (text_at values 1) (codes "YUV")))
+  read_space f.Invert = inverts (channels_named (unwrap_or (text_at values 1) (codes "YUV")))
   read_space f.Limiter =
       Ok (space (s.Limiter (or_number 1 (pos 16)) (or_number 2 (pos 235)) (or_number 3 (pos 16)) (or_number 4 (pos 240))))
   read_space f.SwapUV = Ok (space s.SwapUV)

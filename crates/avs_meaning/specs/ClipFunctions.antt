@@ -1,21 +1,14 @@
 -- What the functions on clips tell of a clip's info (AviSynth+ wiki, 'Script functions': "Clip properties").
-use Rattle.std.specs.Prelude.{pos, codes, Ok}
+use Rattle.std.specs.Prelude.{pos, Ok}
 use Rattle.fv_plane.specs.declared.format.Info.{Info}
 use Rattle.fv_plane.specs.declared.format.PixelType.{PixelType}
 use Rattle.fv_plane.specs.declared.format.PixelType.TheVariants.{Y8, YV12, YV16, YV24, YV411}
+use Rattle.fv_plane.specs.FormatNames.{format_name}
 use Rattle.avs_values.specs.Outcome.{Outcome, number}
-use Rattle.avs_values.specs.Values.{Text}
 use Rattle.avs_values.specs.declared.value.Value.TheVariants as v
 use Rattle.clip_term.specs.Refusals.{same_kind}
 use Rattle.avs_meaning.specs.declared.builtin.ClipFn.{ClipFn}
 use Rattle.avs_meaning.specs.declared.builtin.ClipFn.TheVariants as c
-
-abbrev pub format_name : PixelType → Text
-format_name Y8 = codes "Y8"
-format_name YV12 = codes "YV12"
-format_name YV16 = codes "YV16"
-format_name YV24 = codes "YV24"
-format_name YV411 = codes "YV411"
 
 abbrev pub has_format : PixelType → Info → Outcome
 has_format kind info = Ok (v.Bool (same_kind info.shape.kind kind))
@@ -31,4 +24,4 @@ clip_value c.IsYV12 info = has_format YV12 info
 clip_value c.IsYV16 info = has_format YV16 info
 clip_value c.IsYV24 info = has_format YV24 info
 clip_value c.IsYV411 info = has_format YV411 info
-clip_value c.PixelType info = Ok (v.Text (format_name info.shape.kind))
+clip_value c.PixelType info = Ok (v.Text (format_name info.shape))

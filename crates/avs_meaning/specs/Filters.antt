@@ -15,6 +15,7 @@ use Rattle.clip_term.specs.declared.fault.FilterFault.{FilterFault}
 use Rattle.clip_term.specs.declared.filter.Filter.{Filter}
 use Rattle.clip_term.specs.declared.filter.Filter.TheVariants as f
 use Rattle.clip_term.specs.declared.op.TimeOp.TheVariants as t
+use Rattle.clip_graph.specs.declared.graph.TheConstants.Graph.{MAX_NODES, MAX_DEPTH}
 use Rattle.clip_graph.specs.Plan.{Application, deepest, infos_among, sources_in}
 use Rattle.mt_modes.specs.Modes.{mode_in}
 use Rattle.avs_meaning.specs.Arguments.{Reading, reading, takes, number_at, text_at, clips_among, all_fit_filters, out_of_range}
@@ -23,12 +24,6 @@ use Rattle.avs_meaning.specs.Outside.{Outside}
 use Rattle.avs_meaning.specs.State.{Run, ◌>>=◌, pure, fails}
 use Rattle.avs_meaning.specs.declared.fault.InputFault.{InputFault}
 use Rattle.avs_meaning.specs.declared.fault.ScriptKind.TheVariants as k
-
-abbrev pub node_limit : ℕ
-node_limit = 4096
-
-abbrev pub depth_limit : ℕ
-depth_limit = 512
 
 -- the seven arguments of BlankClip beside its clip, from a place on
 abbrev pub blank_args : List Value → ℕ → BlankArgs
@@ -57,8 +52,8 @@ module _ (here : Text) where
   abbrev pub add : Act → List ℕ → Info → ℕ → ℕ → Run Value
   add act inputs info mode line = λ s.
       let next = next_application act inputs info mode s.plan in
-      if nat_le node_limit (length s.plan) then fails k.NodeLimit here line s
-      else (if nat_lt depth_limit next.depth then fails k.DepthLimit here line s
+      if nat_le MAX_NODES (length s.plan) then fails k.NodeLimit here line s
+      else (if nat_lt MAX_DEPTH next.depth then fails k.DepthLimit here line s
       else Ok (v.Clip (length s.plan), record s { plan = s.plan ++ next ∷ [] }))
 
   abbrev pub add_by : Result Info FilterFault → Act → List ℕ → ℕ → ℕ → Run Value

@@ -7,7 +7,7 @@ use Rattle.clip_term.specs.Filters as filters
 use Rattle.clip_term.specs.declared.filter.Filter.{Filter}
 use Rattle.clip_term.specs.declared.filter.Filter.TheVariants as f
 use Rattle.avs_meaning.specs.Outside.{clip_in}
-use Rattle.avs_meaning.specs.Table.{builtins, builtin_of, name_of}
+use Rattle.avs_meaning.specs.Table.{builtins, builtin_of, maker_of, name_of}
 use Rattle.avs_meaning.specs.declared.builtin.Builtin.{Builtin}
 use Rattle.avs_meaning.specs.declared.builtin.Builtin.TheVariants as b
 use Rattle.avs_meaning.specs.declared.fault.InputFault.TheVariants as i
@@ -20,11 +20,6 @@ pub record ClipsAreStreams : Type 0 where
 -- Each built-in function is the one of its name.
 abbrev pub NamesDiffer : Type 0
 NamesDiffer = map (λ function. builtin_of (name_of function)) builtins ≡ map Some builtins
-
--- the function that makes a filter's clip
-abbrev pub maker_of : Filter → Builtin
-maker_of f.ApplyRange = b.ApplyRange
-maker_of filter = b.Filter filter
 
 -- Each filter is called by its name.
 abbrev pub FiltersAreKnown : Type 0

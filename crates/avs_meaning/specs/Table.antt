@@ -1,5 +1,5 @@
 -- The built-in functions: their names, and what they take (AviSynth+ wiki, 'Script functions' and "Internal filters").
-use Rattle.std.specs.Prelude.{List, [], ◌∷◌, ◌++◌, map, codes, Option, Some, None, if◌then◌else◌}
+use Rattle.std.specs.Prelude.{Bool, List, [], ◌∷◌, ◌++◌, map, codes, Option, Some, None, if◌then◌else◌}
 use Rattle.avs_values.specs.Binding.{Signature}
 use Rattle.avs_values.specs.Functions as plain
 use Rattle.avs_values.specs.Values.{Text, same}
@@ -75,44 +75,29 @@ clip_functions =
     c.Width ∷ c.Height ∷ c.FrameCount ∷ c.FrameRateNumerator ∷ c.FrameRateDenominator ∷ c.IsY8 ∷ c.IsYV12 ∷ c.IsYV16
     ∷ c.IsYV24 ∷ c.IsYV411 ∷ c.PixelType ∷ []
 
-abbrev pub filters_of_time : List Filter
-filters_of_time =
-    f.Trim ∷ f.Reverse ∷ f.FreezeFrame ∷ f.SelectEven ∷ f.SelectOdd ∷ f.SelectEvery ∷ f.Interleave ∷ f.UnalignedSplice
-    ∷ f.AlignedSplice ∷ f.Loop ∷ f.DuplicateFrame ∷ f.DeleteFrame ∷ f.AssumeFPS ∷ f.ChangeFPS ∷ []
-
-abbrev pub filters_of_space : List Filter
-filters_of_space =
-    f.Crop ∷ f.CropBottom ∷ f.AddBorders ∷ f.LetterBox ∷ f.FlipHorizontal ∷ f.FlipVertical ∷ f.Turn180 ∷ f.TurnLeft
-    ∷ f.TurnRight ∷ f.Greyscale ∷ f.Invert ∷ f.Limiter ∷ f.SwapUV ∷ f.UToY8 ∷ f.VToY8 ∷ f.ConvertToY8 ∷ []
-
-abbrev pub filters_that_join : List Filter
-filters_that_join =
-    f.StackHorizontal ∷ f.StackVertical ∷ f.Merge ∷ f.MergeLuma ∷ f.MergeChroma ∷ f.YToUV ∷ []
-
-abbrev pub filters_that_mix : List Filter
-filters_that_mix = f.TemporalSoften ∷ f.GeneralConvolution ∷ []
-
--- all but ApplyRange, which calls a function
-abbrev pub plain_filters : List Filter
-plain_filters = f.Y4MSource ∷ f.BlankClip ∷ filters_of_time ++ filters_of_space ++ filters_that_join ++ filters_that_mix
-
 -- the functions that need more than a clip's info or a filter
 abbrev pub calling_functions : List Builtin
-calling_functions = b.Eval ∷ b.Import ∷ b.SetFilterMTMode ∷ b.Prefetch ∷ b.ApplyRange ∷ []
+calling_functions = b.Eval ∷ b.Import ∷ b.SetFilterMTMode ∷ b.Prefetch ∷ []
+
+-- the function that makes a filter's clip. ApplyRange calls a function
+abbrev pub maker_of : Filter → Builtin
+maker_of f.ApplyRange = b.ApplyRange
+maker_of filter = b.Filter filter
 
 unfoldable pub builtins : List Builtin
 builtins =
-    calling_functions ++ map b.Filter plain_filters ++ map b.Clip clip_functions ++ map b.Plain numeric_functions
+    calling_functions ++ map maker_of filters.all_filters ++ map b.Clip clip_functions ++ map b.Plain numeric_functions
     ++ map b.Plain text_functions ++ map b.Plain other_functions
 
--- Greyscale has two spellings.
-abbrev pub spelling : Text → Text
-spelling name = if same name (codes "Grayscale") then codes "Greyscale" else name
+-- without regard to case, and by each spelling of a filter
+abbrev pub is_called : Text → Builtin → Bool
+is_called name (b.Filter filter) = filters.has_name name filter
+is_called name function = same name (name_of function)
 
--- the first function of a name, without regard to case
+-- the first function of a name
 abbrev pub builtin_in : Text → List Builtin → Option Builtin
 builtin_in name [] = None
-builtin_in name (function ∷ rest) = if same name (name_of function) then Some function else builtin_in name rest
+builtin_in name (function ∷ rest) = if is_called name function then Some function else builtin_in name rest
 
 unfoldable pub builtin_of : Text → Option Builtin
-builtin_of name = builtin_in (spelling name) builtins
+builtin_of name = builtin_in name builtins

@@ -1,6 +1,6 @@
 // The functions of the language, by name.
 ghost use Rattle.std.specs.Prelude.{◌≡◌};
-ghost use Rattle.avs_meaning.specs.Table.{clip_fn_name, name_of};
+ghost use Rattle.avs_meaning.specs.Table.{clip_fn_name, maker_of, name_of};
 
 use avs_values::PlainFn;
 use clip_term::Filter;
@@ -57,6 +57,16 @@ pub enum Builtin {
 }
 
 impl Builtin {
+    /// The function that makes the clip of a filter.
+    pub fn maker_of(filter: Filter) -> Builtin
+        ensures { result ≡ maker_of filter }
+    {
+        match filter {
+            Filter::ApplyRange => Builtin::ApplyRange,
+            _ => Builtin::Filter(filter),
+        }
+    }
+
     /// How the function is called in scripts, where case doesn't count.
     pub fn name(self) -> &'static str
         ensures { result.now ≡ name_of self }

@@ -1,6 +1,5 @@
 // The table of the built-in functions.
-ghost use Rattle.std.specs.Prelude.{◌≡◌, IfOk, map, option_map};
-ghost use Rattle.avs_values.specs.Values.{same};
+ghost use Rattle.std.specs.Prelude.{◌≡◌, ◌∷◌, ◌++◌, [], IfOk, OnOk, map, option_map};
 ghost use Rattle.avs_values.specs.Views.{signature_view};
 ghost use Rattle.avs_meaning.specs.Table as d;
 
@@ -10,52 +9,15 @@ use clip_term::Filter;
 use std::alloc::{AllocError, Global};
 use std::marker::Model;
 
-const BUILTINS: [Builtin; 90] = [
+// Those that need more than a clip's info or a filter.
+const CALLING: [Builtin; 4] = [
     Builtin::Eval,
     Builtin::Import,
     Builtin::SetFilterMTMode,
     Builtin::Prefetch,
-    Builtin::ApplyRange,
-    Builtin::Filter(Filter::Y4MSource),
-    Builtin::Filter(Filter::BlankClip),
-    Builtin::Filter(Filter::Trim),
-    Builtin::Filter(Filter::Reverse),
-    Builtin::Filter(Filter::FreezeFrame),
-    Builtin::Filter(Filter::SelectEven),
-    Builtin::Filter(Filter::SelectOdd),
-    Builtin::Filter(Filter::SelectEvery),
-    Builtin::Filter(Filter::Interleave),
-    Builtin::Filter(Filter::UnalignedSplice),
-    Builtin::Filter(Filter::AlignedSplice),
-    Builtin::Filter(Filter::Loop),
-    Builtin::Filter(Filter::DuplicateFrame),
-    Builtin::Filter(Filter::DeleteFrame),
-    Builtin::Filter(Filter::AssumeFPS),
-    Builtin::Filter(Filter::ChangeFPS),
-    Builtin::Filter(Filter::Crop),
-    Builtin::Filter(Filter::CropBottom),
-    Builtin::Filter(Filter::AddBorders),
-    Builtin::Filter(Filter::LetterBox),
-    Builtin::Filter(Filter::FlipHorizontal),
-    Builtin::Filter(Filter::FlipVertical),
-    Builtin::Filter(Filter::Turn180),
-    Builtin::Filter(Filter::TurnLeft),
-    Builtin::Filter(Filter::TurnRight),
-    Builtin::Filter(Filter::Greyscale),
-    Builtin::Filter(Filter::Invert),
-    Builtin::Filter(Filter::Limiter),
-    Builtin::Filter(Filter::SwapUV),
-    Builtin::Filter(Filter::UToY8),
-    Builtin::Filter(Filter::VToY8),
-    Builtin::Filter(Filter::ConvertToY8),
-    Builtin::Filter(Filter::StackHorizontal),
-    Builtin::Filter(Filter::StackVertical),
-    Builtin::Filter(Filter::Merge),
-    Builtin::Filter(Filter::MergeLuma),
-    Builtin::Filter(Filter::MergeChroma),
-    Builtin::Filter(Filter::YToUV),
-    Builtin::Filter(Filter::TemporalSoften),
-    Builtin::Filter(Filter::GeneralConvolution),
+];
+
+const PLAIN: [Builtin; 45] = [
     Builtin::Clip(ClipFn::Width),
     Builtin::Clip(ClipFn::Height),
     Builtin::Clip(ClipFn::FrameCount),
@@ -159,19 +121,12 @@ impl Model for Table {
 
 // Whether a row is that of a name.
 fn is_named(row: &Row, name: &str) -> bool
-    ensures { result ≡ same name.now (d.name_of row.now) }
+    ensures { result ≡ d.is_called name.now row.now }
 {
-    name.eq_ignore_ascii_case(row.builtin.name())
-}
-
-// The name that the table has for a function.
-fn spelling(name: &str) -> &str
-    ensures { result.now ≡ d.spelling name.now }
-{
-    if name.eq_ignore_ascii_case("Grayscale") {
-        return "Greyscale";
+    match row.builtin {
+        Builtin::Filter(filter) => filter.has_name(name),
+        builtin => name.eq_ignore_ascii_case(builtin.name()),
     }
-    name
 }
 
 // The first row of a name.
@@ -186,18 +141,35 @@ fn first_named<'r>(rows: &'r [Row], name: &str) -> Option<&'r Row>
     None
 }
 
-fn rows_of(alloc: Global, builtins: &[Builtin]) -> Result<Vec<Row>, AllocError>
-    ensures { IfOk result (λ made. made.items ≡ builtins.now) }
+// Adds the row of a function.
+fn add_row(alloc: Global, rows: &mut Vec<Row>, builtin: Builtin) -> Result<(), AllocError>
+    ensures { OnOk result (rows.new.items ≡ rows.old.items ++ builtin ∷ []) }
 {
-    let mut rows = Vec::new(alloc);
+    let signatures = signatures(alloc, builtin)?;
+    rows.push(Row {
+        builtin,
+        signatures,
+    })?;
+    Ok(())
+}
+
+fn add_rows(alloc: Global, rows: &mut Vec<Row>, builtins: &[Builtin]) -> Result<(), AllocError>
+    ensures { OnOk result (rows.new.items ≡ rows.old.items ++ builtins.now) }
+{
     for builtin in builtins {
-        let signatures = signatures(alloc, *builtin)?;
-        rows.push(Row {
-            builtin: *builtin,
-            signatures,
-        })?;
+        add_row(alloc, rows, *builtin)?;
     }
-    Ok(rows)
+    Ok(())
+}
+
+// Adds the rows of these filters.
+fn add_filters(alloc: Global, rows: &mut Vec<Row>, filters: &[Filter]) -> Result<(), AllocError>
+    ensures { OnOk result (rows.new.items ≡ rows.old.items ++ map d.maker_of filters.now) }
+{
+    for filter in filters {
+        add_row(alloc, rows, Builtin::maker_of(*filter))?;
+    }
+    Ok(())
 }
 
 impl Table {
@@ -206,7 +178,10 @@ impl Table {
     pub fn new(alloc: Global) -> Result<Table, AllocError>
         ensures { IfOk result (λ made. made ≡ d.builtins) }
     {
-        let rows = rows_of(alloc, &BUILTINS)?;
+        let mut rows = Vec::new(alloc);
+        add_rows(alloc, &mut rows, &CALLING)?;
+        add_filters(alloc, &mut rows, &Filter::ALL)?;
+        add_rows(alloc, &mut rows, &PLAIN)?;
         Ok(Table { rows })
     }
 
@@ -215,6 +190,6 @@ impl Table {
     pub fn find(&self, name: &str) -> Option<&Row>
         ensures { option_map (λ row. row.now) result ≡ d.builtin_of name.now }
     {
-        first_named(self.rows.as_slice(), spelling(name))
+        first_named(self.rows.as_slice(), name)
     }
 }

@@ -1,19 +1,23 @@
 -- Pictures of one shape, and planes that stay.
-use Rattle.std.proofs.Common.{◌≡◌, ℕ, ◌+◌, ◌*◌, ◌/◌, ◌<◌, ◌≤◌, ◌∙◌, List, [], ◌∷◌, length, map, get_or, refl, ap, arith, Bool, true, false, inl, inr, eqb-true, eq-eqb}
+use Rattle.std.proofs.Common.{◌≡◌, ℕ, ◌+◌, ◌*◌, ◌/◌, ◌<◌, ◌≤◌, ◌∙◌, List, [], ◌∷◌, length, map, get_or, refl, sym, ap, arith, Bool, true, false, inl, inr, eqb-true, eq-eqb}
 use Rattle.std.specs.Prelude.{ℤ, ◌⊎◌, ◌||◌, if◌then◌else◌, ◌==◌, ◌&&◌, nat_le}
 use Rattle.std.proofs.lemmas.List.{get_or_read}
 use Rattle.fv_plane.specs.declared.format.Shape.{Shape}
-use Rattle.fv_plane.specs.Format.{plane_width, sub_w}
+use Rattle.fv_plane.specs.Bytes.{row_of_bytes}
+use Rattle.fv_plane.specs.Format.{plane_width, row_bytes, sample_bytes, sub_w}
 use Rattle.fv_plane.specs.Picture.{Picture, IsPicture}
 use Rattle.fv_plane.specs.Look.{Look, look_in, look_at, row_from}
+use Rattle.fv_plane.proofs.BytesLemmas.{row-bytes_of_row}
+use Rattle.fv_plane.proofs.CallerLemmas.{bytes_of_narrow}
 use Rattle.fv_plane.proofs.FillLemmas.{Filled, row_listed}
+use Rattle.fv_plane.proofs.WholePlaneLemmas.{rows_listed}
 use Rattle.clip_term.specs.declared.op.Matrix.{Matrix}
 use Rattle.clip_term.specs.declared.op.SoftOp.{SoftOp}
 use Rattle.clip_term.specs.declared.op.SoftOp.TheVariants as op
 use Rattle.clip_term.specs.Refusals.{nat_of}
 use Rattle.clip_term.specs.Soft.{near, softened, samples_at, soft_at, convolved}
 use Rattle.clip_term.specs.Terms.{no_picture}
-use Rattle.flt_soft.specs.Pictures.{CanSoften, HaveShape, asked_count, keeps_plane, shape_of}
+use Rattle.flt_soft.specs.Pictures.{CanSoften, HaveShape, asked_count, bytes_made, keeps_plane, shape_of}
 use Rattle.flt_soft.proofs.SoftenLemmas.{look_seen}
 
 -- a filter asks a frame
@@ -44,9 +48,19 @@ width_at_most shape p = at_most (p == 0) shape.width (shape.width / sub_w shape.
 pub none_filled : (want : ℕ → ℕ → List ℕ) (shape : Shape) (made : Picture) → IsPicture made → made.shape ≡ shape → Filled want shape made 0 0
 none_filled want shape made sizes same = record { same = same; sizes = sizes; below = λ p z before there. absurd (omega arith); here = λ z before. absurd (omega arith) }
 
--- a row that is listed for one shape and width is listed for equal ones
-pub row_moved : (filter : SoftOp) (looks : List Look) (p y : ℕ) (s t : Shape) (w v : ℕ) (row : List ℕ) → s ≡ t → v ≡ w → row ≡ row_from (soft_at filter t looks) p v y → row ≡ row_from (soft_at filter s looks) p w y
-row_moved filter looks p y s t w v row shape width e = rw (shape, ← width) e
+-- where a sample is one byte, the bytes are the samples
+pub narrow_made : (filter : SoftOp) (pictures : List Picture) (p y bytes : ℕ) → sample_bytes (shape_of pictures) ≡ 1 → bytes ≡ row_bytes (shape_of pictures) p
+    → row_from (soft_at filter (shape_of pictures) (map look_in pictures)) p bytes y ≡ bytes_made filter pictures p y
+narrow_made filter pictures p y bytes narrow long =
+    let at = soft_at filter (shape_of pictures) (map look_in pictures) in
+    let width : bytes ≡ plane_width (shape_of pictures) p = omega (arith, long) in
+    ap (λ n. row_from at p n y) width ∙ sym (bytes_of_narrow (shape_of pictures) (row_from at p (plane_width (shape_of pictures) p) y) narrow)
+
+-- the samples of the bytes are the row
+pub made_again : (filter : SoftOp) (pictures : List Picture) (shape made : Shape) (p y : ℕ) (out : List ℕ) → shape ≡ shape_of pictures → made ≡ shape
+    → out ≡ bytes_made filter pictures p y → row_of_bytes made out ≡ rows_listed shape (soft_at filter shape (map look_in pictures)) p y
+made_again filter pictures shape made p y out is same put =
+    rw (put, same, is) (row-bytes_of_row (shape_of pictures) (row_from (soft_at filter (shape_of pictures) (map look_in pictures)) p (plane_width (shape_of pictures) p) y))
 
 -- PLANES THAT STAY
 

@@ -3,7 +3,9 @@ use Rattle.std.specs.Prelude.{◌≡◌, ℕ, ◌+◌, ◌*◌, Bool, false, ◌
 use Rattle.std.specs.List.{All}
 use Rattle.fv_plane.specs.declared.format.Shape.{Shape}
 use Rattle.fv_plane.specs.Picture.{Picture, row_of}
-use Rattle.fv_plane.specs.Look.{look_in, picture_from}
+use Rattle.fv_plane.specs.Bytes.{bytes_of_row}
+use Rattle.fv_plane.specs.Format.{plane_width}
+use Rattle.fv_plane.specs.Look.{look_in, picture_from, row_from}
 use Rattle.fv_plane.specs.Refusals.{first_fault}
 use Rattle.clip_term.specs.declared.op.SoftOp.{SoftOp}
 use Rattle.clip_term.specs.declared.op.SoftOp.TheVariants as op
@@ -19,6 +21,12 @@ HaveShape shape pictures = All (λ (picture : Picture). picture.shape ≡ shape)
 
 abbrev pub soft_picture : SoftOp → List Picture → Picture
 soft_picture op pictures = picture_from (shape_of pictures) (soft_at op (shape_of pictures) (map look_in pictures))
+
+-- the bytes of a row that a filter makes
+abbrev pub bytes_made : SoftOp → List Picture → ℕ → ℕ → List ℕ
+bytes_made op pictures p y =
+    let shape = shape_of pictures in
+    bytes_of_row shape (row_from (soft_at op shape (map look_in pictures)) p (plane_width shape p) y)
 
 -- how many frames a filter asks
 abbrev pub asked_count : SoftOp → ℕ

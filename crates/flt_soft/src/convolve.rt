@@ -1,5 +1,5 @@
 // Sums of the samples around a place.
-ghost use Rattle.std.specs.Prelude.{◌≡◌, ◌<◌, ◌≤◌, ◌+◌, ◌⊎◌, ℕ, max, pos, negsuc, ◌-ℤ◌, ◌≤ℤ◌, IfOk, length, EachIndex, slice_index, slice_index_or, unsigned_abs, vec_len};
+ghost use Rattle.std.specs.Prelude.{◌≡◌, ◌<◌, ◌≤◌, ◌+◌, ◌⊎◌, ℕ, max, pos, negsuc, ◌-ℤ◌, ◌≤ℤ◌, IfOk, OnErr, length, EachIndex, slice_index, slice_index_or, unsigned_abs, vec_len};
 ghost use Rattle.fv_plane.specs.Format.{planes, plane_width, plane_height};
 ghost use Rattle.fv_plane.specs.Look.{look_in};
 ghost use Rattle.clip_term.specs.declared.op.SoftOp.TheVariants.{GeneralConvolution};
@@ -367,6 +367,7 @@ pub fn general_convolution(
     requires { CanSoften (GeneralConvolution bias matrix.now) inputs.now }
     ensures made { IfOk result (λ made. made ≡ soft_picture (GeneralConvolution bias matrix.now) inputs.now) }
     ensures room { scratch.new ≤ max scratch.old (shape_of inputs.now).width }
+    ensures err { OnErr result (scratch.new ≡ scratch.old) }
 {
     make_by_rows(alloc, &ConvolveRows { bias, matrix }, inputs, scratch)
 }

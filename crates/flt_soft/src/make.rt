@@ -1,5 +1,5 @@
 // The picture that any filter of the group Soft makes.
-ghost use Rattle.std.specs.Prelude.{◌≡◌, ◌≤◌, max, IfOk};
+ghost use Rattle.std.specs.Prelude.{◌≡◌, ◌≤◌, max, IfOk, OnErr};
 ghost use Rattle.flt_soft.specs.Pictures.{CanSoften, shape_of, soft_picture};
 
 use crate::convolve::general_convolution;
@@ -11,7 +11,7 @@ use std::alloc::{AllocError, Global};
 
 /// The frame that a filter makes of the frames that it asks, in their order. It is the same whatever the scratch holds. A
 /// plane of `TemporalSoften` whose threshold is 0 is shared. An `Err` is out of memory, or more shares than can be
-/// counted; the scratch then serves as before.
+/// counted; the scratch is then as it was.
 pub fn make_soft(
     alloc: Global,
     op: &SoftOp,
@@ -21,6 +21,7 @@ pub fn make_soft(
     requires { CanSoften op.now inputs.now }
     ensures made { IfOk result (λ made. made ≡ soft_picture op.now inputs.now) }
     ensures room { scratch.new ≤ max scratch.old (shape_of inputs.now).width }
+    ensures err { OnErr result (scratch.new ≡ scratch.old) }
 {
     match op {
         SoftOp::TemporalSoften {

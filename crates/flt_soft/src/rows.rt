@@ -1,11 +1,9 @@
 // Filters that make each row of a picture by itself.
-ghost use Rattle.std.specs.Prelude.{◌≡◌, ◌<◌, ◌≤◌, max, map, IfOk, OnOk, false, length};
-ghost use Rattle.fv_plane.specs.Format.{planes, plane_width, plane_height};
-ghost use Rattle.fv_plane.specs.Look.{look_in, row_from};
+ghost use Rattle.std.specs.Prelude.{◌≡◌, ◌<◌, ◌≤◌, max, IfOk, OnOk, OnErr, false, length};
+ghost use Rattle.fv_plane.specs.Format.{planes, plane_width, plane_height, row_bytes};
 ghost use Rattle.fv_plane.specs.Picture.{IsPicture};
 ghost use Rattle.clip_term.specs.declared.op.SoftOp.{SoftOp};
-ghost use Rattle.clip_term.specs.Soft.{soft_at};
-ghost use Rattle.flt_soft.specs.Pictures.{CanSoften, HaveShape, keeps_plane, row_in, shape_of, soft_picture};
+ghost use Rattle.flt_soft.specs.Pictures.{CanSoften, HaveShape, bytes_made, keeps_plane, row_in, shape_of, soft_picture};
 
 use crate::scratch::Scratch;
 use fv_plane::{Frame, FrameBuilder};
@@ -33,16 +31,15 @@ pub trait RowFilter {
     fn keeps_plane(&self, plane: u32) -> bool
         ensures { result ≡ keeps_plane (op self.now) plane };
 
-    /// Writes a row of a plane that isn't kept.
+    /// Writes the bytes of a row of a plane that isn't kept.
     fn fill_row(&self, inputs: &[Frame], plane: u32, y: u32, scratch: &mut Scratch, out: &mut [u8])
         requires able { CanSoften (op self.now) inputs.now }
         requires changed { keeps_plane (op self.now) plane ≡ false }
         requires plane { plane < planes (shape_of inputs.now).kind }
         requires inside { y < plane_height (shape_of inputs.now) plane }
-        requires whole { length out.old ≡ plane_width (shape_of inputs.now) plane }
-        requires room { length out.old ≤ scratch.old }
-        ensures row { out.new ≡ row_from (soft_at (op self.now) (shape_of inputs.now) (map look_in inputs.now))
-            plane (length out.old) y }
+        requires whole { length out.old ≡ row_bytes (shape_of inputs.now) plane }
+        requires room { plane_width (shape_of inputs.now) plane ≤ scratch.old }
+        ensures row { out.new ≡ bytes_made (op self.now) inputs.now plane y }
         ensures room { scratch.new ≡ scratch.old };
 }
 
@@ -81,7 +78,25 @@ fn fill_planes<F: RowFilter>(
     Ok(())
 }
 
-/// The picture that a filter makes.
+// The picture that a filter makes, in a scratch that has room for it.
+fn make_in<F: RowFilter>(
+    alloc: Global,
+    filter: &F,
+    inputs: &[Frame],
+    scratch: &mut Scratch,
+) -> Result<Frame, AllocError>
+    requires able { CanSoften (F.op filter.now) inputs.now }
+    requires room { (shape_of inputs.now).width ≤ scratch.old }
+    ensures made { IfOk result (λ made. made ≡ soft_picture (F.op filter.now) inputs.now) }
+    ensures room { scratch.new ≡ scratch.old }
+{
+    let first = &inputs[0];
+    let mut made = FrameBuilder::new(alloc, first.shape())?;
+    fill_planes(alloc, filter, inputs, scratch, &mut made)?;
+    made.finish()
+}
+
+/// The picture that a filter makes. After an `Err` the scratch has the room that it had.
 pub fn make_by_rows<F: RowFilter>(
     alloc: Global,
     filter: &F,
@@ -91,11 +106,16 @@ pub fn make_by_rows<F: RowFilter>(
     requires { CanSoften (F.op filter.now) inputs.now }
     ensures made { IfOk result (λ made. made ≡ soft_picture (F.op filter.now) inputs.now) }
     ensures room { scratch.new ≤ max scratch.old (shape_of inputs.now).width }
+    ensures err { OnErr result (scratch.new ≡ scratch.old) }
 {
     let first = &inputs[0];
     let shape = first.shape();
-    scratch.grow(shape.width as usize)?;
-    let mut made = FrameBuilder::new(alloc, shape)?;
-    fill_planes(alloc, filter, inputs, scratch, &mut made)?;
-    made.finish()
+    match scratch.wider(shape.width as usize)? {
+        None => make_in(alloc, filter, inputs, scratch),
+        Some(mut rows) => {
+            let made = make_in(alloc, filter, inputs, &mut rows)?;
+            *scratch = rows;
+            Ok(made)
+        }
+    }
 }

@@ -1,5 +1,5 @@
 // Rows that a filter keeps from frame to frame.
-ghost use Rattle.std.specs.Prelude.{◌≡◌, ◌<◌, ◌+◌, ◌*◌, ◌≤◌, max, IfOk, OnOk, OnErr};
+ghost use Rattle.std.specs.Prelude.{◌≡◌, ◌<◌, ◌+◌, ◌*◌, ◌≤◌, IfOk, MatchOption};
 
 use std::alloc::{AllocError, Global};
 use std::marker::Model;
@@ -66,15 +66,14 @@ impl Scratch {
         })
     }
 
-    /// Makes room for rows of this width. An `Err` is out of memory, and then nothing has changed.
-    pub(crate) fn grow(&mut self, width: usize) -> Result<(), AllocError>
+    /// A scratch of this width, or `None` where this one has room for it. An `Err` is out of memory.
+    pub(crate) fn wider(&self, width: usize) -> Result<Option<Scratch>, AllocError>
         requires { width ≤ 65535 }
-        ensures ok { OnOk result (self.new ≡ max self.old width) }
-        ensures err { OnErr result (self.new ≡ self.old) }
+        ensures { IfOk result (λ rows. MatchOption rows (width ≤ self.now) (λ rows. (self.now < width) × (rows ≡ width))) }
     {
-        if width > self.width {
-            *self = Scratch::of_width(self.alloc, width)?;
+        if width <= self.width {
+            return Ok(None);
         }
-        Ok(())
+        Ok(Some(Scratch::of_width(self.alloc, width)?))
     }
 }

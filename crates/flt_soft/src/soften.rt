@@ -1,5 +1,5 @@
 // Means of frames that follow each other.
-ghost use Rattle.std.specs.Prelude.{◌≡◌, ◌<◌, ◌≤◌, ◌+◌, ◌*◌, ◌/◌, max, map, pos, IfOk, length, if◌then◌else◌, ◌==◌, EachIndex, slice_index};
+ghost use Rattle.std.specs.Prelude.{◌≡◌, ◌<◌, ◌≤◌, ◌+◌, ◌*◌, ◌/◌, max, map, pos, IfOk, OnErr, length, if◌then◌else◌, ◌==◌, EachIndex, slice_index};
 ghost use Rattle.fv_plane.specs.Format.{planes, plane_width, plane_height};
 ghost use Rattle.fv_plane.specs.Look.{look_in, look_at};
 ghost use Rattle.clip_term.specs.declared.op.SoftOp.TheVariants.{TemporalSoften};
@@ -120,6 +120,7 @@ pub fn temporal_soften(
     ensures made { IfOk result (λ made.
         made ≡ soft_picture (TemporalSoften (pos radius) (pos luma) (pos chroma)) inputs.now) }
     ensures room { scratch.new ≤ max scratch.old (shape_of inputs.now).width }
+    ensures err { OnErr result (scratch.new ≡ scratch.old) }
 {
     let filter = SoftenRows {
         radius,

@@ -2,7 +2,7 @@ use Rattle.std.proofs.Common.{◌≡◌, ◌<◌, ◌/◌, ◌∙◌, true, refl
 use Rattle.std.proofs.lemmas.List.{get_or_read}
 use Rattle.fv_plane.specs.declared.format.Shape.{Shape}
 use Rattle.fv_plane.specs.Bytes.{row_of_bytes}
-use Rattle.fv_plane.specs.Format.{planes, plane_width, plane_height}
+use Rattle.fv_plane.specs.Format.{planes, plane_width, plane_height, row_bytes}
 use Rattle.fv_plane.specs.Look.{Look, look_in, picture_from}
 use Rattle.fv_plane.specs.Picture.{Picture}
 use Rattle.fv_plane.proofs.FillLemmas.{filled_put, filled_plane, filled_done}
@@ -10,7 +10,7 @@ use Rattle.fv_plane.proofs.WholePlaneLemmas.{rows_listed, filled_whole, row_seen
 use Rattle.clip_term.specs.Soft.{soft_at}
 use Rattle.clip_term.specs.Terms.{no_picture}
 use Rattle.flt_soft.specs.Pictures.{keeps_plane, shape_of, soft_picture}
-use Rattle.flt_soft.proofs.PictureLemmas.{first_shape, kept_samples, row_moved, shape_same, some_pictures, width_at_most, none_filled}
+use Rattle.flt_soft.proofs.PictureLemmas.{first_shape, kept_samples, made_again, shape_same, some_pictures, width_at_most, none_filled}
 use Rattle.flt_soft.proofs.rows.fill_planes.Goals as goal
 
 pub loop-plane-init : goal.loop-plane-init
@@ -82,14 +82,14 @@ fill_row-requires-clause-whole g c =
     let inputs : List Picture = c.args.inputs.now in
     let some : 0 < length inputs = some_pictures (g.F.RowFilter.op c.args.filter.now) inputs c.requires.able in
     let shape : c.shape-shape.result ≡ shape_of inputs = c.shape-shape.ensures.shape ∙ first_shape inputs c.index-inputs-0.result some c.index-inputs-0.is in
-    c.loop-y.invariant.long ∙ ap (λ (s : Shape). plane_width s c.loop-plane.plane) shape
+    c.loop-y.invariant.long ∙ ap (λ (s : Shape). row_bytes s c.loop-plane.plane) shape
 
 pub fill_row-requires-clause-room : goal.fill_row-requires-clause-room
 fill_row-requires-clause-room g c =
     let inputs : List Picture = c.args.inputs.now in
     let some : 0 < length inputs = some_pictures (g.F.RowFilter.op c.args.filter.now) inputs c.requires.able in
     let shape : c.shape-shape.result ≡ shape_of inputs = c.shape-shape.ensures.shape ∙ first_shape inputs c.index-inputs-0.result some c.index-inputs-0.is in
-    omega (arith, c.loop-y.invariant.long, width_at_most c.shape-shape.result c.loop-plane.plane, ap (λ (s : Shape). s.width) shape, c.requires.room, c.loop-y.invariant.room)
+    omega (arith, width_at_most (shape_of inputs) c.loop-plane.plane, c.requires.room, c.loop-y.invariant.room)
 
 pub put_row-requires-clause-plane : goal.put_row-requires-clause-plane
 put_row-requires-clause-plane g c =
@@ -102,7 +102,6 @@ put_row-requires-clause-inside g c =
     rw c.loop-y.invariant.filled.same inside
 
 pub loop-y-preserved : goal.loop-y-preserved
-unfolding row_of_bytes
 loop-y-preserved g c =
     let filter = g.F.RowFilter.op c.args.filter.now in
     let inputs : List Picture = c.args.inputs.now in
@@ -112,12 +111,12 @@ loop-y-preserved g c =
     let some : 0 < length inputs = some_pictures filter inputs c.requires.able in
     let shape : mine ≡ shape_of inputs = c.shape-shape.ensures.shape ∙ first_shape inputs c.index-inputs-0.result some c.index-inputs-0.is in
     let at : Look = soft_at filter mine (map look_in inputs) in
-    let row : c.fill_row.new.out ≡ rows_listed mine at p y
-    = row_moved filter (map look_in inputs) p y mine (shape_of inputs) (plane_width mine p) (length c.loop-y.row) c.fill_row.new.out shape c.loop-y.invariant.long c.fill_row.ensures.row in
+    let row : row_of_bytes c.loop-y.made.shape c.fill_row.new.out ≡ rows_listed mine at p y
+    = made_again filter inputs mine c.loop-y.made.shape p y c.fill_row.new.out shape c.loop-y.invariant.filled.same c.fill_row.ensures.row in
     record {
       long = c.fill_row.auto.out ∙ c.loop-y.invariant.long;
       room = c.fill_row.ensures.room ∙ c.loop-y.invariant.room;
-      filled = filled_put (rows_listed mine at) mine c.loop-y.made c.put_row.new.self p y c.fill_row.new.out c.loop-y.invariant.filled c.put_row.ensures.sizes c.put_row.ensures.shape c.put_row.ensures.rows row
+      filled = filled_put (rows_listed mine at) mine c.loop-y.made c.put_row.new.self p y (row_of_bytes c.loop-y.made.shape c.fill_row.new.out) c.loop-y.invariant.filled c.put_row.ensures.sizes c.put_row.ensures.shape c.put_row.ensures.rows row
           (search rules) (search rules);
     }
 

@@ -8,6 +8,7 @@ use Rattle.clip_term.specs.Space.{space_at}
 use Rattle.flt_space.specs.Kept.{keeps_plane}
 use Rattle.fv_plane.proofs.WholePlaneLemmas.{rows_listed, filled_whole, row_seen}
 use Rattle.flt_space.proofs.KeptLemmas.{kept_shape, kept_samples}
+use Rattle.flt_space.proofs.RowLemmas.{made_again}
 use Rattle.flt_space.proofs.rows.fill_planes.Goals as goal
 
 pub loop-plane-init : goal.loop-plane-init
@@ -64,12 +65,13 @@ put_row-requires-clause-inside g c =
     rw c.loop-y.invariant.1.same inside
 
 pub loop-y-preserved : goal.loop-y-preserved
-unfolding row_of_bytes
 loop-y-preserved g c =
-    let at = space_at (g.F.RowFilter.op c.args.filter.now) c.args.input.now.shape (look_in c.args.input.now) in
-    let row : c.fill_row.new.out ≡ rows_listed c.args.shape at c.loop-plane.plane c.loop-y.y = rw (← c.loop-y.invariant.0) c.fill_row.ensures in (
+    let filter = g.F.RowFilter.op c.args.filter.now in
+    let at = space_at filter c.args.input.now.shape (look_in c.args.input.now) in
+    let row = made_again filter c.args.input.now c.args.shape c.loop-y.made.shape c.loop-plane.plane c.loop-y.y c.fill_row.new.out c.requires.shape c.loop-y.invariant.1.same
+    c.requires.accepted c.shape.ensures.sizes c.fill_row.ensures in (
       search rules,
-      filled_put (rows_listed c.args.shape at) c.args.shape c.loop-y.made c.put_row.new.self c.loop-plane.plane c.loop-y.y c.fill_row.new.out c.loop-y.invariant.1
+      filled_put (rows_listed c.args.shape at) c.args.shape c.loop-y.made c.put_row.new.self c.loop-plane.plane c.loop-y.y (row_of_bytes c.loop-y.made.shape c.fill_row.new.out) c.loop-y.invariant.1
           c.put_row.ensures.sizes c.put_row.ensures.shape c.put_row.ensures.rows row (search rules) (search rules),
     )
 

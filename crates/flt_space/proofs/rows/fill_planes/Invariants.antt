@@ -1,5 +1,5 @@
 use Rattle.std.proofs.Common.{◌≡◌, length}
-use Rattle.fv_plane.specs.Format.{plane_width}
+use Rattle.fv_plane.specs.Format.{row_bytes}
 use Rattle.fv_plane.specs.Look.{look_in}
 use Rattle.fv_plane.proofs.FillLemmas.{Filled}
 use Rattle.clip_term.specs.Space.{space_at}
@@ -8,7 +8,7 @@ use Rattle.flt_space.proofs.rows.fill_planes.Given as goal
 
 abbrev pub invariant-loop-y : goal.invariant-loop-y
 invariant-loop-y g l =
-    (length l.row ≡ plane_width l.shape l.plane) × Filled (rows_listed l.shape (space_at (g.F.RowFilter.op l.filter) l.input.shape (look_in l.input))) l.shape l.made l.plane l.y
+    (length l.row ≡ row_bytes l.shape l.plane) × Filled (rows_listed l.shape (space_at (g.F.RowFilter.op l.filter) l.input.shape (look_in l.input))) l.shape l.made l.plane l.y
 
 abbrev pub invariant-loop-plane : goal.invariant-loop-plane
 invariant-loop-plane g l = Filled (rows_listed l.shape (space_at (g.F.RowFilter.op l.filter) l.input.shape (look_in l.input))) l.shape l.made l.plane 0

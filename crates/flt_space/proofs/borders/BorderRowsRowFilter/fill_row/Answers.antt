@@ -1,4 +1,4 @@
-use Rattle.std.proofs.Common.{rules, ◌≡◌, ◌+◌, ◌-◌, ◌∙◌, true, false, sym, length, replicate, arith}
+use Rattle.std.proofs.Common.{rules, ◌≡◌, ◌+◌, ◌-◌, ◌∙◌, true, false, sym, length, replicate, arith, refl}
 use Rattle.std.proofs.lemmas.List.{get_or-replicate}
 use Rattle.fv_plane.specs.Bytes.{bytes_of_row}
 use Rattle.fv_plane.specs.Format.{plane_width, plane_height}
@@ -9,6 +9,7 @@ use Rattle.clip_term.specs.declared.op.SpaceOp.TheVariants.{AddBorders}
 use Rattle.clip_term.specs.Refusals.{nat_of, paint}
 use Rattle.clip_term.specs.Space.{space_at, is_within}
 use Rattle.flt_space.proofs.BorderLemmas.{fits_between, inside_of, bordered_row, out_of_row}
+use Rattle.flt_space.proofs.RowLemmas.{narrow_made}
 use Rattle.flt_space.proofs.borders.BorderRowsRowFilter.fill_row.Goals as goal
 
 pub row-requires-clause-inside : goal.row-requires-clause-inside
@@ -44,6 +45,7 @@ returns-then-is_within c =
     put ∙ bordered_row input borders.left borders.top borders.right borders.bottom borders.color_yuv p c.args.y (length c.args.out.now) (rw row at long)
     (omega (arith, c.requires.whole, fits_between input.shape p (nat_of borders.left) (nat_of borders.right) (input.shape.height + nat_of borders.top + nat_of borders.bottom)))
     (rw (top, high) at told)
+    ∙ narrow_made (AddBorders borders.left borders.top borders.right borders.bottom borders.color_yuv) input p c.args.y (length c.args.out.now) refl c.requires.whole
 
 pub returns-else-is_within : goal.returns-else-is_within
 returns-else-is_within c =
@@ -58,3 +60,4 @@ returns-else-is_within c =
     row_listed c.fill.new.self (space_at (AddBorders borders.left borders.top borders.right borders.bottom borders.color_yuv) input.shape (look_in input)) p (length c.args.out.now) c.args.y (search rules)
     (λ x within. rw plain (get_or-replicate (length c.args.out.now) x c.paint-colour.result 0 within) ∙ value
     ∙ out_of_row (is_within (across input.shape p (nat_of borders.left)) (across input.shape p (nat_of borders.left) + plane_width input.shape p) x) _ _ (paint borders.color_yuv input.shape p) (rw (top, high) at told))
+    ∙ narrow_made (AddBorders borders.left borders.top borders.right borders.bottom borders.color_yuv) input p c.args.y (length c.args.out.now) refl c.requires.whole

@@ -1,14 +1,16 @@
-use Rattle.std.proofs.Common.{rules, ◌≡◌, ◌-◌, ◌∙◌, true, false, sym, length, replicate, arith}
+use Rattle.std.proofs.Common.{rules, ◌≡◌, ◌-◌, ◌∙◌, true, false, sym, length, replicate, arith, refl}
 use Rattle.std.proofs.lemmas.List.{get_or-replicate}
 use Rattle.fv_plane.specs.Bytes.{bytes_of_row}
 use Rattle.fv_plane.specs.Format.{plane_width, plane_height}
-use Rattle.fv_plane.specs.Look.{look_in, across, down}
+use Rattle.fv_plane.specs.Look.{look_in, row_from, across, down}
+use Rattle.fv_plane.proofs.CallerLemmas.{bytes_of_narrow}
 use Rattle.fv_plane.specs.Picture.{row_of}
 use Rattle.fv_plane.proofs.FillLemmas.{row_listed}
 use Rattle.clip_term.specs.declared.op.SpaceOp.TheVariants.{LetterBox}
 use Rattle.clip_term.specs.Refusals.{nat_of, paint}
 use Rattle.clip_term.specs.Space.{space_at, is_within}
 use Rattle.flt_space.proofs.BorderLemmas.{fits_across, covers_less, boxed_row, out_of_row}
+use Rattle.flt_space.proofs.RowLemmas.{narrow_made}
 use Rattle.flt_space.proofs.borders.BoxRowsRowFilter.fill_row.Goals as goal
 
 pub cover_row-requires-clause-inside : goal.cover_row-requires-clause-inside
@@ -36,9 +38,10 @@ returns-then-is_within c =
     let long : length c.row.result.now ≡ plane_width input.shape p = search rules in
     let told : is_within c.down-top.result c.saturating_sub-end.result c.args.y ≡ true = sym c.is_within.ensures ∙ c.if-is_within.true in
     let put = rw (left, right, value, row) at c.cover_row.ensures in
-    rw c.requires.whole (put ∙ boxed_row input box.top box.bottom box.x1 box.x2 box.color_yuv p c.args.y (rw row at long)
+    put ∙ boxed_row input box.top box.bottom box.x1 box.x2 box.color_yuv p c.args.y (rw row at long)
     (fits_across input.shape p (nat_of box.x1) (nat_of box.x2) (covers_less input.shape box.top box.bottom box.x1 box.x2 box.color_yuv c.requires.accepted))
-    (rw (top, end) at told))
+    (rw (top, end) at told)
+    ∙ sym (bytes_of_narrow input.shape (row_from (space_at (LetterBox box.top box.bottom box.x1 box.x2 box.color_yuv) input.shape (look_in input)) p (plane_width input.shape p) c.args.y) refl)
 
 pub returns-else-is_within : goal.returns-else-is_within
 returns-else-is_within c =
@@ -53,3 +56,4 @@ returns-else-is_within c =
     row_listed c.fill.new.self (space_at (LetterBox box.top box.bottom box.x1 box.x2 box.color_yuv) input.shape (look_in input)) p (length c.args.out.now) c.args.y (search rules)
     (λ x within. rw plain (get_or-replicate (length c.args.out.now) x c.paint-colour.result 0 within) ∙ value
     ∙ out_of_row (is_within (across input.shape p (nat_of box.x1)) (plane_width input.shape p - across input.shape p (nat_of box.x2)) x) _ _ (paint box.color_yuv input.shape p) (rw (top, end) at told))
+    ∙ narrow_made (LetterBox box.top box.bottom box.x1 box.x2 box.color_yuv) input p c.args.y (length c.args.out.now) refl c.requires.whole
