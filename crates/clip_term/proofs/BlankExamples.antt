@@ -1,4 +1,4 @@
--- Clips of one colour: worked rows, each computed.
+-- Each is computed.
 use Rattle.std.proofs.Common.{◌≡◌, [], ◌∷◌, refl, pos, Ok}
 use Rattle.std.specs.Prelude.{codes, Some}
 use Rattle.fv_plane.specs.declared.format.PixelType.TheVariants.{Y8, YV12, YV16}
@@ -7,34 +7,15 @@ use Rattle.fv_plane.specs.declared.format.Tag.TheVariants.{Jpeg, Mpeg2}
 use Rattle.clip_term.specs.Terms.{term_sample, term_samples, info_of, infos_of}
 use Rattle.fv_plane.specs.Look.{picture_from}
 use Rattle.fv_plane.specs.Rate.{gcd}
-use Rattle.clip_term.proofs.ExampleClips.{rendered, a12_told, blank_over, m3_told, none_given}
+use Rattle.clip_term.specs.ExampleClips.{rendered, a12_told, blank_over, m3_told, none_given}
+use Rattle.clip_term.specs.BlankExamples.{BlankRows}
 
--- Y4MSource("a12.y4m").BlankClip(length=1, pixel_type="yv16", color_yuv=$112233)
-blank_of_a_clip : rendered (blank_over a12_told (record none_given { length = Some (pos 1); pixel_type = Some (codes "yv16"); color_yuv = Some (pos 1122867) }))
-    ≡ Ok (record { shape = record { kind = YV16; width = 4; height = 4 }; frames = 1; num = 30; den = 1; field = Top; par = record { num = 4; den = 3 }; tag = Mpeg2 }, ((17 ∷ 17 ∷ 17 ∷ 17 ∷ 17 ∷ 17 ∷ 17 ∷ 17 ∷ 17 ∷ 17 ∷ 17 ∷ 17 ∷ 17 ∷ 17 ∷ 17 ∷ 17 ∷ 34 ∷ 34 ∷ 34 ∷ 34 ∷ 34 ∷ 34 ∷ 34 ∷ 34 ∷ 51 ∷ 51 ∷ 51 ∷ 51 ∷ 51 ∷ 51 ∷ 51 ∷ 51 ∷ []) ∷ []))
+pub blank_rows : BlankRows
 unfolding term_sample term_samples infos_of info_of picture_from gcd
-blank_of_a_clip = refl
-
--- Y4MSource("m3.y4m").BlankClip(fps_denominator=10)
-blank_with_a_denominator : rendered (blank_over m3_told (record none_given { fps_denominator = Some (pos 10) }))
-    ≡ Ok (record { shape = record { kind = Y8; width = 1; height = 1 }; frames = 3; num = 5; den = 2; field = Progressive; par = record { num = 1; den = 1 }; tag = Jpeg }, ((16 ∷ []) ∷ (16 ∷ []) ∷ (16 ∷ []) ∷ []))
-unfolding term_sample term_samples infos_of info_of picture_from gcd
-blank_with_a_denominator = refl
-
--- Y4MSource("a12.y4m").BlankClip(width=2, height=2, length=1, fps=50)
-blank_with_a_rate : rendered (blank_over a12_told (record none_given { width = Some (pos 2); height = Some (pos 2); length = Some (pos 1); fps = Some (pos 50) }))
-    ≡ Ok (record { shape = record { kind = YV12; width = 2; height = 2 }; frames = 1; num = 50; den = 1; field = Top; par = record { num = 4; den = 3 }; tag = Mpeg2 }, ((16 ∷ 16 ∷ 16 ∷ 16 ∷ 128 ∷ 128 ∷ []) ∷ []))
-unfolding term_sample term_samples infos_of info_of picture_from gcd
-blank_with_a_rate = refl
-
--- Y4MSource("a12.y4m").AssumeFPS(24000,1001).BlankClip(width=2, height=2, length=1, fps=50)
-blank_with_a_rate_over_another : rendered (blank_over (record a12_told { num = 24000; den = 1001 }) (record none_given { width = Some (pos 2); height = Some (pos 2); length = Some (pos 1); fps = Some (pos 50) }))
-    ≡ Ok (record { shape = record { kind = YV12; width = 2; height = 2 }; frames = 1; num = 50; den = 1; field = Top; par = record { num = 4; den = 3 }; tag = Mpeg2 }, ((16 ∷ 16 ∷ 16 ∷ 16 ∷ 128 ∷ 128 ∷ []) ∷ []))
-unfolding term_sample term_samples infos_of info_of picture_from gcd
-blank_with_a_rate_over_another = refl
-
--- Y4MSource("a12.y4m").AssumeFPS(24000,1001).BlankClip(width=2, height=2, length=1, fps_denominator=7)
-blank_with_a_denominator_over_another : rendered (blank_over (record a12_told { num = 24000; den = 1001 }) (record none_given { width = Some (pos 2); height = Some (pos 2); length = Some (pos 1); fps_denominator = Some (pos 7) }))
-    ≡ Ok (record { shape = record { kind = YV12; width = 2; height = 2 }; frames = 1; num = 24000; den = 7; field = Top; par = record { num = 4; den = 3 }; tag = Mpeg2 }, ((16 ∷ 16 ∷ 16 ∷ 16 ∷ 128 ∷ 128 ∷ []) ∷ []))
-unfolding term_sample term_samples infos_of info_of picture_from gcd
-blank_with_a_denominator_over_another = refl
+blank_rows = record {
+  blank_of_a_clip = refl;
+  blank_with_a_denominator = refl;
+  blank_with_a_rate = refl;
+  blank_with_a_rate_over_another = refl;
+  blank_with_a_denominator_over_another = refl;
+}

@@ -1,5 +1,4 @@
 pub mod FilterLemmas
-pub mod ExampleClips
 pub mod TimeExamples
 pub mod SpaceExamples
 pub mod JoinExamples

@@ -11,3 +11,10 @@ pub mod ClipTerm
 pub mod Ops
 pub mod Terms
 pub mod FaultNames
+pub mod ExampleClips
+pub mod TimeExamples
+pub mod SpaceExamples
+pub mod JoinExamples
+pub mod SoftExamples
+pub mod BlankExamples
+pub mod RowExamples

@@ -1,5 +1,11 @@
 // Laws of the definitions, each the contract of a function with an empty body.
+ghost use Rattle.clip_term.specs.BlankExamples.{BlankRows};
 ghost use Rattle.clip_term.specs.Filters.{FiltersAreListed};
+ghost use Rattle.clip_term.specs.JoinExamples.{JoinRows};
+ghost use Rattle.clip_term.specs.RowExamples.{OtherRows};
+ghost use Rattle.clip_term.specs.SoftExamples.{SoftRows};
+ghost use Rattle.clip_term.specs.SpaceExamples.{SpaceRows};
+ghost use Rattle.clip_term.specs.TimeExamples.{TimeRows};
 ghost use Rattle.clip_term.specs.Terms.{AsksInRange, ChecksLawful, MakesPictures, SoundLawful};
 
 /// What a filter makes of its inputs' pictures is the clip's picture.
@@ -27,4 +33,14 @@ pub fn sound_lawful()
 #[tactic(auto, using(crate::proofs::FilterLemmas::filters_are_listed))]
 pub fn filters_are_listed()
     ensures { FiltersAreListed }
+{}
+
+/// Worked rows of the filters, each computed.
+pub fn examples()
+    ensures time { TimeRows }
+    ensures space { SpaceRows }
+    ensures join { JoinRows }
+    ensures soft { SoftRows }
+    ensures blank { BlankRows }
+    ensures others { OtherRows }
 {}

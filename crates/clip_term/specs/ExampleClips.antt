@@ -1,5 +1,5 @@
 -- Small sources, and what is rendered of a clip: its info and the samples of its frames. The examples compute these.
-use Rattle.std.proofs.Common.{ℕ, List, [], ◌∷◌, map, Result, Ok, Err, ℤ, true}
+use Rattle.std.specs.Prelude.{ℕ, List, [], ◌∷◌, map, Result, Ok, Err, ℤ, true}
 use Rattle.std.specs.Prelude.{None}
 use Rattle.std.specs.Option.{unwrap_or}
 use Rattle.std.specs.List.{range_with_len, flat_map}
