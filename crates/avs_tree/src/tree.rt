@@ -3,14 +3,14 @@ use crate::words::TypeWord;
 use fv_io::Text;
 
 /// A script. Its functions and its statements are each in the order of the text.
-#[derive(Drop, Debug)]
+#[derive(Drop)]
 pub struct Script {
     pub functions: Vec<Function>,
     pub statements: Vec<Statement>,
 }
 
 /// A function with its parameters and the statements of its body.
-#[derive(Drop, Debug)]
+#[derive(Drop)]
 pub struct Function {
     pub name: Text,
     pub params: Vec<Parameter>,
@@ -19,7 +19,7 @@ pub struct Function {
 }
 
 /// A parameter. An optional one is written as a string.
-#[derive(Drop, Debug)]
+#[derive(Drop)]
 pub struct Parameter {
     pub name: Text,
     pub word: TypeWord,
@@ -28,7 +28,7 @@ pub struct Parameter {
 
 /// A statement and the line of its first token.
 #[cycle(statements)]
-#[derive(Drop, Debug)]
+#[derive(Drop)]
 pub struct Statement {
     pub kind: StatementKind,
     pub line: u32,
@@ -36,7 +36,7 @@ pub struct Statement {
 
 /// What a statement does.
 #[cycle(statements)]
-#[derive(Drop, Debug)]
+#[derive(Drop)]
 pub enum StatementKind {
     Global {
         name: Text,
@@ -68,7 +68,7 @@ pub enum StatementKind {
 
 /// A condition and what is done where it holds.
 #[cycle(statements)]
-#[derive(Drop, Debug)]
+#[derive(Drop)]
 pub struct Arm {
     pub condition: Expr,
     pub body: Vec<Statement>,
@@ -77,7 +77,7 @@ pub struct Arm {
 /// An expression. A chain of operators of one precedence is a list, and parentheses are a group. A line is that of the
 /// name, the operator or the `?`.
 #[cycle(expressions)]
-#[derive(Drop, Debug)]
+#[derive(Drop)]
 pub enum Expr {
     Int(i64),
     Bool(bool),
@@ -124,7 +124,7 @@ pub enum Expr {
 
 /// An argument, with a name or without.
 #[cycle(expressions)]
-#[derive(Drop, Debug)]
+#[derive(Drop)]
 pub struct Arg {
     pub name: Option<Text>,
     pub value: Expr,
@@ -132,7 +132,7 @@ pub struct Arg {
 
 /// A method call: a name after a dot, with arguments or without.
 #[cycle(expressions)]
-#[derive(Drop, Debug)]
+#[derive(Drop)]
 pub struct MethodCall {
     pub name: Text,
     pub args: Option<Vec<Arg>>,
@@ -141,7 +141,7 @@ pub struct MethodCall {
 
 /// An operator of a chain and the operand after it.
 #[cycle(expressions)]
-#[derive(Drop, Debug)]
+#[derive(Drop)]
 pub struct Step {
     pub op: Operator,
     pub operand: Expr,
