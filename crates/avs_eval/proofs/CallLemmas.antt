@@ -1,5 +1,5 @@
 -- A call, by how its arguments fit.
-use Rattle.std.proofs.Common.{◌≡◌, ◌∙◌, ap, refl, sym, ℕ, ◌+◌, ◌≤◌, List, [], ◌∷◌, map, length, Option, Some, None, Result, Ok, Err}
+use Rattle.std.proofs.Common.{◌≡◌, ◌∙◌, ap, refl, sym, ℕ, ℤ, ◌+◌, ◌≤◌, List, [], ◌∷◌, map, length, Bool, true, false, ◌&&◌, if◌then◌else◌, Option, Some, None, Result, Ok, Err}
 use Rattle.fv_plane.specs.declared.format.Info.{Info}
 use Rattle.avs_values.specs.Binding.{Bound}
 use Rattle.avs_values.specs.Values.{Text}
@@ -8,14 +8,16 @@ use Rattle.avs_values.specs.declared.value.Value.{Value}
 use Rattle.avs_values.specs.declared.value.Value.TheVariants as v
 use Rattle.avs_meaning.proofs.DirectCalls.{apply_direct}
 use Rattle.avs_meaning.proofs.RangeArguments.{range_fits}
+use Rattle.avs_meaning.specs.Arguments.{is_filter_number, out_of_range}
 use Rattle.avs_meaning.specs.Calls.{Callee, builtin, takes, fit_or_last, unnamed}
 use Rattle.avs_meaning.specs.Expressions.{apply_by, called}
 use Rattle.avs_meaning.specs.Faults.{script}
 use Rattle.avs_meaning.specs.Filters.{ranged}
-use Rattle.avs_meaning.specs.State.{State, Outcome, and_then, fails}
+use Rattle.avs_meaning.specs.State.{State, Outcome, and_then, ◌>>=◌, fails}
 use Rattle.avs_meaning.specs.declared.builtin.Builtin.TheVariants as b
 use Rattle.avs_meaning.specs.declared.fault.FileKind.{FileKind}
 use Rattle.avs_meaning.specs.declared.fault.InputFault.{InputFault}
+use Rattle.avs_meaning.specs.declared.fault.ScriptKind.{ScriptKind}
 use Rattle.avs_meaning.specs.declared.fault.ScriptKind.TheVariants as k
 use Rattle.avs_meaning.specs.declared.stop.ScriptStop.{ScriptStop}
 use Rattle.avs_state.specs.Hosts.{Fails}
@@ -44,26 +46,33 @@ module _ (clips : Text → Result Info InputFault) (scripts : Text → Result Te
   range_applies _ args last s sig bound same is = absurd (cc)
 
   -- by what ApplyRange is given
-  abbrev shown_by : Option Given → List Value → State → Outcome Value
-  shown_by None rest s = fails k.NoMatch here line s
-  shown_by (Some range) rest s =
+  abbrev shown_by : Result Given ScriptKind → List Value → State → Outcome Value
+  shown_by (Err kind) rest s = fails kind here line s
+  shown_by (Ok range) rest s =
       and_then (and_then (called here range.name line s) (λ c. r.direct clips scripts n c (map unnamed (v.Clip range.clip ∷ rest)) here line))
       (ranged here range.clip range.first range.last line)
 
+  -- by whether filters take its numbers
+  shows_by : (takes_both : Bool) (i : ℕ) (first last : ℤ) (word : Text) (rest : List Value) (s : State)
+      → (if takes_both then (called here word line >>= (λ c. r.direct clips scripts n c (map unnamed (v.Clip i ∷ rest)) here line) >>= ranged here i first last line) else fails out_of_range here line) s
+      ≡ shown_by (if takes_both then Ok (record { clip = i; first = first; last = last; name = word }) else Err out_of_range) rest s
+  shows_by true i first last word rest s = refl
+  shows_by false i first last word rest s = refl
+
   shows : (values rest : List Value) (s : State) → r.ranged_by clips scripts n values rest here line s ≡ shown_by (given_in values) rest s
-  shows (v.Clip i ∷ v.Int first ∷ v.Int last ∷ v.Text word ∷ []) rest s = refl
+  shows (v.Clip i ∷ v.Int first ∷ v.Int last ∷ v.Text word ∷ []) rest s = shows_by (is_filter_number first && is_filter_number last) i first last word rest s
   shows _ rest s = refl
 
-  pub range_none : (values rest : List Value) (s : State) → given_in values ≡ None → r.ranged_by clips scripts n values rest here line s ≡ Err (script k.NoMatch here line)
-  range_none values rest s is = shows values rest s ∙ ap (λ o. shown_by o rest s) is
+  pub range_refused : (values rest : List Value) (kind : ScriptKind) (s : State) → given_in values ≡ Err kind → r.ranged_by clips scripts n values rest here line s ≡ Err (script kind here line)
+  range_refused values rest kind s is = shows values rest s ∙ ap (λ o. shown_by o rest s) is
 
   -- the function is called
-  pub range_calls : (values rest : List Value) (range : Given) (s : State) → given_in values ≡ Some range → r.ranged_by clips scripts n values rest here line s
+  pub range_calls : (values rest : List Value) (range : Given) (s : State) → given_in values ≡ Ok range → r.ranged_by clips scripts n values rest here line s
       ≡ and_then (and_then (called here range.name line s) (λ c. r.apply clips scripts n c (map unnamed (v.Clip range.clip ∷ rest)) None here line))
       (ranged here range.clip range.first range.last line)
   range_calls values rest range s is = shows values rest s ∙ ap (λ o. shown_by o rest s) is
 
-  range_called : (values rest : List Value) (range : Given) (c : Callee) (s : State) → given_in values ≡ Some range → called here range.name line s ≡ Ok (c, s)
+  range_called : (values rest : List Value) (range : Given) (c : Callee) (s : State) → given_in values ≡ Ok range → called here range.name line s ≡ Ok (c, s)
       → r.ranged_by clips scripts n values rest here line s
       ≡ and_then (r.apply clips scripts n c (map unnamed (v.Clip range.clip ∷ rest)) None here line s) (ranged here range.clip range.first range.last line)
   range_called values rest range c s is known =
@@ -72,7 +81,7 @@ module _ (clips : Text → Result Info InputFault) (scripts : Text → Result Te
 
   -- the function gives a value
   pub range_shows : (values rest : List Value) (range : Given) (c : Callee) (args : List binding.Given) (shown : Value) (s s' : State)
-      → given_in values ≡ Some range → called here range.name line s ≡ Ok (c, s) → args ≡ map unnamed (v.Clip range.clip ∷ rest)
+      → given_in values ≡ Ok range → called here range.name line s ≡ Ok (c, s) → args ≡ map unnamed (v.Clip range.clip ∷ rest)
       → r.apply clips scripts n c args None here line s ≡ Ok (shown, s')
       → r.ranged_by clips scripts n values rest here line s ≡ ranged here range.clip range.first range.last line shown s'
   range_shows values rest range c args shown s s' is known same gave =
@@ -81,7 +90,7 @@ module _ (clips : Text → Result Info InputFault) (scripts : Text → Result Te
 
   -- the function fails
   pub range_fails : (values rest : List Value) (range : Given) (c : Callee) (args : List binding.Given) (stop : ScriptStop) (s : State)
-      → given_in values ≡ Some range → called here range.name line s ≡ Ok (c, s) → args ≡ map unnamed (v.Clip range.clip ∷ rest)
+      → given_in values ≡ Ok range → called here range.name line s ≡ Ok (c, s) → args ≡ map unnamed (v.Clip range.clip ∷ rest)
       → Fails (r.apply clips scripts n c args None here line s) stop → Fails (r.ranged_by clips scripts n values rest here line s) stop
   range_fails values rest range c args stop s is known same failed =
       is_fault _ _ stop

@@ -233,8 +233,9 @@ impl<
             given.now.rest.items self.now.script_name.now line) machine.old result machine.new }
         ensures kept { Keeps H.Host machine.old host.old (stop_in result) machine.new host.new }
     {
-        let Some(range) = range_in(&given.values) else {
-            return Err(self.fault(ScriptKind::NoMatch, line));
+        let range = match range_in(&given.values) {
+            Ok(range) => range,
+            Err(kind) => return Err(self.fault(kind, line)),
         };
         let callee = self.called(machine, range.name, line)?;
         let args = positional_args(self.alloc, range.clip, &given.rest)?;

@@ -20,13 +20,13 @@ use std::alloc::{AllocError, Global};
 
 /// Whether a number is past the end of a loop.
 #[tactic(auto, unfolding(avs_meaning::specs::Loops::is_past))]
-pub(crate) fn is_past(last: i32, step: i32, i: i32) -> bool
+pub(crate) fn is_past(last: i64, step: i64, i: i64) -> bool
     ensures { result ≡ l.is_past last step i }
 {
     if step > 0 { i > last } else { i < last }
 }
 
-fn next_number(before: i32, step: i32) -> Option<i32>
+fn next_number(before: i64, step: i64) -> Option<i64>
     ensures { result ≡ l.next_number (before +ℤ step) }
 {
     before.checked_add(step)
@@ -38,7 +38,7 @@ fn number_by(
     value: Option<Value>,
     script_name: &Text,
     line: u32,
-) -> Result<i32, ScriptStop>
+) -> Result<i64, ScriptStop>
     ensures { Answers (λ n. n) (l.number_by script_name.now value line) result }
 {
     match value {
@@ -54,7 +54,7 @@ fn read_number(
     name: &Text,
     script_name: &Text,
     line: u32,
-) -> Result<i32, ScriptStop>
+) -> Result<i64, ScriptStop>
     ensures { Gives (λ n. n) (l.read_number script_name.now name.now line (state_of machine.now)) result
         (state_of machine.now) }
 {
@@ -62,15 +62,15 @@ fn read_number(
     number_by(alloc, value, script_name, line)
 }
 
-/// Sets the variable of a loop to the next number. There is none past 32 bits.
+/// Sets the variable of a loop to the next number. There is none past 64 bits.
 pub(crate) fn advance(
     alloc: Global,
     machine: &mut Machine,
     name: &Text,
-    step: i32,
+    step: i64,
     script_name: &Text,
     line: u32,
-) -> Result<Option<i32>, ScriptStop>
+) -> Result<Option<i64>, ScriptStop>
     ensures gives { Gives (λ n. n) (l.advance script_name.now name.now step line (state_of machine.old)) result
         (state_of machine.new) }
     ensures asks { AsksNothing machine.old machine.new }
@@ -92,7 +92,7 @@ fn numbers(
     step: &Value,
     script_name: &Text,
     line: u32,
-) -> Result<(i32, i32, i32), ScriptStop>
+) -> Result<(i64, i64, i64), ScriptStop>
     ensures { Answers (λ n. n) (l.numbers script_name.now line first.now last.now step.now) result }
 {
     match (first, last, step) {
@@ -164,7 +164,7 @@ impl<
         last: &Expr,
         step: &Option<Expr>,
         line: u32,
-    ) -> Result<(i32, i32, i32), ScriptStop>
+    ) -> Result<(i64, i64, i64), ScriptStop>
         requires deeper { Deeper H.Host self.now.depth F.Fn self.now.run }
         ensures told { Told H.told (λ n. n) (r.bounds H.clips H.scripts self.now.depth self.now.script_name.now
             (expr_view first.now) (expr_view last.now) (option_map expr_view step.now) line) machine.old result

@@ -1,10 +1,13 @@
 // What `ApplyRange` is given, and the arguments of the function that it calls.
-ghost use Rattle.std.specs.Prelude.{◌≡◌, ◌∷◌, map, option_map, IfOk};
+ghost use Rattle.std.specs.Prelude.{◌≡◌, ◌∷◌, map, Ok, Err, IfOk, IfErr};
 ghost use Rattle.avs_values.specs.declared.value.Value.TheVariants as v;
 ghost use Rattle.avs_meaning.specs.Calls.{unnamed};
 ghost use Rattle.avs_eval.specs.Ranges as g;
 
+use avs_calls::filter_number;
+use avs_meaning::ScriptKind;
 use avs_values::{Given, Value};
+use clip_term::FilterFault;
 use fv_io::Text;
 use std::alloc::{AllocError, Global};
 
@@ -17,9 +20,26 @@ pub(crate) struct Range<'v> {
     pub(crate) name: &'v Text,
 }
 
-/// The range that values are.
-pub(crate) fn range_in(values: &[Value]) -> Option<Range<'_>>
-    ensures { option_map g.given_view result ≡ g.given_in values.now }
+// A range of these numbers, where filters take both.
+fn range_of<'v>(clip: u32, first: i64, last: i64, name: &'v Text) -> Result<Range<'v>, ScriptKind>
+    ensures ok { IfOk result (λ range. g.given_of clip first last name.now ≡ Ok (g.given_view range)) }
+    ensures err { IfErr result (λ kind. g.given_of clip first last name.now ≡ Err kind) }
+{
+    match (filter_number(first), filter_number(last)) {
+        (Some(first), Some(last)) => Ok(Range {
+            clip,
+            first,
+            last,
+            name,
+        }),
+        _ => Err(ScriptKind::Filter(FilterFault::BadRange)),
+    }
+}
+
+/// The range that values are, or why they are none.
+pub(crate) fn range_in(values: &[Value]) -> Result<Range<'_>, ScriptKind>
+    ensures ok { IfOk result (λ range. g.given_in values.now ≡ Ok (g.given_view range)) }
+    ensures err { IfErr result (λ kind. g.given_in values.now ≡ Err kind) }
 {
     match values {
         [
@@ -27,13 +47,8 @@ pub(crate) fn range_in(values: &[Value]) -> Option<Range<'_>>
             Value::Int(first),
             Value::Int(last),
             Value::Text(name),
-        ] => Some(Range {
-            clip: *clip,
-            first: *first,
-            last: *last,
-            name,
-        }),
-        _ => None,
+        ] => range_of(*clip, *first, *last, name),
+        _ => Err(ScriptKind::NoMatch),
     }
 }
 

@@ -2,10 +2,12 @@
 use Rattle.std.proofs.Common.{rules, ◌≡◌, ◌+◌, ◌≤◌, length, Some, arith}
 use Rattle.avs_values.specs.Views.{bound_view}
 use Rattle.avs_meaning.specs.Calls.{builtin, takes, fit_or_last}
+use Rattle.avs_meaning.specs.Faults.{script}
 use Rattle.avs_meaning.specs.declared.builtin.Builtin.TheVariants as b
 use Rattle.avs_state.specs.States.{state_of}
 use Rattle.avs_calls.specs.Views.{callee_view}
-use Rattle.avs_eval.proofs.CallLemmas.{few_further, range_applies, range_fails, range_shows}
+use Rattle.avs_eval.proofs.CallLemmas.{few_further, range_applies, range_fails, range_refused, range_shows}
+use Rattle.avs_eval.proofs.Failures.{shown_fails}
 use Rattle.avs_eval.specs.Ranges.{given_view}
 use Rattle.avs_eval.proofs.walker.Walker.+calls.Goals as goal
 
@@ -27,13 +29,20 @@ apply-returns-in-Builtin-clause-told g t c = λ told.
 
 pub apply_range-returns-in-Err-clause-told : goal.apply_range-returns-in-Err-clause-told
 apply_range-returns-in-Err-clause-told g t c = λ told.
+    shown_fails _ (script c.in-Err.kind c.args.self.now.script_name.now c.args.line) c.fault.result
+    (range_refused g.H.Host.clips g.H.Host.scripts c.args.self.now.depth c.args.self.now.script_name.now c.args.line c.args.given.now.values.items c.args.given.now.rest.items c.in-Err.kind
+    (state_of c.args.machine.now) (search rules))
+    c.fault.ensures
+
+pub apply_range-returns-in-Err-apply-clause-told : goal.apply_range-returns-in-Err-apply-clause-told
+apply_range-returns-in-Err-apply-clause-told g t c = λ told.
     range_fails g.H.Host.clips g.H.Host.scripts c.args.self.now.depth c.args.self.now.script_name.now c.args.line c.args.given.now.values.items c.args.given.now.rest.items
-    (given_view c.in-Some.range) (callee_view c.in_ok-callee.callee) c.in_ok-args.args.items c.in-Err.stop (state_of c.args.machine.now) (search rules) (search rules)
-    (rw c.deref-2.ensures.value at c.in_ok-args.ensures) (c.in-Err.ensures.told told)
+    (given_view c.in-Ok.range) (callee_view c.in_ok-callee.callee) c.in_ok-args.args.items c.in-Err-apply.stop (state_of c.args.machine.now) (search rules) (search rules)
+    (rw c.deref-2.ensures.value at c.in_ok-args.ensures) (c.in-Err-apply.ensures.told told)
 
 pub apply_range-returns-clause-told : goal.apply_range-returns-clause-told
 apply_range-returns-clause-told g t c = λ told.
     rw (range_shows g.H.Host.clips g.H.Host.scripts c.args.self.now.depth c.args.self.now.script_name.now c.args.line c.args.given.now.values.items c.args.given.now.rest.items
-    (given_view c.in-Some.range) (callee_view c.in_ok-callee.callee) c.in_ok-args.args.items c.in-Ok.shown (state_of c.args.machine.now) (state_of c.apply.new.machine) (search rules) (search rules)
-    (rw c.deref-2.ensures.value at c.in_ok-args.ensures) (c.in-Ok.ensures.told told))
+    (given_view c.in-Ok.range) (callee_view c.in_ok-callee.callee) c.in_ok-args.args.items c.in-Ok-apply.shown (state_of c.args.machine.now) (state_of c.apply.new.machine) (search rules) (search rules)
+    (rw c.deref-2.ensures.value at c.in_ok-args.ensures) (c.in-Ok-apply.ensures.told told))
     (search rules)
