@@ -14,7 +14,8 @@ use Rattle.clip_term.specs.ClipTerm.{Act, source, plain, time, space, joined, so
 use Rattle.clip_graph.specs.Plan.{Application, application_at, is_source, sources_in, IsPlan}
 use Rattle.clip_graph.specs.Unfolding.{IsKeyBelow, input_keys}
 use Rattle.clip_graph.proofs.UnfoldingLemmas.{inputs_are_keys}
-use Rattle.clip_frames.specs.Sources.{source_info, source_infos, AreSources}
+use Rattle.clip_term.specs.Ops.{source_info}
+use Rattle.clip_frames.specs.Sources.{source_infos, AreSources}
 
 -- FRAMES
 
@@ -29,21 +30,13 @@ input_below plan key i input is within found =
 -- an op that is none
 pub not_source : (code : Op) → ((name : Text) (number : ℕ) (info : Info) → code ≡ op.Source name number info → ⊥) → is_source (act_of code) ≡ false
 not_source (op.Source name number info) none = absurd (none name number info refl)
-not_source (op.Blank info colour) none = refl
-not_source (op.Time inner) none = refl
-not_source (op.Space inner) none = refl
-not_source (op.Join inner) none = refl
-not_source (op.Soft inner) none = refl
+not_source _ none = refl
 
 -- the act that stands first
 with_first : (act : Act) (infos : List Info) (k : ℕ) (info : Info) → slice_get infos k ≡ Some info
     → slice_get (cons_option (source_info act) infos) ((if is_source act then 1 else 0) + k) ≡ Some info
 with_first (source name number told) infos k info found = let more : 1 + k ≡ suc k = omega arith in rw more found
-with_first (plain told colour) infos k info found = let same : 0 + k ≡ k = omega arith in rw same found
-with_first (time op) infos k info found = let same : 0 + k ≡ k = omega arith in rw same found
-with_first (space op) infos k info found = let same : 0 + k ≡ k = omega arith in rw same found
-with_first (joined op) infos k info found = let same : 0 + k ≡ k = omega arith in rw same found
-with_first (soft op) infos k info found = let same : 0 + k ≡ k = omega arith in rw same found
+with_first _ infos k info found = let same : 0 + k ≡ k = omega arith in rw same found
 
 -- the info of a source, by the number of those before it
 info_found : (plan : List Application) (i : ℕ) (name : List ℕ) (number : ℕ) (info : Info) → i < length plan → (application_at plan i).act ≡ source name number info

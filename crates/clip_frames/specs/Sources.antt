@@ -1,15 +1,10 @@
 -- The sources that a plan reads.
-use Rattle.std.specs.Prelude.{◌≡◌, List, map, Option, Some, None}
+use Rattle.std.specs.Prelude.{◌≡◌, List, map}
 use Rattle.std.specs.List.{filter_map}
 use Rattle.fv_plane.specs.declared.format.Info.{Info}
 use Rattle.seq_source.specs.FrameSource.{FrameSource}
-use Rattle.clip_term.specs.ClipTerm.{Act, source}
+use Rattle.clip_term.specs.Ops.{source_info}
 use Rattle.clip_graph.specs.Plan.{Application}
-
--- what is known of the clip of a source
-abbrev pub source_info : Act → Option Info
-source_info (source name number info) = Some info
-source_info _ = None
 
 -- the infos of a plan's sources, in order
 abbrev pub source_infos : List Application → List Info

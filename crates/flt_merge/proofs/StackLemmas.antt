@@ -10,16 +10,16 @@ use Rattle.fv_plane.specs.declared.format.Info.{Info}
 use Rattle.fv_plane.specs.declared.format.PixelType.{PixelType}
 use Rattle.fv_plane.specs.declared.format.PixelType.TheVariants.{Y8, YV12, YV16, YV24, YV411}
 use Rattle.fv_plane.specs.declared.format.Shape.{Shape}
-use Rattle.fv_plane.specs.Format.{planes, sub_w, sub_h, plane_width, plane_height}
+use Rattle.fv_plane.specs.Format.{planes, sub_w, sub_h, plane_width, plane_height, sample_bytes}
 use Rattle.fv_plane.specs.Picture.{Picture, IsPicture, row_of}
 use Rattle.fv_plane.specs.Look.{look_in}
-use Rattle.fv_plane.proofs.CallerLemmas.{length-plane, length-row}
+use Rattle.fv_plane.proofs.CallerLemmas.{bytes_of_narrow, length-plane, length-row}
 use Rattle.fv_plane.proofs.FillLemmas.{Lists, row_listed}
 use Rattle.clip_term.specs.Refusals.{no_info}
 use Rattle.clip_term.specs.Join.{beside, beneath, join_at}
 use Rattle.clip_term.specs.declared.op.JoinOp.TheVariants.{StackHorizontal, StackVertical}
 use Rattle.flt_merge.specs.Joined.{infos_in, shape_joined}
-use Rattle.flt_merge.specs.Rows.{plane_of_all, rows_beneath, rows_beside, HaveWidth, HaveHeight, width_of_all, height_of_all}
+use Rattle.flt_merge.specs.Rows.{bytes_beside, plane_of_all, rows_beneath, rows_beside, HaveWidth, HaveHeight, width_of_all, height_of_all}
 
 -- LISTS
 
@@ -176,20 +176,18 @@ sizes_more pictures i one h is picture so_far k d within = elim (cases_eq k i) [
 ]
 
 -- the rows of the pictures so far, and of the next one
-pub row_more : (pictures : List Picture) (p y i : ℕ) (one : Picture) → i < length pictures → one ≡ get_or pictures i one
-    → rows_beside (take (i + 1) pictures) p y ≡ rows_beside (take i pictures) p y ++ row_of one.planes p y
-row_more pictures p y i one h is =
-    let row : Picture → List ℕ = λ q. row_of q.planes p y in
+pub row_more : (row : Picture → List ℕ) (pictures : List Picture) (i : ℕ) (one : Picture) → i < length pictures → one ≡ get_or pictures i one
+    → flat_map row (take (i + 1) pictures) ≡ flat_map row (take i pictures) ++ row one
+row_more row pictures i one h is =
     ap (flat_map row) (take_more pictures i one h ∙ ap (λ q. take i pictures ++ q ∷ []) (sym is)) ∙ flat_map-append row (take i pictures) (one ∷ [])
     ∙ ap (λ l. flat_map row (take i pictures) ++ l) (append-nil (row one))
 
 -- they end inside the row of all
-pub row_fits : (pictures : List Picture) (p y i : ℕ) (one : Picture) → i < length pictures → one ≡ get_or pictures i one
-    → length (rows_beside (take i pictures) p y) + length (row_of one.planes p y) ≤ length (rows_beside pictures p y)
-row_fits pictures p y i one h is =
-    let row : Picture → List ℕ = λ q. row_of q.planes p y in
-    let part : length (rows_beside (take i pictures) p y) ≡ sum_by (λ q. length (row q)) (take i pictures) = length-flat_map row (take i pictures) in
-    let whole : length (rows_beside pictures p y) ≡ sum_by (λ q. length (row q)) pictures = length-flat_map row pictures in
+pub row_fits : (row : Picture → List ℕ) (pictures : List Picture) (i : ℕ) (one : Picture) → i < length pictures → one ≡ get_or pictures i one
+    → length (flat_map row (take i pictures)) + length (row one) ≤ length (flat_map row pictures)
+row_fits row pictures i one h is =
+    let part : length (flat_map row (take i pictures)) ≡ sum_by (λ q. length (row q)) (take i pictures) = length-flat_map row (take i pictures) in
+    let whole : length (flat_map row pictures) ≡ sum_by (λ q. length (row q)) pictures = length-flat_map row pictures in
     let fits : sum_by (λ q. length (row q)) (take i pictures) + length (row (get_or pictures i one)) ≤ sum_by (λ q. length (row q)) pictures = sum_by_more_le (λ q. length (row q)) pictures i one h in
     let same : length (row one) ≡ length (row (get_or pictures i one)) = ap (λ q. length (row q)) is in
     omega (arith, part, whole, fits, same)
@@ -265,6 +263,12 @@ beside_listed shape pictures make p y there inside =
     row_listed (rows_beside pictures p y) (join_at StackHorizontal (infos_in pictures) (map look_in pictures)) p (plane_width shape p) y
     (row_of_all shape pictures make p y there inside)
     (λ x within. sample_beside pictures p x y (widths_beside shape pictures make p y there inside))
+
+-- where a sample is one byte, the bytes side by side are the samples
+pub bytes_beside_are : (pictures : List Picture) (p y : ℕ) → ((one : Picture) → sample_bytes one.shape ≡ 1) → bytes_beside pictures p y ≡ rows_beside pictures p y
+bytes_beside_are [] p y narrow = refl
+bytes_beside_are (one ∷ more) p y narrow =
+    ap (λ l. l ++ bytes_beside more p y) (bytes_of_narrow one.shape (row_of one.planes p y) (narrow one)) ∙ ap (λ l. row_of one.planes p y ++ l) (bytes_beside_are more p y narrow)
 
 -- STACKS
 

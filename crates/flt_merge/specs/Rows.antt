@@ -3,6 +3,7 @@ use Rattle.std.specs.Prelude.{◌≡◌, ℕ, ◌+◌, ◌/◌, List, [], if◌t
 use Rattle.std.specs.List.{All, flat_map, sum_by}
 use Rattle.std.specs.Simd.Lanes.{zip2}
 use Rattle.fv_plane.specs.declared.format.Shape.{Shape}
+use Rattle.fv_plane.specs.Bytes.{bytes_of_row}
 use Rattle.fv_plane.specs.Picture.{Picture, row_of}
 use Rattle.fv_plane.specs.Look.{Look, look_in}
 
@@ -46,6 +47,10 @@ rows_beneath pictures p z = slice_index_or (plane_of_all pictures p) z []
 -- pictures side by side: a row is those of all of them
 abbrev pub rows_beside : List Picture → ℕ → ℕ → List ℕ
 rows_beside pictures p z = flat_map (λ (picture : Picture). row_of picture.planes p z) pictures
+
+-- and their bytes
+abbrev pub bytes_beside : List Picture → ℕ → ℕ → List ℕ
+bytes_beside pictures p z = flat_map (λ (picture : Picture). bytes_of_row picture.shape (row_of picture.planes p z)) pictures
 
 -- of the format and width of this shape
 abbrev pub HaveWidth : Shape → List Picture → Type 0

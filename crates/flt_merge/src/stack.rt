@@ -5,7 +5,7 @@ ghost use Rattle.fv_plane.specs.Format.{IsLegal, planes, plane_height};
 ghost use Rattle.fv_plane.specs.Picture.{IsPicture};
 ghost use Rattle.clip_term.specs.declared.op.JoinOp.TheVariants.{StackHorizontal, StackVertical};
 ghost use Rattle.flt_merge.specs.Joined.{shape_joined, join_picture};
-ghost use Rattle.flt_merge.specs.Rows.{HaveWidth, HaveHeight, width_of_all, height_of_all, rows_beside};
+ghost use Rattle.flt_merge.specs.Rows.{HaveWidth, HaveHeight, width_of_all, height_of_all, bytes_beside};
 
 use fv_plane::{Frame, FrameBuilder, Shape};
 use std::alloc::{AllocError, Global};
@@ -87,12 +87,12 @@ pub fn stack_vertical(alloc: Global, inputs: &[Frame]) -> Result<Frame, AllocErr
     made.finish()
 }
 
-// Fills a row with those of the pictures, from the left.
+// Fills the bytes of a row with those of the pictures, from the left.
 fn fill_row(inputs: &[Frame], plane: u32, y: u32, row: &mut [u8])
     requires plane { All (λ picture. plane < planes picture.shape.kind) inputs.now }
     requires inside { All (λ picture. y < plane_height picture.shape plane) inputs.now }
-    requires whole { length row.old ≡ length (rows_beside inputs.now plane y) }
-    ensures { row.new ≡ rows_beside inputs.now plane y }
+    requires whole { length row.old ≡ length (bytes_beside inputs.now plane y) }
+    ensures { row.new ≡ bytes_beside inputs.now plane y }
 {
     let mut left = 0;
     for i in 0..inputs.len() {

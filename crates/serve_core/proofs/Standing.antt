@@ -264,20 +264,12 @@ module _ {I : Type 0} (feed : I → Option (List Picture)) (faults : I → ℕ) 
   made_fits : (plan : List Application) (table : List (Place × Slot I)) → IsPlan plan → (i : ℕ) (x : I) → slot_at (shared_place i) table ≡ Some (Free x) → (act : Act) → (application_at plan i).act ≡ act
       → FitsAct feed faults (book_of feed plan table) (faults_of faults plan table) act x
   made_fits plan table is i x at (source name number info) act = (λ b told. feed_fits plan table is i name number info x b act at told, faults_fit plan table is i name number info x act at)
-  made_fits plan table is i x at (plain info colour) act = tt
-  made_fits plan table is i x at (time op) act = tt
-  made_fits plan table is i x at (space op) act = tt
-  made_fits plan table is i x at (joined op) act = tt
-  made_fits plan table is i x at (soft op) act = tt
+  made_fits plan table is i x at _ act = tt
 
   begun_fits : (book : Book) (numbers : List ℕ) (plan : List Application) (table : List (Place × Slot I)) → IsPlan plan → (i : ℕ) (x : I) → slot_at (shared_place i) table ≡ Some (Free x)
       → (act : Act) → (application_at plan i).act ≡ act → FitsAct feed faults book numbers act x → FitsAct feed faults book (faults_of faults plan table) act x
   begun_fits book numbers plan table is i x at (source name number info) act fits = (fits.0, faults_fit plan table is i name number info x act at)
-  begun_fits book numbers plan table is i x at (plain info colour) act fits = tt
-  begun_fits book numbers plan table is i x at (time op) act fits = tt
-  begun_fits book numbers plan table is i x at (space op) act fits = tt
-  begun_fits book numbers plan table is i x at (joined op) act fits = tt
-  begun_fits book numbers plan table is i x at (soft op) act fits = tt
+  begun_fits book numbers plan table is i x at _ act fits = tt
 
   begun_stands : (book : Book) (numbers : List ℕ) (c : CoreValue I) (first count : ℕ) → Stands feed faults book numbers c → IsPlan c.fixed.plan
       → Stands feed faults book (faults_of faults c.fixed.plan c.table) (begun c first count)

@@ -3,7 +3,7 @@ use Rattle.std.specs.Prelude.{◌≡◌, ℕ, ◌+◌, ◌==◌, ◌<◌, true, 
 use Rattle.fv_plane.specs.declared.format.Info.{Info}
 use Rattle.fv_plane.specs.declared.format.Shape.{Shape}
 use Rattle.fv_plane.specs.Picture.{Picture}
-use Rattle.clip_term.specs.ClipTerm.{Act, source, plain, time, space, joined, soft}
+use Rattle.clip_term.specs.Ops.{source_info}
 use Rattle.clip_graph.specs.Plan.{Application, application_at, is_source}
 use Rattle.inst_table.specs.declared.place.Place.{Place}
 use Rattle.inst_table.specs.declared.place.Slot.{Slot}
@@ -19,17 +19,9 @@ shape_at plan i = (application_at plan i).info.shape
 abbrev pub place_of : List Application → ℕ → ℕ → Place
 place_of plan w i = record { node = i; instance = instance_of plan w i; shared = mode_at plan i == 3 }
 
--- the info of the source that an op is
-abbrev pub opened : Act → Option Info
-opened (source name number info) = Some info
-opened (plain info colour) = None
-opened (time op) = None
-opened (space op) = None
-opened (joined op) = None
-opened (soft op) = None
-
+-- the info of the source that stands there
 abbrev pub opened_at : List Application → ℕ → Option Info
-opened_at plan i = opened (application_at plan i).act
+opened_at plan i = source_info (application_at plan i).act
 
 -- the nodes that are sources, in their order, where the first node has this number
 abbrev pub sources_from : ℕ → List Application → List ℕ

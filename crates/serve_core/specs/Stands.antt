@@ -1,9 +1,10 @@
 -- What a core stands for: the book of its sources, where it is told, and a count of faults for each source.
-use Rattle.std.specs.Prelude.{◌≡◌, ℕ, ◌+◌, ◌≤◌, true, List, [], Option, Some, None, slice_get, slice_index_or}
+use Rattle.std.specs.Prelude.{◌≡◌, ℕ, ◌+◌, ◌≤◌, true, List, [], Option, Some, None, IfSome, slice_get, slice_index_or}
 use Rattle.fv_io.specs.Faults.{HasRisen}
 use Rattle.fv_plane.specs.Picture.{Picture}
 use Rattle.fv_plane.specs.declared.key.Key.{Key}
-use Rattle.clip_term.specs.ClipTerm.{Act, source, plain, time, space, joined, soft}
+use Rattle.clip_term.specs.ClipTerm.{Act}
+use Rattle.clip_term.specs.Ops.{SourcePart, source_part}
 use Rattle.clip_graph.specs.Plan.{Application, application_at, IsPlan}
 use Rattle.clip_graph.specs.Unfolding.{key_picture}
 use Rattle.frame_cache.specs.Cached.{Cached, at_key}
@@ -52,14 +53,9 @@ EndShows ends table Memory = Unit {0}
 module _ {I : Type 0} (feed : I → Option (List Picture)) (faults : I → ℕ) (book : Book) (numbers : List ℕ) where
   -- a source's instance has its frames of a told book, and counts no fewer faults than its number
   abbrev pub FitsAct : Act → I → Type 0
-  FitsAct (source name number info) x =
-      ((b : List (List Picture)) → book ≡ Some b → feed x ≡ Some (slice_index_or b number []))
-      × (slice_index_or numbers number 0 ≤ faults x)
-  FitsAct (plain info colour) x = Unit {0}
-  FitsAct (time op) x = Unit {0}
-  FitsAct (space op) x = Unit {0}
-  FitsAct (joined op) x = Unit {0}
-  FitsAct (soft op) x = Unit {0}
+  FitsAct act x = IfSome (source_part act) (λ (part : SourcePart).
+      ((b : List (List Picture)) → book ≡ Some b → feed x ≡ Some (slice_index_or b part.number []))
+      × (slice_index_or numbers part.number 0 ≤ faults x))
 
   -- an instance fits its place: a source has the one that all workers share
   abbrev pub Fits : List Application → Place → I → Type 0
@@ -72,12 +68,7 @@ module _ {I : Type 0} (feed : I → Option (List Picture)) (faults : I → ℕ) 
 
   -- the source of the node is in the table, and its count of faults rose above its number
   abbrev pub ExceedsAct : Act → I → Type 0
-  ExceedsAct (source name number info) x = HasRisen (slice_index_or numbers number 0) (faults x)
-  ExceedsAct (plain info colour) x = Unit {0}
-  ExceedsAct (time op) x = Unit {0}
-  ExceedsAct (space op) x = Unit {0}
-  ExceedsAct (joined op) x = Unit {0}
-  ExceedsAct (soft op) x = Unit {0}
+  ExceedsAct act x = IfSome (source_part act) (λ (part : SourcePart). HasRisen (slice_index_or numbers part.number 0) (faults x))
 
   pub record HasFailed (plan : List Application) (table : List (Place × Slot I)) (i : ℕ) : Type 0 where
     pub instance : I

@@ -1,6 +1,7 @@
 -- The head of a frame in bytes that were read, the next frame, and where frames are.
 use Rattle.std.specs.Prelude.{◌≡◌, ◌≢◌, ℕ, ◌+◌, ◌<◌, ◌≤◌, ◌^◌, List, [], map, length, take, drop, true, false, Option, Some, None, slice_index}
 use Rattle.std.specs.List.{position, position_or_len}
+use Rattle.fv_plane.specs.declared.format.TheConstants.Info.{MAX_FRAMES}
 use Rattle.y4m_stream.specs.declared.fault.IndexFault.{IndexFault}
 use Rattle.y4m_stream.specs.declared.fault.IndexFault.TheVariants.{Y4m, Read, Memory}
 use Rattle.y4m_stream.specs.declared.frame_finding.FrameHead.{FrameHead}
@@ -27,7 +28,7 @@ FindsNext size left after (Some len) = IsNext len size left after
 -- the end comes after k frames, or a frame comes after k that are not too many
 abbrev pub CountsOn : ℕ → Option ℕ → Type 0
 CountsOn k None = 0 < k
-CountsOn k (Some len) = (k ≢ 1000000) × (len ≤ 4096)
+CountsOn k (Some len) = (k ≢ MAX_FRAMES) × (len ≤ 4096)
 
 -- what each fault shows of what is left after k frames
 abbrev pub NextFault : ℕ → ℕ → List ℕ → IndexFault → Type 0
@@ -54,7 +55,7 @@ pub record AreApart (size end : ℕ) (offsets : List ℕ) : Type 0 where
 pub record AreOffsets (size : ℕ) (offsets : List ℕ) : Type 0 where
   pub apart : AreApart size (2 ^ 50) offsets
   pub some : 0 < length offsets
-  pub most : length offsets ≤ 1000000
+  pub most : length offsets ≤ MAX_FRAMES
 
 -- from the start on the bytes are frames, whose first samples are at these offsets
 pub record FindsFrames (told : List ℕ) (size start : ℕ) (offsets : List ℕ) : Type 0 where

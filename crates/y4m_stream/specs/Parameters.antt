@@ -12,6 +12,7 @@ use Rattle.fv_plane.specs.declared.format.Info.{Info}
 use Rattle.fv_plane.specs.Format.{has_whole_sides, frame_bytes}
 use Rattle.fv_plane.specs.Rate.{gcd}
 use Rattle.fv_plane.specs.Refusals.{Refusals, first_fault}
+use Rattle.fv_plane.specs.declared.format.TheConstants.Shape.{MAX_BYTES}
 use Rattle.y4m_stream.specs.Colourspace.{Colourspace, colourspace_named}
 use Rattle.y4m_stream.specs.declared.fault.Y4mFault.{Y4mFault}
 use Rattle.y4m_stream.specs.declared.fault.Y4mFault.TheVariants.{NoSize, BadNumber, UnknownColour, BadSize, TooLarge}
@@ -111,7 +112,7 @@ parameter_refusals parameters =
     ∷ (BadNumber (byte "A"), is_none (par parameters))
     ∷ (UnknownColour, is_none (colour parameters))
     ∷ (BadSize, not (has_whole_sides (info_of parameters).shape))
-    ∷ (TooLarge, nat_lt 16777216 (frame_bytes (info_of parameters).shape))
+    ∷ (TooLarge, nat_lt MAX_BYTES (frame_bytes (info_of parameters).shape))
     ∷ []
 
 -- the first fault of the parameters

@@ -6,6 +6,7 @@ use Rattle.fv_plane.specs.declared.format.Info.{Info}
 use Rattle.fv_plane.specs.Format.{frame_bytes}
 use Rattle.fv_plane.specs.Bytes.{bytes_of, picture_of}
 use Rattle.fv_plane.specs.Clip.{Clip}
+use Rattle.fv_plane.specs.declared.format.TheConstants.Info.{MAX_FRAMES}
 use Rattle.y4m_stream.specs.declared.fault.Y4mFault.{Y4mFault}
 use Rattle.y4m_stream.specs.declared.fault.Y4mFault.TheVariants.{NotY4m, HeadTooLong, NoFrames, TooManyFrames, BadFrame, Truncated}
 use Rattle.y4m_stream.specs.Head.{magic, head}
@@ -59,7 +60,7 @@ is_cut size left = is_none (position is_newline left) || nat_lt (length (after_f
 abbrev pub fault_after : ℕ → ℕ → List ℕ → Option Y4mFault
 fault_after size k [] = if k == 0 then Some NoFrames else None
 fault_after size k (byte ∷ left) =
-    if k == 1000000 then Some TooManyFrames
+    if k == MAX_FRAMES then Some TooManyFrames
     else (if is_bad (byte ∷ left) then Some (BadFrame k)
     else (if is_cut size (byte ∷ left) then Some (Truncated k)
     else None))
@@ -90,7 +91,7 @@ pub record ConsistsOf (bytes : List ℕ) (info : Info) (frames : List (List ℕ)
   pub info_is : info ≡ head_info bytes (length frames)
   pub frames_are : FramesThen (size_of bytes) (body bytes) frames []
   pub some : 0 < length frames
-  pub most : length frames ≤ 1000000
+  pub most : length frames ≤ MAX_FRAMES
 
 -- the bytes are a stream of this clip: a head of its info, and frames that are its pictures
 pub record Stream (bytes : List ℕ) (clip : Clip) : Type 0 where
@@ -103,7 +104,7 @@ pub record BreaksBy (size : ℕ) (text : List ℕ) (fault : Y4mFault) : Type 0 w
   pub frames : List (List ℕ)
   pub rest : List ℕ
   pub before : FramesThen size text frames rest
-  pub most : length frames ≤ 1000000
+  pub most : length frames ≤ MAX_FRAMES
   pub fault_is : fault_after size (length frames) rest ≡ Some fault
 
 -- the first fault of bytes that are no stream: one of the head, or else the first after it

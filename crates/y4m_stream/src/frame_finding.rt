@@ -10,10 +10,9 @@ use crate::fault::{IndexFault, Y4mFault};
 use crate::head_reading::{MAX_HEAD, is_break, line_end};
 use crate::read_ahead::{MOST_AHEAD, ReadAhead};
 use fv_io::Source;
+use fv_plane::Info;
 use std::alloc::Global;
 
-/// How many frames a stream has at most.
-const MAX_FRAMES: u32 = 1_000_000;
 
 const WORD: &[u8] = b"FRAME";
 
@@ -87,7 +86,7 @@ fn next_frame<S: Source>(
         }
         return Ok(None);
     }
-    if k == MAX_FRAMES {
+    if k == Info::MAX_FRAMES {
         return Err(IndexFault::Y4m(Y4mFault::TooManyFrames));
     }
     let len = match frame_head(ahead.bytes()) {

@@ -1,21 +1,25 @@
-use Rattle.std.proofs.Common.{rules, ◌≡◌, ◌∙◌, sym}
+use Rattle.std.proofs.Common.{rules, ◌≡◌, ◌∙◌, refl, sym}
 use Rattle.std.specs.Simd.Lanes.{zip2}
-use Rattle.fv_plane.specs.Bytes.{bytes_of_row, row_of_bytes}
+use Rattle.fv_plane.specs.Bytes.{row_of_bytes}
+use Rattle.fv_plane.specs.Picture.{row_of}
+use Rattle.fv_plane.proofs.CallerLemmas.{bytes_of_narrow, narrow_of_bytes}
 use Rattle.fv_plane.proofs.FillLemmas.{filled_put, filled_plane, filled_done}
 use Rattle.flt_merge.specs.Rows.{mean, rows_of_means, look_of_means}
 use Rattle.flt_merge.proofs.RowLemmas.{means_listed}
 use Rattle.flt_merge.proofs.merge.merge.Goals as goal
 
 pub loop-y-preserved : goal.loop-y-preserved
-unfolding bytes_of_row row_of_bytes
 loop-y-preserved c =
     let a = c.args.a.now in
     let b = c.args.b.now in
-    let rows : rows_of_means a b c.loop-plane.plane c.loop-y.y ≡ zip2 mean c.row.result.now c.row-in-loop-y.result.now = rw (c.row.ensures.row, c.row-in-loop-y.ensures.row) in
+    let first : c.row.result.now ≡ row_of a.planes c.loop-plane.plane c.loop-y.y = c.row.ensures.row ∙ bytes_of_narrow a.shape _ refl in
+    let second : c.row-in-loop-y.result.now ≡ row_of b.planes c.loop-plane.plane c.loop-y.y = c.row-in-loop-y.ensures.row ∙ bytes_of_narrow b.shape _ refl in
+    let rows : rows_of_means a b c.loop-plane.plane c.loop-y.y ≡ zip2 mean c.row.result.now c.row-in-loop-y.result.now = rw (first, second) in
+    let made = c.loop-y.made.shape in
     record {
       long = c.merge_row.auto.out ∙ c.loop-y.invariant.long;
-      filled = filled_put (rows_of_means a b) c.shape-shape.result c.loop-y.made c.put_row.new.self c.loop-plane.plane c.loop-y.y c.merge_row.new.out c.loop-y.invariant.filled
-          c.put_row.ensures.sizes c.put_row.ensures.shape c.put_row.ensures.rows (c.merge_row.ensures ∙ sym rows) (search rules) (search rules);
+      filled = filled_put (rows_of_means a b) c.shape-shape.result c.loop-y.made c.put_row.new.self c.loop-plane.plane c.loop-y.y (row_of_bytes made c.merge_row.new.out) c.loop-y.invariant.filled
+          c.put_row.ensures.sizes c.put_row.ensures.shape c.put_row.ensures.rows (narrow_of_bytes made c.merge_row.new.out refl ∙ c.merge_row.ensures ∙ sym rows) (search rules) (search rules);
     }
 
 pub loop-plane-preserved : goal.loop-plane-preserved
