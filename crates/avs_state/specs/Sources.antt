@@ -1,16 +1,20 @@
 -- The sources of a plan.
-use Rattle.std.specs.Prelude.{◌≡◌, List, [], ◌∷◌, ◌++◌, Result, OnOk}
-use Rattle.clip_term.specs.ClipTerm.{Act, source}
+use Rattle.std.specs.Prelude.{◌≡◌, List, [], ◌∷◌, ◌++◌, Option, Some, None, Result, OnOk}
+use Rattle.clip_term.specs.ClipTerm.{Act}
+use Rattle.clip_term.specs.Ops.{SourcePart, source_part}
 use Rattle.clip_graph.specs.Plan.{Application}
 use Rattle.avs_meaning.specs.declared.state.SourceClip.{SourceClip}
 use Rattle.avs_meaning.specs.declared.stop.ScriptStop.{ScriptStop}
 use Rattle.avs_state.specs.States.{state_of}
 use Rattle.avs_state.specs.declared.machine.Machine.{Machine}
 
+abbrev clip_read : Option SourcePart → List SourceClip
+clip_read (Some part) = record { name = part.name; info = part.info } ∷ []
+clip_read None = []
+
 -- the clip that a source reads
 abbrev pub source_of : Act → List SourceClip
-source_of (source name number info) = record { name = name; info = info } ∷ []
-source_of _ = []
+source_of act = clip_read (source_part act)
 
 -- the clips that the sources of a plan read, in order
 abbrev pub sources_of : List Application → List SourceClip
