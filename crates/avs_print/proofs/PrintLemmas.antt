@@ -1,6 +1,6 @@
 -- What is written, piece by piece.
 use Rattle.std.proofs.Common.{◌≡◌, refl, sym, ap, subst, ◌∙◌, ℕ, ℤ, pos, negsuc, suc, ◌+◌, ◌<◌, arith, List, [], ◌∷◌, ◌++◌, append_assoc, append-nil, map, take, drop, length-append, ◌-◌, ◌≤◌, ◌⊎◌, inl, inr, length, get_or, Option, Some, None, Bool, false, codes, if◌then◌else◌, ◌<ℤ◌, add-one, drop-cons, true, rules}
-use Rattle.std.specs.Int.{cast_unsigned, w32}
+use Rattle.std.specs.Int.{cast_unsigned, w64}
 use Rattle.std.proofs.lemmas.Int.{ints}
 use Rattle.std.specs.Int.Signed.{le_z}
 use Rattle.std.proofs.lemmas.Grind.{common_steps}
@@ -56,7 +56,7 @@ calls_step xs i x old new whole h item before is =
     ∙ ap (λ z. old ++ z) (sym (written_both one rest) ∙ ap written (sym (method_calls_split (method_call_view x) (map method_call_view (drop (i + 1) xs)))) ∙ ap (λ z. written (method_calls_words z)) (sym (method_calls_more xs i x h item))) ∙ before
 
 -- a number below zero
-pub number_below : (z : ℤ) → le_z (pos 0) z ≡ false → number z ≡ 36 ∷ hexadecimal (cast_unsigned w32 z)
+pub number_below : (z : ℤ) → le_z (pos 0) z ≡ false → number z ≡ 36 ∷ hexadecimal (cast_unsigned w64 z)
 number_below (pos n) h = let never : ⊥ = grind (arith, ints, h) in absurd never
 number_below (negsuc n) h = refl
 

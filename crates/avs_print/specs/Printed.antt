@@ -3,7 +3,7 @@
 use Rattle.std.specs.Prelude.{◌≡◌, ℕ, ◌+◌, ◌/◌, ◌%◌, ◌^◌, ◌==◌, ℤ, pos, negsuc, Bool, true, false, if◌then◌else◌, nat_lt, List, [], ◌∷◌, ◌++◌, map, length, codes, Option, Some, None}
 use Rattle.std.specs.Fmt.{decimal}
 use Rattle.std.specs.List.{list_any}
-use Rattle.std.specs.Int.{cast_unsigned, w32}
+use Rattle.std.specs.Int.{cast_unsigned, w64}
 use Rattle.avs_lex.specs.declared.token.TokenKind.{TokenKind}
 use Rattle.avs_lex.specs.declared.token.TokenKind.TheVariants as k
 use Rattle.avs_lex.specs.Spelling.{spelling}
@@ -44,14 +44,17 @@ Open (w ∷ v ∷ ws) = Open (v ∷ ws)
 abbrev pub hexadecimal_digit : ℕ → ℕ
 hexadecimal_digit n = if nat_lt n 10 then 48 + n else 55 + n
 
--- the 8 hexadecimal digits of 32 bits
-abbrev pub hexadecimal : ℕ → Text
-hexadecimal n = map (λ exponent. hexadecimal_digit (n / 16 ^ exponent % 16)) (7 ∷ 6 ∷ 5 ∷ 4 ∷ 3 ∷ 2 ∷ 1 ∷ 0 ∷ [])
+-- the 8 hexadecimal digits of 32 bits, and the 16 of 64 bits
+abbrev pub half : ℕ → Text
+half n = map (λ exponent. hexadecimal_digit (n / 16 ^ exponent % 16)) (7 ∷ 6 ∷ 5 ∷ 4 ∷ 3 ∷ 2 ∷ 1 ∷ 0 ∷ [])
+
+unfoldable pub hexadecimal : ℕ → Text
+hexadecimal n = half (n / 2 ^ 32) ++ half (n % 2 ^ 32)
 
 -- decimal, or `$` and the digits of the two's complement
 abbrev pub number : ℤ → Text
 number (pos n) = decimal n
-number (negsuc n) = 36 ∷ hexadecimal (cast_unsigned w32 (negsuc n))
+number (negsuc n) = 36 ∷ hexadecimal (cast_unsigned w64 (negsuc n))
 
 -- between `"`, or between `"""` where there is a `"` inside
 abbrev pub quotes_for : Text → Text

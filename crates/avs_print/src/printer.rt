@@ -129,8 +129,8 @@ impl Printer {
     }
 
     // The 8 hexadecimal digits of 32 bits.
-    fn hexadecimal(&mut self, bits: u32) -> Result<(), AllocError>
-        ensures { OnOk result (self.new ≡ self.old ++ p.hexadecimal bits) }
+    fn half(&mut self, bits: u32) -> Result<(), AllocError>
+        ensures { OnOk result (self.new ≡ self.old ++ p.half bits) }
     {
         self.digit(bits / 0x1000_0000 % 16)?;
         self.digit(bits / 0x100_0000 % 16)?;
@@ -142,12 +142,20 @@ impl Printer {
         self.digit(bits % 16)
     }
 
-    fn number(&mut self, number: i32) -> Result<(), AllocError>
+    // The 16 hexadecimal digits of 64 bits.
+    fn hexadecimal(&mut self, bits: u64) -> Result<(), AllocError>
+        ensures { OnOk result (self.new ≡ self.old ++ p.hexadecimal bits) }
+    {
+        self.half((bits / 0x1_0000_0000) as u32)?;
+        self.half((bits % 0x1_0000_0000) as u32)
+    }
+
+    fn number(&mut self, number: i64) -> Result<(), AllocError>
         ensures { OnOk result (self.new ≡ self.old ++ (p.number number ++ 32 ∷ [])) }
     {
         if number >= 0 {
             let mut digits = Buffer::new();
-            return self.put(digits.format(number as u32));
+            return self.put(digits.format(number as u64));
         }
         self.text.push('$')?;
         self.hexadecimal(number.cast_unsigned())?;

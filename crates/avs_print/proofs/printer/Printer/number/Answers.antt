@@ -1,4 +1,4 @@
--- A number below zero is put as its 32 bits.
+-- A number below zero is put as its 64 bits.
 use Rattle.std.proofs.Common.{arith}
 use Rattle.std.proofs.lemmas.Int.{to_z-of_z}
 use Rattle.std.proofs.lemmas.List.{append_assoc}
