@@ -3,8 +3,6 @@ ghost use Rattle.std.specs.Prelude.{◌≡◌, ◌≤◌, IsTrue, option_map, On
 ghost use Rattle.fv_plane.specs.Refusals.{first_fault};
 ghost use Rattle.fv_plane.specs.Info.{IsPar};
 ghost use Rattle.clip_term.specs.Blank as b;
-ghost use Rattle.clip_term.specs.Refusals.{part_of, no_colour};
-ghost use Rattle.clip_term.specs.Texts.{format_named};
 ghost use Rattle.avs_meaning.specs.Arguments.{all_fit_filters};
 ghost use Rattle.avs_meaning.specs.Filters as f;
 ghost use Rattle.avs_state.specs.Answers.{Gives};
@@ -16,12 +14,10 @@ use crate::arguments::{number_at, text_at};
 use avs_meaning::{ScriptKind, ScriptStop};
 use avs_state::{Machine, fault_at};
 use avs_values::Value;
-use clip_term::{Filter, FilterFault, Op};
+use clip_term::{BLACK, Filter, FilterFault, Op, colour_of, no_colour};
 use fv_io::Text;
-use fv_plane::{Colour, Field, Info, Par, PixelType, Shape, Tag};
+use fv_plane::{Field, Info, Par, PixelType, Shape, Tag, format_named};
 use std::alloc::Global;
-
-const DEFAULT_COLOUR: i32 = 0x10_80_80;
 
 /// The arguments of `BlankClip` beside its clip. `None` is one that isn't given.
 #[derive(Clone, Copy)]
@@ -52,28 +48,6 @@ impl<'a> BlankArgs<'a> {
             color_yuv: number_at(values, first + 6),
         }
     }
-}
-
-// The format of a name, where case doesn't count.
-fn format_named(text: &str) -> Option<PixelType>
-    ensures { result ≡ format_named text.now }
-{
-    if text.eq_ignore_ascii_case("Y8") {
-        return Some(PixelType::Y8);
-    }
-    if text.eq_ignore_ascii_case("YV12") {
-        return Some(PixelType::YV12);
-    }
-    if text.eq_ignore_ascii_case("YV16") {
-        return Some(PixelType::YV16);
-    }
-    if text.eq_ignore_ascii_case("YV24") {
-        return Some(PixelType::YV24);
-    }
-    if text.eq_ignore_ascii_case("YV411") {
-        return Some(PixelType::YV411);
-    }
-    None
 }
 
 // Whether a number is given and negative.
@@ -108,13 +82,7 @@ fn is_bad_format(name: Option<&str>) -> bool
 fn colour_given(args: &BlankArgs<'_>) -> i32
     ensures { result ≡ b.colour_given (args_view args.now) }
 {
-    args.color_yuv.unwrap_or(DEFAULT_COLOUR)
-}
-
-fn has_no_colour(colour: i32) -> bool
-    ensures { result ≡ no_colour colour }
-{
-    colour < 0 || colour > 0xFF_FF_FF
+    args.color_yuv.unwrap_or(BLACK)
 }
 
 // The first refusal of the arguments, in their order.
@@ -128,7 +96,7 @@ fn refusal(base: &Info, args: &BlankArgs<'_>) -> Option<FilterFault>
         return Some(FilterFault::BadText);
     }
     let wrong_rate = is_below_one(args.fps) || is_below_one(args.fps_denominator);
-    if wrong_rate || has_no_colour(colour_given(args)) {
+    if wrong_rate || no_colour(colour_given(args)) {
         return Some(FilterFault::BadRange);
     }
     None
@@ -137,8 +105,11 @@ fn refusal(base: &Info, args: &BlankArgs<'_>) -> Option<FilterFault>
 fn format_or(kind: PixelType, name: Option<&str>) -> PixelType
     ensures { result ≡ b.format_or kind (text_given name.entry) }
 {
-    match name {
-        Some(text) => format_named(text).unwrap_or(kind),
+    let Some(text) = name else {
+        return kind;
+    };
+    match format_named(text) {
+        Some(format) => format.kind,
         None => kind,
     }
 }
@@ -167,28 +138,6 @@ fn blank_info(base: &Info, args: &BlankArgs<'_>) -> Info
         num: number_or(base.num, args.fps),
         den: number_or(den, args.fps_denominator),
         ..*base
-    }
-}
-
-fn part_of(colour: u32, plane: u32) -> u8
-    ensures { result ≡ part_of colour plane }
-{
-    match plane {
-        0 => (colour / 65_536 % 256) as u8,
-        1 => (colour / 256 % 256) as u8,
-        _ => (colour % 256) as u8,
-    }
-}
-
-// The parts of a number 0xYYUUVV.
-fn colour_of(colour: i32) -> Colour
-    ensures { result ≡ b.colour_of colour }
-{
-    let colour = colour.unsigned_abs();
-    Colour {
-        y: part_of(colour, 0),
-        u: part_of(colour, 1),
-        v: part_of(colour, 2),
     }
 }
 

@@ -13,7 +13,6 @@ use fv_io::Source;
 use fv_plane::Info;
 use std::alloc::Global;
 
-
 const WORD: &[u8] = b"FRAME";
 
 /// What the bytes begin with where the head of a frame should be.
