@@ -8,7 +8,9 @@ pub record Loaded : Type 0 where
   pub tree : Script
   pub last_line : ℕ
 
--- Why a text has no tree. Where the grammar refuses it, no place is said.
+-- Why a text has no tree: its first lexical fault, or the token at which no script goes on or the nesting becomes too deep.
+-- Each with the line.
 pub data NoTree : Type 0 where
   lexical : LexKind → ℕ → NoTree
-  refused : NoTree
+  syntax : ℕ → NoTree
+  nests : ℕ → NoTree
