@@ -24,7 +24,7 @@ fn last_line(tokens: &[Token]) -> u32
 }
 
 /// The tree of a text, or its first fault.
-#[tactic(auto, using(crate::proofs::LoadLemmas::lexical_fault, crate::proofs::LoadLemmas::tree_is, crate::proofs::LoadLemmas::no_tree_is))]
+#[tactic(auto, using(crate::proofs::LoadLemmas::lexical_fault, crate::proofs::LoadLemmas::tree_is))]
 pub fn load(alloc: Global, text: &str) -> Result<Loaded, LoadFault>
     requires { length text.now < 2 ^ 32 - 1 }
     ensures { Loads (script_of text.now) result }
