@@ -1,13 +1,13 @@
 -- The functions are what the definitions of tokens and of the grammar say of a text.
-use Rattle.std.specs.Prelude.{◌≡◌, ◌↔◌, ℕ, List, Ok, Err}
+use Rattle.std.specs.Prelude.{◌≡◌, ◌↔◌, ℕ, ◌-◌, List, length, drop, Ok, Err}
 use Rattle.avs_lex.specs.declared.fault.LexKind.{LexKind}
 use Rattle.avs_lex.specs.declared.token.Token.{Token}
 use Rattle.avs_lex.specs.Characters.{Text}
 use Rattle.avs_lex.specs.Tokens.{Tokens, LexFault}
-use Rattle.avs_tree.specs.Lexeme.{lexemes}
-use Rattle.avs_tree.specs.Loaded.{Loaded, lexical, refused}
-use Rattle.avs_tree.specs.Tree.{Script}
+use Rattle.avs_tree.specs.Lexeme.{Lexemes, lexemes, line_of}
+use Rattle.avs_tree.specs.Loaded.{Loaded, lexical, syntax, nests}
 use Rattle.avs_tree.specs.Script.{HasTree}
+use Rattle.avs_place.specs.Place.{StopsAt, DeepAt}
 use Rattle.avs_parse.specs.TokensOf.{tokens_of}
 use Rattle.avs_parse.specs.Load.{last_line, script_of}
 
@@ -28,11 +28,13 @@ pub record HasScript (text : Text) (loaded : Loaded) : Type 0 where
   pub tree_is : HasTree (lexemes text tokens) loaded.tree
   pub ends_on : last_line tokens ≡ loaded.last_line
 
--- the text has tokens, and they have no tree within the limit of nesting
-pub record HasNoScript (text : Text) : Type 0 where
+-- The text has tokens, and this holds of the number of those from one of them on, which is on this line.
+pub record HasPlace (Is : Lexemes → ℕ → Type 0) (text : Text) (line : ℕ) : Type 0 where
   pub tokens : List Token
   pub tokens_are : Tokens text tokens
-  pub none : (tree : Script) → HasTree (lexemes text tokens) tree → ⊥
+  pub token : ℕ
+  pub place : Is (lexemes text tokens) (length (lexemes text tokens) - token)
+  pub line_is : line ≡ line_of (drop token (lexemes text tokens))
 
 abbrev pub ScriptIsFound : Type 0
 ScriptIsFound = (text : Text) (loaded : Loaded) → (script_of text ≡ Ok loaded) ↔ HasScript text loaded
@@ -40,5 +42,8 @@ ScriptIsFound = (text : Text) (loaded : Loaded) → (script_of text ≡ Ok loade
 abbrev pub FirstFaultIsTold : Type 0
 FirstFaultIsTold = (text : Text) (kind : LexKind) (line : ℕ) → (script_of text ≡ Err (lexical kind line)) ↔ LexFault text kind line
 
-abbrev pub RefusalIsTold : Type 0
-RefusalIsTold = (text : Text) → (script_of text ≡ Err refused) ↔ HasNoScript text
+abbrev pub SyntaxIsTold : Type 0
+SyntaxIsTold = (text : Text) (line : ℕ) → (script_of text ≡ Err (syntax line)) ↔ HasPlace StopsAt text line
+
+abbrev pub NestingIsTold : Type 0
+NestingIsTold = (text : Text) (line : ℕ) → (script_of text ≡ Err (nests line)) ↔ HasPlace DeepAt text line

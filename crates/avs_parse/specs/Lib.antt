@@ -1,11 +1,9 @@
-pub mod Refused
-pub mod Parsing
-pub mod ParsingExpr
-pub mod ParsingScript
-pub mod Answers
-pub mod ParsesExpr
-pub mod ParsesInside
-pub mod ForHead
+pub mod Place
+pub mod Seen
+pub mod ExprViews
+pub mod ScriptViews
+pub mod Open
+pub mod VerdictView
 pub mod TokensOf
 pub mod Load
 pub mod Loads

@@ -13,6 +13,6 @@ loaded_view l = record { tree = script_view l.script; last_line = l.last_line }
 abbrev pub Loads : Result d.Loaded d.NoTree → Result Loaded LoadFault → Type 0
 Loads found (Ok loaded) = found ≡ Ok (loaded_view loaded)
 Loads found (Err (Lex kind line)) = found ≡ Err (d.lexical kind line)
-Loads found (Err (Syntax line)) = found ≡ Err d.refused
-Loads found (Err (NestLimit line)) = found ≡ Err d.refused
+Loads found (Err (Syntax line)) = found ≡ Err (d.syntax line)
+Loads found (Err (NestLimit line)) = found ≡ Err (d.nests line)
 Loads found (Err Memory) = ⊤

@@ -26,32 +26,21 @@ pub enum LoadFault {
     Memory,
 }
 
-/// Why a rule stopped, and how many tokens were left then.
+/// Memory ran out.
 #[derive(Clone, Copy, Debug, PartialEq, Eq)]
-pub enum ParseStop {
-    Syntax(usize),
-    NestLimit(usize),
-    Memory,
-}
+pub struct OutOfMemory;
 
-impl From<AllocError> for ParseStop {
-    ghost use Rattle.std.specs.Prelude.{◌≡◌};
-    ghost use Rattle.avs_parse.specs.declared.fault.ParseStop.TheVariants.{Memory};
+/// What is made, unless memory runs out.
+pub type Outcome<T> = Result<T, OutOfMemory>;
 
-    ghost from_gives = { λ _ stop. stop ≡ Memory };
-
-    fn from(_: AllocError) -> ParseStop {
-        ParseStop::Memory
+impl From<AllocError> for OutOfMemory {
+    fn from(_: AllocError) -> OutOfMemory {
+        OutOfMemory
     }
 }
 
-impl<T: Drop> From<AllocFailed<T>> for ParseStop {
-    ghost use Rattle.std.specs.Prelude.{◌≡◌};
-    ghost use Rattle.avs_parse.specs.declared.fault.ParseStop.TheVariants.{Memory};
-
-    ghost from_gives = { λ _ stop. stop ≡ Memory };
-
-    fn from(_: AllocFailed<T>) -> ParseStop {
-        ParseStop::Memory
+impl<T: Drop> From<AllocFailed<T>> for OutOfMemory {
+    fn from(_: AllocFailed<T>) -> OutOfMemory {
+        OutOfMemory
     }
 }

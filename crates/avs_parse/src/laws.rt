@@ -1,11 +1,5 @@
-// Laws of the grammar and of the tree of a text, each the contract of a function with an empty body.
-ghost use Rattle.avs_parse.specs.Laws.{FirstFaultIsFound, FirstFaultIsTold, RefusalIsTold, ScriptIsFound, TokensAreFound};
-ghost use Rattle.avs_tree.specs.Script.{OneTree};
-
-/// Tokens have at most one tree.
-pub fn one_tree()
-    ensures { OneTree }
-{}
+// Laws of the tree of a text, each the contract of a function with an empty body.
+ghost use Rattle.avs_parse.specs.Laws.{FirstFaultIsFound, FirstFaultIsTold, NestingIsTold, ScriptIsFound, SyntaxIsTold, TokensAreFound};
 
 /// `tokens_of` gives the tokens of a text exactly where it has tokens.
 pub fn tokens_are_found()
@@ -27,7 +21,14 @@ pub fn first_fault_is_told()
     ensures { FirstFaultIsTold }
 {}
 
-/// `script_of` refuses a text exactly where it has tokens and they have no tree.
-pub fn refusal_is_told()
-    ensures { RefusalIsTold }
+/// `script_of` gives a syntax fault and its line exactly where the text has tokens, and at one of them, on that line, no
+/// script goes on.
+pub fn syntax_is_told()
+    ensures { SyntaxIsTold }
+{}
+
+/// `script_of` gives too deep a nesting and its line exactly where the text has tokens, and at one of them, on that line,
+/// the nesting becomes too deep.
+pub fn nesting_is_told()
+    ensures { NestingIsTold }
 {}

@@ -1,18 +1,25 @@
 //! Scripts in the language of AviSynth+, from their tokens or their texts to their trees.
 //!
-//! `parse` answers exactly the tree that the grammar gives of tokens (`HasTree` of `avs_tree`), and refuses only tokens that
-//! have none within the limit of nesting. `load` answers what the function `script_of` gives of a text (`specs/Load.antt`);
-//! the lines of its `Syntax` and `NestLimit` are tested, not proved. `laws` says that tokens have at most one tree, and that
-//! `script_of` is what the definitions of tokens and of the grammar say.
+//! `parse` reads one token a turn (`machine`) and keeps what is open on two stacks: frames in an expression, and levels of
+//! braces. It answers the tree that the grammar gives of tokens (`HasTree` of `avs_tree`), or the exact token and line at which
+//! no script goes on or the nesting becomes too deep (`specs/Place.antt`). `load` answers what the function `script_of` gives
+//! of a text (`specs/Load.antt`), and `laws` says that `script_of` is what the definitions of tokens and of the grammar say.
 #![tactic(auto)]
 
-mod cursor;
+mod block;
+mod closing;
 mod expression;
 mod fault;
+mod frame;
+mod head;
 pub mod laws;
 mod loader;
+mod machine;
+mod nesting;
 mod script;
+mod state;
 mod statement;
+mod turn;
 
 pub use avs_tree::{
     Arg, Arm, Expr, Function, MethodCall, Operator, Parameter, Script, Statement, StatementKind,

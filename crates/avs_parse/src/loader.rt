@@ -10,7 +10,7 @@ use avs_tree::Script;
 use std::alloc::Global;
 
 /// A tree, and the line of the end of its script, counted from 1.
-#[derive(Drop, Debug)]
+#[derive(Drop)]
 pub struct Loaded {
     pub script: Script,
     pub last_line: u32,
@@ -24,7 +24,7 @@ fn last_line(tokens: &[Token]) -> u32
 }
 
 /// The tree of a text, or its first fault.
-#[tactic(auto, using(crate::proofs::LoadLemmas::lexical_fault, crate::proofs::LoadLemmas::tree_is, crate::proofs::LoadLemmas::no_tree_is))]
+#[tactic(auto, using(crate::proofs::LoadLemmas::lexical_fault, crate::proofs::LoadLemmas::tree_is))]
 pub fn load(alloc: Global, text: &str) -> Result<Loaded, LoadFault>
     requires { length text.now < 2 ^ 32 - 1 }
     ensures { Loads (script_of text.now) result }

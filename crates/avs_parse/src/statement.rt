@@ -1,362 +1,359 @@
-// The parser of statements and blocks.
-ghost use Rattle.std.specs.Prelude.{◌≡◌, ◌-◌, ◌<◌, [], map, length, option_map};
-ghost use Rattle.avs_parse.specs.ParsesInside.{ParsesInside};
-ghost use Rattle.avs_parse.specs.ParsingExpr.{below};
-ghost use Rattle.avs_parse.specs.ParsingScript as r;
-ghost use Rattle.avs_parse.specs.Answers.{Answers, AnswersEach};
-ghost use Rattle.avs_parse.specs.ForHead.{for_head_view};
-ghost use Rattle.avs_tree.specs.Tree.{ends_with_brace};
-ghost use Rattle.avs_tree.specs.View.{expr_view, arm_view, kind_view, statement_view};
+// What a token does to a statement.
+ghost use Rattle.std.specs.Prelude.{◌≡◌, ◌∷◌, ◌++◌, [], Some, map, if◌then◌else◌};
+ghost use Rattle.avs_tree.specs.Tree as tree;
+ghost use Rattle.avs_tree.specs.View.{expr_view, kind_view, arm_view, statement_view, arms_of};
+ghost use Rattle.avs_tree.specs.declared.symbol.Punctuation.TheVariants.{RightParen};
+ghost use Rattle.avs_place.specs.Next.{is_punctuation};
+ghost use Rattle.avs_place.specs.ExprMachine as expr;
+ghost use Rattle.avs_place.specs.Machine as machine;
+ghost use Rattle.avs_parse.specs.ExprViews.{expr_state_view, frames_view};
+ghost use Rattle.avs_parse.specs.ScriptViews.{Steps, inner, levels_view, owner_view, statement_state_view, step_view, use_view};
+ghost use Rattle.avs_parse.specs.Seen.{seen};
 
-use crate::cursor::Tokens;
-use crate::expression::{EXPRESSION, expression};
-use crate::fault::ParseStop;
-use avs_tree::{Arm, Expr, Keyword, Punctuation, Statement, StatementKind, Symbol};
+use crate::block::{close, done, end, goes, if_kind};
+use crate::expression::{expr_step, operand};
+use crate::fault::Outcome;
+use crate::frame::{ExprState, ExprStep, Frame};
+use crate::state::{
+    Around, ForHead, HeadState, Level, Owner, ScriptStep, State, StatementState, Use,
+};
+use crate::turn::Turn;
+use avs_tree::{Arm, Expr, Keyword, Punctuation, StatementKind, Symbol};
 use fv_io::Text;
 use std::alloc::Global;
 
-/// The rules, over a function that parses the statements inside of braces, with the levels that are left.
-#[derive(Clone, Copy)]
-pub struct Blocks<F> {
-    pub alloc: Global,
-    /// How many levels of parentheses, braces and the like may still be opened.
-    pub levels_left: u32,
-    pub parse: F,
-}
-
-// What is inside the parentheses after `for`. The boxes keep the proof of its drop short.
-#[derive(Drop)]
-struct ForHead {
-    name: Text,
-    first: Box<Expr>,
-    last: Box<Expr>,
-    step: Option<Box<Expr>>,
-}
-
-// Whether a statement of this kind ends with a brace.
-fn ends_with_brace(kind: &StatementKind) -> bool
-    ensures { result ≡ ends_with_brace (kind_view kind.now) }
+// An expression comes next, for this.
+#[tactic(auto, using(crate::proofs::FrameLemmas::of_frames))]
+fn expression_next(alloc: Global, purpose: Use, around: Around) -> ScriptStep
+    ensures { step_view result ≡ machine.goes
+        (inner around (machine.at (machine.in_expression (use_view purpose) expr.operand_next []))) }
 {
-    match kind {
-        StatementKind::If { .. } | StatementKind::While { .. } | StatementKind::For { .. } => true,
-        _ => false,
-    }
+    let frames = Vec::new(alloc);
+    let here = StatementState::InExpression(purpose, ExprState::OperandNext, frames);
+    goes(here, around)
 }
 
-// Whether `else if` comes next, after any newlines.
-#[tactic(auto, unfolding(crate::specs::ParsingScript::else_if))]
-fn else_if(tokens: &Tokens<'_>) -> bool
-    ensures { result ≡ r.else_if tokens.now }
+// The token has to be this punctuation, and then an expression comes next.
+fn expression_after(mark: Punctuation, purpose: Use, around: Around, turn: Turn<'_>) -> ScriptStep
+    ensures { step_view result ≡ (if is_punctuation mark (seen turn.entry) then machine.goes
+        (inner around (machine.at (machine.in_expression (use_view purpose) expr.operand_next []))) else machine.stuck) }
 {
-    matches!(
-        tokens.peek_past_newlines(),
-        (
-            Some(Symbol::Keyword(Keyword::Else)),
-            Some(Symbol::Keyword(Keyword::If))
-        )
-    )
+    if !turn.is(mark) {
+        return ScriptStep::Refused;
+    }
+    expression_next(turn.alloc, purpose, around)
 }
 
-impl<F: Fn(Global, &mut Tokens<'_>, u32) -> Result<Vec<Statement>, ParseStop>> Blocks<F> {
-    // The statements inside of braces.
-    fn inner(&self, tokens: &mut Tokens<'_>) -> Result<Vec<Statement>, ParseStop>
-        requires inside { ParsesInside self.now.levels_left (F.pre self.now.parse) (F.post self.now.parse) }
-        requires may_open { 0 < self.now.levels_left }
-        ensures { AnswersEach statement_view (r.block_below self.now.levels_left tokens.old) result tokens.new }
-    {
-        (self.parse)(self.alloc, tokens, self.levels_left - 1)
-    }
-
-    // An expression inside of parentheses.
-    #[tactic(auto, using(crate::proofs::Turns::below_is))]
-    fn inside(&self, tokens: &mut Tokens<'_>) -> Result<Expr, ParseStop>
-        requires { 0 < self.now.levels_left }
-        ensures { Answers expr_view (below self.now.levels_left 8 tokens.old) result tokens.new }
-    {
-        expression(self.alloc, tokens, self.levels_left - 1, EXPRESSION)
-    }
-
-    // Statements with their braces.
-    #[tactic(auto, unfolding(crate::specs::ParsingScript::body))]
-    pub fn body(&self, tokens: &mut Tokens<'_>) -> Result<Vec<Statement>, ParseStop>
-        requires { ParsesInside self.now.levels_left (F.pre self.now.parse) (F.post self.now.parse) }
-        ensures { AnswersEach statement_view
-            (r.body self.now.levels_left (r.block_below self.now.levels_left) tokens.old) result tokens.new }
-    {
-        tokens.skip_newlines();
-        tokens.open_punctuation(Punctuation::LeftBrace, self.levels_left)?;
-        let body = self.inner(tokens)?;
-        tokens.expect(Punctuation::RightBrace)?;
-        Ok(body)
-    }
-
-    // A condition with its parentheses.
-    #[tactic(auto, unfolding(crate::specs::ParsingScript::condition))]
-    fn condition(&self, tokens: &mut Tokens<'_>) -> Result<Expr, ParseStop>
-        ensures { Answers expr_view
-            (r.condition self.now.levels_left (r.block_below self.now.levels_left) tokens.old) result tokens.new }
-    {
-        tokens.open_punctuation(Punctuation::LeftParen, self.levels_left)?;
-        let condition = self.inside(tokens)?;
-        tokens.expect(Punctuation::RightParen)?;
-        Ok(condition)
-    }
-
-    // `if` or `while` with its condition and body.
-    #[tactic(auto, unfolding(crate::specs::ParsingScript::one_arm))]
-    fn arm(&self, tokens: &mut Tokens<'_>) -> Result<Arm, ParseStop>
-        requires { ParsesInside self.now.levels_left (F.pre self.now.parse) (F.post self.now.parse) }
-        ensures { Answers arm_view
-            (r.one_arm self.now.levels_left (r.block_below self.now.levels_left) tokens.old) result tokens.new }
-    {
-        tokens.take();
-        let condition = self.condition(tokens)?;
-        let body = self.body(tokens)?;
-        Ok(Arm { condition, body })
-    }
-
-    #[tactic(auto, unfolding(crate::specs::ParsingScript::more_arms))]
-    fn more_arms(&self, tokens: &mut Tokens<'_>, mut arms: Vec<Arm>) -> Result<Vec<Arm>, ParseStop>
-        requires { ParsesInside self.now.levels_left (F.pre self.now.parse) (F.post self.now.parse) }
-        ensures { AnswersEach arm_view (r.more_arms self.now.levels_left (r.block_below self.now.levels_left)
-            (length tokens.old) (map arm_view arms.items) tokens.old) result tokens.new }
-    {
-        for _turn in 0..tokens.left() {
-            if !else_if(tokens) {
-                return Ok(arms);
-            }
-            tokens.skip_newlines();
-            tokens.take();
-            let arm = self.arm(tokens)?;
-            arms.push(arm)?;
-        }
-        Err(tokens.refuse())
-    }
-
-    // The body after `else`.
-    #[tactic(auto, unfolding(crate::specs::ParsingScript::other))]
-    fn other(&self, tokens: &mut Tokens<'_>) -> Result<Option<Vec<Statement>>, ParseStop>
-        requires { ParsesInside self.now.levels_left (F.pre self.now.parse) (F.post self.now.parse) }
-        ensures { Answers (λ found. option_map (λ v. map statement_view v.items) found)
-            (r.other self.now.levels_left (r.block_below self.now.levels_left) tokens.old) result tokens.new }
-    {
-        match tokens.peek_past_newlines() {
-            (Some(Symbol::Keyword(Keyword::Else)), _) => {
-                tokens.skip_newlines();
-                tokens.take();
-                let body = self.body(tokens)?;
-                Ok(Some(body))
-            }
-            _ => Ok(None),
-        }
-    }
-
-    #[tactic(auto, unfolding(crate::specs::ParsingScript::if_kind))]
-    fn if_kind(&self, tokens: &mut Tokens<'_>) -> Result<StatementKind, ParseStop>
-        requires { ParsesInside self.now.levels_left (F.pre self.now.parse) (F.post self.now.parse) }
-        ensures { Answers kind_view
-            (r.if_kind self.now.levels_left (r.block_below self.now.levels_left) tokens.old) result tokens.new }
-    {
-        let first = self.arm(tokens)?;
-        let mut arms = Vec::new(self.alloc);
-        arms.push(first)?;
-        let arms = self.more_arms(tokens, arms)?;
-        let other = self.other(tokens)?;
-        Ok(StatementKind::If { arms, other })
-    }
-
-    #[tactic(auto, unfolding(crate::specs::ParsingScript::while_kind))]
-    fn while_kind(&self, tokens: &mut Tokens<'_>) -> Result<StatementKind, ParseStop>
-        requires { ParsesInside self.now.levels_left (F.pre self.now.parse) (F.post self.now.parse) }
-        ensures { Answers kind_view
-            (r.while_kind self.now.levels_left (r.block_below self.now.levels_left) tokens.old) result tokens.new }
-    {
-        let Arm { condition, body } = self.arm(tokens)?;
-        Ok(StatementKind::While { condition, body })
-    }
-
-    #[tactic(auto, unfolding(crate::specs::ParsingScript::for_step))]
-    fn for_step(&self, tokens: &mut Tokens<'_>) -> Result<Option<Box<Expr>>, ParseStop>
-        requires { 0 < self.now.levels_left }
-        ensures { Answers (λ found. option_map (λ step. expr_view step.value) found)
-            (r.for_step self.now.levels_left (r.block_below self.now.levels_left) tokens.old) result tokens.new }
-    {
-        if !tokens.is(Punctuation::Comma) {
-            return Ok(None);
-        }
-        tokens.take();
-        let step = Box::new(self.alloc, self.inside(tokens)?)?;
-        Ok(Some(step))
-    }
-
-    // The parentheses after `for`.
-    #[tactic(auto, unfolding(crate::specs::ParsingScript::for_head))]
-    fn for_head(&self, tokens: &mut Tokens<'_>) -> Result<ForHead, ParseStop>
-        ensures { Answers for_head_view
-            (r.for_head self.now.levels_left (r.block_below self.now.levels_left) tokens.old) result tokens.new }
-    {
-        tokens.open_punctuation(Punctuation::LeftParen, self.levels_left)?;
-        let name = tokens.name(self.alloc)?;
-        tokens.expect(Punctuation::Assign)?;
-        let first = Box::new(self.alloc, self.inside(tokens)?)?;
-        tokens.expect(Punctuation::Comma)?;
-        let last = Box::new(self.alloc, self.inside(tokens)?)?;
-        let step = self.for_step(tokens)?;
-        tokens.expect(Punctuation::RightParen)?;
-        Ok(ForHead {
-            name,
-            first,
-            last,
-            step,
-        })
-    }
-
-    #[tactic(auto, unfolding(crate::specs::ParsingScript::for_kind))]
-    fn for_kind(&self, tokens: &mut Tokens<'_>) -> Result<StatementKind, ParseStop>
-        requires { ParsesInside self.now.levels_left (F.pre self.now.parse) (F.post self.now.parse) }
-        ensures { Answers kind_view
-            (r.for_kind self.now.levels_left (r.block_below self.now.levels_left) tokens.old) result tokens.new }
-    {
-        tokens.take();
-        let head = self.for_head(tokens)?;
-        let body = self.body(tokens)?;
-        Ok(StatementKind::For {
-            name: head.name,
-            first: Box::into_inner(head.first),
-            last: Box::into_inner(head.last),
-            step: head.step.map(Box::into_inner),
-            body,
-        })
-    }
-
-    #[tactic(auto, unfolding(crate::specs::ParsingScript::global_kind))]
-    fn global_kind(&self, tokens: &mut Tokens<'_>) -> Result<StatementKind, ParseStop>
-        ensures { Answers kind_view
-            (r.global_kind self.now.levels_left (r.block_below self.now.levels_left) tokens.old) result tokens.new }
-    {
-        tokens.take();
-        let name = tokens.name(self.alloc)?;
-        tokens.expect(Punctuation::Assign)?;
-        let value = expression(self.alloc, tokens, self.levels_left, EXPRESSION)?;
-        Ok(StatementKind::Global { name, value })
-    }
-
-    #[tactic(auto, unfolding(crate::specs::ParsingScript::assign_kind))]
-    fn assign_kind(&self, tokens: &mut Tokens<'_>) -> Result<StatementKind, ParseStop>
-        ensures { Answers kind_view
-            (r.assign_kind self.now.levels_left (r.block_below self.now.levels_left) tokens.old) result tokens.new }
-    {
-        let name = tokens.name(self.alloc)?;
-        tokens.expect(Punctuation::Assign)?;
-        let value = expression(self.alloc, tokens, self.levels_left, EXPRESSION)?;
-        Ok(StatementKind::Assign { name, value })
-    }
-
-    #[tactic(auto, unfolding(crate::specs::ParsingScript::return_kind))]
-    fn return_kind(&self, tokens: &mut Tokens<'_>) -> Result<StatementKind, ParseStop>
-        ensures { Answers kind_view
-            (r.return_kind self.now.levels_left (r.block_below self.now.levels_left) tokens.old) result tokens.new }
-    {
-        tokens.take();
-        let value = expression(self.alloc, tokens, self.levels_left, EXPRESSION)?;
-        Ok(StatementKind::Return(value))
-    }
-
-    #[tactic(auto, unfolding(crate::specs::ParsingScript::value_kind))]
-    fn value_kind(&self, tokens: &mut Tokens<'_>) -> Result<StatementKind, ParseStop>
-        ensures { Answers kind_view
-            (r.value_kind self.now.levels_left (r.block_below self.now.levels_left) tokens.old) result tokens.new }
-    {
-        let value = expression(self.alloc, tokens, self.levels_left, EXPRESSION)?;
-        Ok(StatementKind::Value(value))
-    }
-
-    #[tactic(auto, unfolding(crate::specs::ParsingScript::named_kind))]
-    fn named_kind(&self, tokens: &mut Tokens<'_>) -> Result<StatementKind, ParseStop>
-        ensures { Answers kind_view
-            (r.named_kind self.now.levels_left (r.block_below self.now.levels_left) tokens.old) result tokens.new }
-    {
-        if tokens.assigns() {
-            return self.assign_kind(tokens);
-        }
-        self.value_kind(tokens)
-    }
-
-    #[tactic(auto, unfolding(crate::specs::ParsingScript::kind))]
-    fn kind(&self, tokens: &mut Tokens<'_>) -> Result<StatementKind, ParseStop>
-        requires { ParsesInside self.now.levels_left (F.pre self.now.parse) (F.post self.now.parse) }
-        ensures { Answers kind_view
-            (r.kind self.now.levels_left (r.block_below self.now.levels_left) tokens.old) result tokens.new }
-    {
-        match tokens.peek() {
-            Some(Symbol::Keyword(Keyword::Global)) => self.global_kind(tokens),
-            Some(Symbol::Keyword(Keyword::Return)) => self.return_kind(tokens),
-            Some(Symbol::Keyword(Keyword::If)) => self.if_kind(tokens),
-            Some(Symbol::Keyword(Keyword::While)) => self.while_kind(tokens),
-            Some(Symbol::Keyword(Keyword::For)) => self.for_kind(tokens),
-            Some(Symbol::Name) => self.named_kind(tokens),
-            _ => self.value_kind(tokens),
-        }
-    }
-
-    // A statement and what separates it from the next.
-    #[tactic(auto, unfolding(crate::specs::ParsingScript::item))]
-    pub fn item(&self, tokens: &mut Tokens<'_>) -> Result<Statement, ParseStop>
-        requires { ParsesInside self.now.levels_left (F.pre self.now.parse) (F.post self.now.parse) }
-        ensures { Answers statement_view
-            (r.item self.now.levels_left (r.block_below self.now.levels_left) tokens.old) result tokens.new }
-    {
-        let line = tokens.line();
-        let kind = self.kind(tokens)?;
-        // Dropped by name: where a statement goes out of scope, the check reads the drops of all its parts.
-        if let Err(stop) = tokens.separate(ends_with_brace(&kind)) {
-            drop(kind);
-            return Err(stop);
-        }
-        Ok(Statement { kind, line })
-    }
-
-    #[tactic(auto, unfolding(crate::specs::ParsingScript::more_items))]
-    fn more_items(&self, tokens: &mut Tokens<'_>) -> Result<Vec<Statement>, ParseStop>
-        requires { ParsesInside self.now.levels_left (F.pre self.now.parse) (F.post self.now.parse) }
-        ensures { AnswersEach statement_view (r.more_items self.now.levels_left
-            (r.block_below self.now.levels_left) (length tokens.old) [] tokens.old) result tokens.new }
-    {
-        let mut items = Vec::new(self.alloc);
-        for _turn in 0..tokens.left() {
-            if tokens.closes() {
-                return Ok(items);
-            }
-            let item = self.item(tokens)?;
-            items.push(item)?;
-        }
-        Err(tokens.refuse())
-    }
-
-    #[tactic(auto, unfolding(crate::specs::ParsingScript::items))]
-    fn items(&self, tokens: &mut Tokens<'_>) -> Result<Vec<Statement>, ParseStop>
-        requires { ParsesInside self.now.levels_left (F.pre self.now.parse) (F.post self.now.parse) }
-        ensures { AnswersEach statement_view
-            (r.items self.now.levels_left (r.block_below self.now.levels_left) tokens.old) result tokens.new }
-    {
-        tokens.skip_newlines();
-        self.more_items(tokens)
-    }
-}
-
-// The statements up to a brace or the end.
-pub fn block(
-    alloc: Global,
-    tokens: &mut Tokens<'_>,
-    levels_left: u32,
-) -> Result<Vec<Statement>, ParseStop>
-    ensures { AnswersEach statement_view
-        (r.items levels_left (r.block_below levels_left) tokens.old) result tokens.new }
+// The right parenthesis before braces.
+fn braces_after(owner: Owner, around: Around, turn: Turn<'_>) -> ScriptStep
+    ensures { step_view result ≡ (if is_punctuation RightParen (seen turn.entry)
+        then machine.goes (inner around (machine.at (machine.braces_next (owner_view owner)))) else machine.stuck) }
 {
-    Blocks {
-        alloc,
-        levels_left,
-        parse: block,
+    if !turn.is(Punctuation::RightParen) {
+        return ScriptStep::Refused;
     }
-    .items(tokens)
+    goes(StatementState::BracesNext(owner), around)
+}
+
+// ---- the first token of a statement
+
+// `function`
+#[tactic(auto, using(crate::proofs::LevelLemmas::top_within, crate::proofs::LevelLemmas::no_function))]
+fn function(around: Around) -> ScriptStep
+    ensures { step_view result ≡ inner around machine.function_by }
+{
+    if around.levels.depth() > 0 {
+        return ScriptStep::Refused;
+    }
+    ScriptStep::Goes(State::Head(HeadState::AfterFunction, around))
+}
+
+// The first token of an expression that is a statement, or of the name before `=`.
+#[tactic(auto, using(crate::proofs::FrameLemmas::of_frames))]
+fn value(around: Around, turn: Turn<'_>) -> Outcome<ScriptStep>
+    ensures { Steps result (inner around (machine.in_statement (expr.operand [] (seen turn.entry)) machine.to_value)) }
+{
+    match operand(Vec::new(turn.alloc), turn)? {
+        ExprStep::Keeps(state, frames) => {
+            let here = StatementState::InExpression(Use::Value, state, frames);
+            Ok(goes(here, around))
+        }
+        _ => Ok(ScriptStep::Refused),
+    }
+}
+
+// The first token of a statement in this line.
+fn begin(around: Around, turn: Turn<'_>) -> Outcome<ScriptStep>
+    ensures { Steps result
+        (inner around (machine.items_by (Some turn.entry.symbol) (expr.operand [] (seen turn.entry)))) }
+{
+    let alloc = turn.alloc;
+    match turn.symbol {
+        Symbol::Punctuation(Punctuation::Newline) => Ok(goes(
+            StatementState::StatementNext,
+            around,
+        )),
+        Symbol::Punctuation(Punctuation::RightBrace) => close(alloc, around.before, around.levels),
+        Symbol::Punctuation(Punctuation::End) => Ok(end(around.before, around.levels)),
+        Symbol::Keyword(Keyword::Function) => Ok(function(around)),
+        Symbol::Keyword(Keyword::If) => {
+            let purpose = Use::Arm(Vec::new(alloc));
+            Ok(goes(StatementState::ParenthesisNext(purpose), around))
+        }
+        Symbol::Keyword(Keyword::While) => {
+            Ok(goes(StatementState::ParenthesisNext(Use::While), around))
+        }
+        Symbol::Keyword(Keyword::For) => Ok(goes(StatementState::AfterFor, around)),
+        Symbol::Keyword(Keyword::Return) => Ok(expression_next(alloc, Use::Return, around)),
+        Symbol::Keyword(Keyword::Global) => Ok(goes(StatementState::AfterGlobal, around)),
+        _ => value(around, turn),
+    }
+}
+
+// The first token of a statement.
+fn statement(mut around: Around, turn: Turn<'_>) -> Outcome<ScriptStep>
+    ensures { Steps result (machine.items_by (Some turn.entry.symbol) (expr.operand [] (seen turn.entry))
+        turn.entry.line (map statement_view around.before.items) (levels_view around.levels)) }
+{
+    around.line = turn.line;
+    begin(around, turn)
+}
+
+// ---- after an expression
+
+// After the last expression of a statement.
+fn finish(kind: StatementKind, around: Around, turn: Turn<'_>) -> Outcome<ScriptStep>
+    ensures { Steps result (machine.done_by (Some turn.entry.symbol)
+        (map statement_view around.before.items ++ (kind_view kind, around.line) ∷ [])
+        around.line (levels_view around.levels)) }
+{
+    let around = around.after(kind)?;
+    done(around, turn)
+}
+
+// After an expression that is a statement, unless it is the name before `=`.
+fn after_value(expr: Expr, around: Around, turn: Turn<'_>) -> Outcome<ScriptStep>
+    ensures { Steps result (inner around (machine.used machine.to_value (expr_view expr)) (seen turn.entry)) }
+{
+    if !turn.is(Punctuation::Assign) {
+        return finish(StatementKind::Value(expr), around, turn);
+    }
+    match expr {
+        Expr::Name { name, line: _ } => Ok(expression_next(turn.alloc, Use::Assign(name), around)),
+        _ => Ok(ScriptStep::Refused),
+    }
+}
+
+// After the last number of a `for`, unless its step follows.
+fn after_last(name: Text, first: Expr, last: Expr, around: Around, turn: Turn<'_>) -> ScriptStep
+    ensures { step_view result
+        ≡ inner around (machine.used (machine.to_last name (expr_view first)) (expr_view last)) (seen turn.entry) }
+{
+    if turn.is(Punctuation::Comma) {
+        return expression_next(turn.alloc, Use::Step(name, first, last), around);
+    }
+    let head = ForHead {
+        name,
+        first,
+        last,
+        step: None,
+    };
+    braces_after(Owner::For(head), around, turn)
+}
+
+// After a whole expression.
+fn after_expression(purpose: Use, expr: Expr, around: Around, turn: Turn<'_>) -> Outcome<ScriptStep>
+    ensures { Steps result (inner around (machine.used (use_view purpose) (expr_view expr)) (seen turn.entry)) }
+{
+    let value = expr;
+    match purpose {
+        Use::Value => after_value(value, around, turn),
+        Use::Global(name) => finish(StatementKind::Global { name, value }, around, turn),
+        Use::Assign(name) => finish(StatementKind::Assign { name, value }, around, turn),
+        Use::Return => finish(StatementKind::Return(value), around, turn),
+        Use::Arm(arms) => Ok(braces_after(Owner::Arm(arms, value), around, turn)),
+        Use::While => Ok(braces_after(Owner::While(value), around, turn)),
+        Use::First(name) => {
+            let purpose = Use::Last(name, value);
+            Ok(expression_after(Punctuation::Comma, purpose, around, turn))
+        }
+        Use::Last(name, first) => Ok(after_last(name, first, value, around, turn)),
+        Use::Step(name, first, last) => {
+            let step = Some(value);
+            let head = ForHead {
+                name,
+                first,
+                last,
+                step,
+            };
+            Ok(braces_after(Owner::For(head), around, turn))
+        }
+    }
+}
+
+// In an expression.
+fn in_expression(
+    purpose: Use,
+    state: ExprState,
+    frames: Vec<Frame>,
+    around: Around,
+    turn: Turn<'_>,
+) -> Outcome<ScriptStep>
+    ensures { Steps result (inner around (machine.advance_statement
+        (machine.in_expression (use_view purpose) (expr_state_view state) (frames_view frames.items))) (seen turn.entry)) }
+{
+    match expr_step(state, frames, turn)? {
+        ExprStep::Refused => Ok(ScriptStep::Refused),
+        ExprStep::Keeps(state, frames) => {
+            let here = StatementState::InExpression(purpose, state, frames);
+            Ok(goes(here, around))
+        }
+        ExprStep::Leaves(expr) => after_expression(purpose, expr, around, turn),
+    }
+}
+
+// ---- braces
+
+// After the left brace of a statement.
+#[tactic(auto, using(crate::proofs::LevelLemmas::of_levels))]
+fn open(alloc: Global, owner: Owner, around: Around) -> Outcome<ScriptStep>
+    ensures { Steps result (machine.goes (machine.at machine.statement_next around.line []
+        (inner around (machine.level (owner_view owner))))) }
+{
+    let Around {
+        line,
+        before,
+        mut levels,
+    } = around;
+    levels.inner.push(Level {
+        owner,
+        line,
+        before,
+    })?;
+    let before = Vec::new(alloc);
+    let inside = Around {
+        line,
+        before,
+        levels,
+    };
+    Ok(goes(StatementState::StatementNext, inside))
+}
+
+// Newlines and the left brace of a statement.
+fn body(owner: Owner, around: Around, turn: Turn<'_>) -> Outcome<ScriptStep>
+    ensures { Steps result (inner around (machine.body_by (Some turn.entry.symbol) (owner_view owner))) }
+{
+    match turn.symbol {
+        Symbol::Punctuation(Punctuation::Newline) => {
+            Ok(goes(StatementState::BracesNext(owner), around))
+        }
+        Symbol::Punctuation(Punctuation::LeftBrace) => open(turn.alloc, owner, around),
+        _ => Ok(ScriptStep::Refused),
+    }
+}
+
+// The first token of the statement after an `if`.
+fn after_if(arms: Vec<Arm>, around: Around, turn: Turn<'_>) -> Outcome<ScriptStep>
+    ensures { Steps result (machine.items_by (Some turn.entry.symbol) (expr.operand [] (seen turn.entry)) turn.entry.line
+        (map statement_view around.before.items ++ (tree.if_ (arms_of (map arm_view arms.items)) tree.no_else, around.line) ∷ [])
+        (levels_view around.levels)) }
+{
+    let around = around.after(if_kind(arms, None))?;
+    statement(around, turn)
+}
+
+// After an arm: newlines, `else`, or the next statement.
+fn after_arm(arms: Vec<Arm>, around: Around, turn: Turn<'_>) -> Outcome<ScriptStep>
+    ensures { Steps result (inner around (machine.arms_by (Some turn.entry.symbol)
+        (expr.operand [] (seen turn.entry)) turn.entry.line (map arm_view arms.items))) }
+{
+    match turn.symbol {
+        Symbol::Punctuation(Punctuation::Newline) => Ok(goes(
+            StatementState::AfterArm(arms),
+            around,
+        )),
+        Symbol::Keyword(Keyword::Else) => Ok(goes(StatementState::AfterElse(arms), around)),
+        _ => after_if(arms, around, turn),
+    }
+}
+
+// After `else`.
+fn after_else(arms: Vec<Arm>, around: Around, turn: Turn<'_>) -> Outcome<ScriptStep>
+    ensures { Steps result (inner around (machine.other_by (Some turn.entry.symbol) (map arm_view arms.items))) }
+{
+    match turn.symbol {
+        Symbol::Keyword(Keyword::If) => {
+            Ok(goes(StatementState::ParenthesisNext(Use::Arm(arms)), around))
+        }
+        _ => body(Owner::Else(arms), around, turn),
+    }
+}
+
+// ---- one token
+
+// The name after `global`.
+fn global_name(around: Around, turn: Turn<'_>) -> Outcome<ScriptStep>
+    ensures { Steps result (inner around (machine.advance_statement machine.after_global) (seen turn.entry)) }
+{
+    match turn.symbol {
+        Symbol::Name => {
+            let name = Text::from_str(turn.alloc, turn.content)?;
+            Ok(goes(StatementState::AfterGlobalName(name), around))
+        }
+        _ => Ok(ScriptStep::Refused),
+    }
+}
+
+// The name after `for (`.
+fn for_name(around: Around, turn: Turn<'_>) -> Outcome<ScriptStep>
+    ensures { Steps result (inner around (machine.advance_statement machine.for_opened) (seen turn.entry)) }
+{
+    match turn.symbol {
+        Symbol::Name => {
+            let name = Text::from_str(turn.alloc, turn.content)?;
+            Ok(goes(StatementState::AfterForName(name), around))
+        }
+        _ => Ok(ScriptStep::Refused),
+    }
+}
+
+// The parenthesis after `for`.
+fn for_parenthesis(around: Around, turn: Turn<'_>) -> ScriptStep
+    ensures { step_view result ≡ inner around (machine.advance_statement machine.after_for) (seen turn.entry) }
+{
+    if !turn.is(Punctuation::LeftParen) {
+        return ScriptStep::Refused;
+    }
+    goes(StatementState::ForOpened, around)
+}
+
+/// What the token does to a statement.
+pub fn advance_statement(
+    here: StatementState,
+    around: Around,
+    turn: Turn<'_>,
+) -> Outcome<ScriptStep>
+    ensures { Steps result (inner around (machine.advance_statement (statement_state_view here)) (seen turn.entry)) }
+{
+    match here {
+        StatementState::StatementNext => statement(around, turn),
+        StatementState::InExpression(purpose, state, frames) => {
+            in_expression(purpose, state, frames, around, turn)
+        }
+        StatementState::ParenthesisNext(purpose) => {
+            Ok(expression_after(Punctuation::LeftParen, purpose, around, turn))
+        }
+        StatementState::BracesNext(owner) => body(owner, around, turn),
+        StatementState::AfterArm(arms) => after_arm(arms, around, turn),
+        StatementState::AfterElse(arms) => after_else(arms, around, turn),
+        StatementState::AfterGlobal => global_name(around, turn),
+        StatementState::AfterGlobalName(name) => {
+            Ok(expression_after(Punctuation::Assign, Use::Global(name), around, turn))
+        }
+        StatementState::AfterFor => Ok(for_parenthesis(around, turn)),
+        StatementState::ForOpened => for_name(around, turn),
+        StatementState::AfterForName(name) => {
+            Ok(expression_after(Punctuation::Assign, Use::First(name), around, turn))
+        }
+    }
 }

@@ -7,7 +7,7 @@ use Rattle.avs_tree.specs.Tree as t
 use Rattle.avs_tree.specs.View.{ArgIs, MethodCallIs, StepIs, args_of, method_calls_of, steps_of}
 use Rattle.avs_tree.specs.Grammar.{IsPunctuation, Labels, Derives, DerivesSteps}
 use Rattle.avs_place.specs.Next.{peek, content_at, tail, is_punctuation, operator_at, operator_by}
-use Rattle.avs_place.specs.ExprMachine.{Callee, call_of, method_of, Frame, paren, argument, minus_of, not_of, chain_of, compare_of, yes_of, no_of, ExprState, operand_next, value_read, name_read, args_opened, dot_read, method_read, calls_read, keeps, hole, reach, operand_by, operand, operand_of, grow_by, grows, grow, called, no_closing, taken, reopened, label_of, closing_argument, more_of, by_closing, close, ExprStep, after, after_calls, method_by, expr_step}
+use Rattle.avs_place.specs.ExprMachine.{Callee, call_of, method_of, Frame, paren, argument, minus_of, not_of, chain_of, compare_of, yes_of, no_of, ExprState, operand_next, value_read, name_read, args_opened, dot_read, method_read, calls_read, keeps, hole, reach, operand_by, operand, operand_of, grow_by, continues, grows, grow, called, no_closing, taken, reopened, label_of, closing_argument, more_of, by_closing, close, ExprStep, after, after_calls, method_by, expr_step}
 use Rattle.avs_tree.specs.declared.symbol.Symbol.{Symbol}
 use Rattle.avs_tree.specs.declared.symbol.Symbol.TheVariants as s
 use Rattle.avs_tree.specs.declared.words.Keyword.TheVariants as w
@@ -63,7 +63,7 @@ module _ (K : Expr → Lexemes → Type 0) where
   back_grow fs k e ts _ is low high h = absurd h
 
   back_after : (fs : List Frame) → ((e : Expr) (ts : Lexemes) → After K (close e fs ts) ts → Continuation K fs e ts) → (k : ℕ) (e : Expr) (ts : Lexemes) → After K (after k e fs ts) ts → Grown K fs k e ts
-  unfolding grows grow
+  unfolding continues grow
   back_after fs closes k e ts h =
       on_if (λ z. After K z ts) (Grown K fs k e ts) (nat_lt k (reach (peek ts)) && nat_le (reach (peek ts)) (hole fs)) (grow e fs ts) (close e fs ts)
       (λ yes_ h. back_grow fs k e ts (peek ts) refl (grows_low k (hole fs) (reach (peek ts)) yes_) (grows_high k (hole fs) (reach (peek ts)) yes_) h)

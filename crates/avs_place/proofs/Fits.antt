@@ -7,7 +7,7 @@ use Rattle.avs_tree.specs.Tree as t
 use Rattle.avs_tree.specs.View.{ArgIs, MethodCallIs, StepIs, args_of, method_calls_of, steps_of}
 use Rattle.avs_tree.specs.Grammar.{nesting, args_nesting, method_calls_nesting, steps_nesting}
 use Rattle.avs_place.specs.Next.{peek, content_at, is_punctuation, operator_at}
-use Rattle.avs_place.specs.ExprMachine.{Callee, call_of, method_of, Frame, paren, argument, minus_of, not_of, chain_of, compare_of, yes_of, no_of, ExprState, operand_next, value_read, name_read, args_opened, dot_read, method_read, calls_read, ExprStep, refused, keeps, leaves, hole, reach, operand_by, operand, grow_by, grows, grow, called, no_closing, taken, reopened, label_of, closing_argument, more_of, by_closing, close, after, after_calls, method_by, expr_step}
+use Rattle.avs_place.specs.ExprMachine.{Callee, call_of, method_of, Frame, paren, argument, minus_of, not_of, chain_of, compare_of, yes_of, no_of, ExprState, operand_next, value_read, name_read, args_opened, dot_read, method_read, calls_read, ExprStep, refused, keeps, leaves, hole, reach, operand_by, operand, grow_by, continues, grows, grow, called, no_closing, taken, reopened, label_of, closing_argument, more_of, by_closing, close, after, after_calls, method_by, expr_step}
 use Rattle.avs_place.specs.Nesting.{frames_level, expr_level}
 use Rattle.avs_tree.specs.declared.symbol.Symbol.{Symbol}
 use Rattle.avs_tree.specs.declared.symbol.Symbol.TheVariants as s
@@ -127,7 +127,7 @@ module _ (most base : ℕ) where
   fits_grow fs h _ e line le = tt
 
   fits_after : (fs : List Frame) → Fits fs → ((e : Expr) (ts : Lexemes) → FitsIn fs e → FitsExprStep (close e fs ts)) → (k : ℕ) (e : Expr) (ts : Lexemes) → FitsIn fs e → FitsExprStep (after k e fs ts)
-  unfolding grows grow
+  unfolding continues grow
   fits_after fs h closes k e ts le =
       in_if FitsExprStep (nat_lt k (reach (peek ts)) && nat_le (reach (peek ts)) (hole fs)) (grow e fs ts) (close e fs ts) (λ _. fits_grow fs h (peek ts) e (line_of ts) le) (λ _. closes e ts le)
 

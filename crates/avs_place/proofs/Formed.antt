@@ -6,7 +6,7 @@ use Rattle.avs_tree.specs.Tree.{Expr, int, bool, str, call, method_calls, minus,
 use Rattle.avs_tree.specs.Tree as t
 use Rattle.avs_tree.specs.View.{ArgIs, MethodCallIs, StepIs, method_calls_of, method_call_of, steps_of}
 use Rattle.avs_place.specs.Next.{peek, content_at, is_punctuation, operator_at, operator_by}
-use Rattle.avs_place.specs.ExprMachine.{Callee, call_of, method_of, Frame, paren, argument, minus_of, not_of, chain_of, compare_of, yes_of, no_of, ExprState, operand_next, value_read, name_read, args_opened, dot_read, method_read, calls_read, ExprStep, refused, keeps, leaves, hole, reach, operand_by, operand, operand_of, grow_by, grows, grow, called, no_closing, taken, reopened, label_of, closing_argument, more_of, by_closing, close, after, after_calls, method_by, expr_step}
+use Rattle.avs_place.specs.ExprMachine.{Callee, call_of, method_of, Frame, paren, argument, minus_of, not_of, chain_of, compare_of, yes_of, no_of, ExprState, operand_next, value_read, name_read, args_opened, dot_read, method_read, calls_read, ExprStep, refused, keeps, leaves, hole, reach, operand_by, operand, operand_of, grow_by, continues, grows, grow, called, no_closing, taken, reopened, label_of, closing_argument, more_of, by_closing, close, after, after_calls, method_by, expr_step}
 use Rattle.avs_tree.specs.declared.symbol.Symbol.{Symbol}
 use Rattle.avs_tree.specs.declared.symbol.Symbol.TheVariants as s
 use Rattle.avs_tree.specs.declared.words.Keyword.TheVariants as w
@@ -50,7 +50,7 @@ formed_grow fs formed (Some (s.Operator op)) e line low = formed_step fs formed 
 formed_grow fs formed _ e line low = tt
 
 formed_after : (fs : List Frame) → Formed fs → ((e : Expr) (ts : Lexemes) → FormedExprStep (close e fs ts)) → (k : ℕ) (e : Expr) (ts : Lexemes) → FormedExprStep (after k e fs ts)
-unfolding grows grow
+unfolding continues grow
 formed_after fs formed closes k e ts =
     in_if FormedExprStep (nat_lt k (reach (peek ts)) && nat_le (reach (peek ts)) (hole fs)) (grow e fs ts) (close e fs ts)
     (λ yes_. formed_grow fs formed (peek ts) e (line_of ts) (grows_high k (hole fs) (reach (peek ts)) yes_)) (λ no_. closes e ts)

@@ -8,7 +8,7 @@ use Rattle.avs_tree.specs.Tree as t
 use Rattle.avs_tree.specs.View.{ArgIs, MethodCallIs, StepIs, args_of, method_calls_of, method_call_of, steps_of}
 use Rattle.avs_tree.specs.Grammar.{IsAt, Labels, Derives, DerivesSteps}
 use Rattle.avs_place.specs.Next.{peek, content_at, punctuation_by, is_punctuation, operator_at, operator_by}
-use Rattle.avs_place.specs.ExprMachine.{Callee, call_of, method_of, Frame, paren, argument, minus_of, not_of, chain_of, compare_of, yes_of, no_of, ExprState, operand_next, value_read, name_read, args_opened, dot_read, method_read, calls_read, ExprStep, keeps, hole, reach, operand_by, operand, grow_by, grows, grow, called, Closing, reopened, closed, closing_argument, more_of, by_closing, close, after, after_calls, expr_step}
+use Rattle.avs_place.specs.ExprMachine.{Callee, call_of, method_of, Frame, paren, argument, minus_of, not_of, chain_of, compare_of, yes_of, no_of, ExprState, operand_next, value_read, name_read, args_opened, dot_read, method_read, calls_read, ExprStep, keeps, hole, reach, operand_by, operand, grow_by, continues, grows, grow, called, Closing, reopened, closed, closing_argument, more_of, by_closing, close, after, after_calls, expr_step}
 use Rattle.avs_tree.specs.declared.symbol.Symbol.{Symbol}
 use Rattle.avs_tree.specs.declared.symbol.Symbol.TheVariants as s
 use Rattle.avs_tree.specs.declared.symbol.Punctuation.TheVariants as m
@@ -170,14 +170,14 @@ module _ (K : Expr → Lexemes → Type 0) (ends : (e : Expr) (ts : Lexemes) →
 
   grown_at : (fs : List Frame) (k : ℕ) (e : Expr) (symbol : Symbol) (line : ℕ) (ts us : Lexemes) → IsAt symbol line ts us → k < reach (Some symbol) → reach (Some symbol) ≤ hole fs
       → ((x : Text) → After K (grow_by (Some symbol) e fs line) ((symbol, x, line) ∷ us)) → After K (after k e fs ts) ts
-  unfolding grows grow
+  unfolding continues grow
   grown_at fs k e symbol line ts us (x, is) lt le h =
       subst (λ z. After K (after k e fs z) z) (sym is)
       (if_true (λ z. After K z ((symbol, x, line) ∷ us)) (nat_lt k (reach (Some symbol)) && nat_le (reach (Some symbol)) (hole fs)) _ _ (grows_yes k (hole fs) (reach (Some symbol)) lt le) (h x))
 
   on_grown : (fs : List Frame) → ((e : Expr) (ts : Lexemes) → Continuation K fs e ts → After K (close e fs ts) ts) → ((e : Expr) (ts : Lexemes) → Continuation K fs e ts → hole fs < reach (peek ts))
       → (k : ℕ) (e : Expr) (ts : Lexemes) → Grown K fs k e ts → After K (after k e fs ts) ts
-  unfolding reach grows
+  unfolding reach continues
   on_grown fs closes ok k e ts (e', us, grown, h) = if_false (λ z. After K z ts) (grows k fs ts) (grow e fs ts) (close e fs ts) (grows_no k (hole fs) (reach (peek ts)) (ok e ts h)) (closes e ts h)
   on_grown fs closes ok k e ts (e', us, by_methods no_method_calls vs a b c d g, h) = absurd c
   on_grown fs closes ok k e ts (e', us, by_methods (method x line ds) vs a b c (t1, t2, (l, is), nm, d) g, h) =

@@ -26,3 +26,4 @@ pub mod OnePlace
 pub mod OneTree
 pub mod Examples
 pub mod Ends
+pub mod CallerLemmas

@@ -100,9 +100,12 @@ grow_by (Some (s.Punctuation m.Question)) e fs line = keeps operand_next (yes_of
 grow_by (Some (s.Operator op)) e fs line = keeps operand_next (operand_of op e line ∷ fs)
 grow_by _ e fs line = refused
 
--- the next token continues an expression of precedence k to one that may stand here
-unfoldable pub grows : ℕ → List Frame → Lexemes → Bool
-grows k fs ts = nat_lt k (reach (peek ts)) && nat_le (reach (peek ts)) (hole fs)
+-- the next token continues an expression of precedence k, where one of at most this precedence may stand
+unfoldable pub continues : ℕ → ℕ → Lexemes → Bool
+continues k highest ts = nat_lt k (reach (peek ts)) && nat_le (reach (peek ts)) highest
+
+abbrev pub grows : ℕ → List Frame → Lexemes → Bool
+grows k fs ts = continues k (hole fs) ts
 
 unfoldable pub grow : Expr → List Frame → Lexemes → ExprStep
 grow e fs ts = grow_by (peek ts) e fs (line_of ts)

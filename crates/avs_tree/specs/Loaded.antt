@@ -8,8 +8,8 @@ pub record Loaded : Type 0 where
   pub tree : Script
   pub last_line : ℕ
 
--- Why a text has no tree, each with a line: its first lexical fault, the first token with which no script goes on, or the one at
--- which the nesting becomes too deep.
+-- Why a text has no tree: its first lexical fault, or the token at which no script goes on or the nesting becomes too deep.
+-- Each with the line.
 pub data NoTree : Type 0 where
   lexical : LexKind → ℕ → NoTree
   syntax : ℕ → NoTree

@@ -1,0 +1,9 @@
+use Rattle.std.proofs.Common.{◌≡◌, ◌≤◌, sum, map, take}
+use Rattle.avs_parse.specs.Open.{opens}
+use Rattle.avs_parse.proofs.nesting.frames_level.Given as goal
+
+abbrev pub invariant-loop-frame : goal.invariant-loop-frame
+invariant-loop-frame l = record {
+  is : l.open ≡ sum (map opens (take l.frame-index l.frames));
+  few : l.open ≤ l.frame-index;
+}

@@ -1,0 +1,65 @@
+-- What the states of the code mean, in an expression.
+use Rattle.std.specs.Prelude.{◌≡◌, List, [], ◌∷◌, map, Result, IfOk}
+use Rattle.avs_tree.specs.View.{expr_view, arg_view, method_call_view, step_view}
+use Rattle.avs_place.specs.ExprMachine as x
+use Rattle.avs_parse.specs.declared.fault.OutOfMemory.{OutOfMemory}
+use Rattle.avs_parse.specs.declared.frame.Callee.{Callee}
+use Rattle.avs_parse.specs.declared.frame.Callee.TheVariants as k
+use Rattle.avs_parse.specs.declared.frame.Frame.{Frame}
+use Rattle.avs_parse.specs.declared.frame.Frame.TheVariants as f
+use Rattle.avs_parse.specs.declared.frame.ExprState.{ExprState}
+use Rattle.avs_parse.specs.declared.frame.ExprState.TheVariants as n
+use Rattle.avs_parse.specs.declared.frame.ExprStep.{ExprStep}
+use Rattle.avs_parse.specs.declared.frame.ExprStep.TheVariants as r
+use Rattle.avs_parse.specs.declared.frame.Closing.{Closing}
+use Rattle.avs_parse.specs.declared.frame.Closing.TheVariants as g
+
+abbrev pub callee_view : Callee → x.Callee
+callee_view (k.Call n) = x.call_of n.name n.line
+callee_view (k.Method e n) = x.method_of (expr_view e.first) (map method_call_view e.calls.items) n.name n.line
+
+abbrev pub frame_view : Frame → x.Frame
+frame_view f.Paren = x.paren
+frame_view (f.Argument c found n) = x.argument (callee_view c) (map arg_view found.items) n
+frame_view (f.Minus line) = x.minus_of line
+frame_view (f.Not line) = x.not_of line
+frame_view (f.Chain e ss last) = x.chain_of (expr_view e) (map step_view ss.items) last.op last.line
+frame_view (f.Compare e last) = x.compare_of last.op (expr_view e) last.line
+frame_view (f.Yes e line) = x.yes_of (expr_view e) line
+frame_view (f.No e yes_ line) = x.no_of (expr_view e) (expr_view yes_) line
+
+-- The innermost frame is last in the code, and first here.
+abbrev pub onto : List x.Frame → List Frame → List x.Frame
+onto outer [] = outer
+onto outer (f ∷ fs) = onto (frame_view f ∷ outer) fs
+
+unfoldable pub frames_view : List Frame → List x.Frame
+frames_view fs = onto [] fs
+
+abbrev pub expr_state_view : ExprState → x.ExprState
+expr_state_view n.OperandNext = x.operand_next
+expr_state_view (n.ValueRead k e) = x.value_read k (expr_view e)
+expr_state_view (n.NameRead n) = x.name_read n.name n.line
+expr_state_view (n.ArgsOpened c) = x.args_opened (callee_view c)
+expr_state_view (n.DotRead e) = x.dot_read (expr_view e.first) (map method_call_view e.calls.items)
+expr_state_view (n.MethodRead e n) = x.method_read (expr_view e.first) (map method_call_view e.calls.items) n.name n.line
+expr_state_view (n.CallsRead e) = x.calls_read (expr_view e.first) (map method_call_view e.calls.items)
+
+abbrev pub expr_step_view : ExprStep → x.ExprStep
+expr_step_view r.Refused = x.refused
+expr_step_view (r.Keeps state fs) = x.keeps (expr_state_view state) (frames_view fs.items)
+expr_step_view (r.Leaves e) = x.leaves (expr_view e)
+
+-- The code makes this step, unless memory runs out.
+abbrev pub Makes : Result ExprStep OutOfMemory → x.ExprStep → Type 0
+Makes result step = IfOk result (λ made. expr_step_view made ≡ step)
+
+abbrev pub closing_view : Closing → x.Closing
+closing_view g.Refused = x.no_closing
+closing_view (g.Taken state) = x.taken (expr_state_view state)
+closing_view (g.Reopened f) = x.reopened (frame_view f)
+closing_view (g.Closed k e) = x.closed k (expr_view e)
+
+-- the same of what a token does to a frame
+abbrev pub Closes : Result Closing OutOfMemory → x.Closing → Type 0
+Closes result closing = IfOk result (λ made. closing_view made ≡ closing)

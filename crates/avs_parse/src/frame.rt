@@ -1,0 +1,137 @@
+// What is open in an expression, and what was read of it last.
+ghost use Rattle.std.specs.Prelude.{◌≡◌};
+ghost use Rattle.avs_place.specs.ExprMachine as machine;
+ghost use Rattle.avs_parse.specs.ExprViews.{frame_view};
+ghost use Rattle.avs_parse.specs.Open.{opens};
+
+use avs_tree::{Arg, Expr, MethodCall, Operator, Step};
+use fv_io::Text;
+
+/// The precedence of a literal, a name, a call or a group.
+pub const PRIMARY: u8 = 0;
+/// The precedence of an expression with method calls.
+pub const POSTFIX: u8 = 1;
+/// The precedence of an expression with `-` or `!` before it.
+pub const UNARY: u8 = 2;
+
+pub const COMPARISON: u8 = 5;
+/// The precedence of a conditional, and so of any expression.
+pub const EXPRESSION: u8 = 8;
+
+/// A name and its line.
+#[derive(Drop)]
+pub struct Named {
+    pub name: Text,
+    pub line: u32,
+}
+
+/// An operator and its line.
+#[derive(Clone, Copy)]
+pub struct OperatorAt {
+    pub op: Operator,
+    pub line: u32,
+}
+
+/// `e.f(..).g`: an expression and the method calls after it.
+#[derive(Drop)]
+pub struct Receiver {
+    pub first: Expr,
+    pub calls: Vec<MethodCall>,
+}
+
+/// What arguments belong to.
+#[derive(Drop)]
+pub enum Callee {
+    /// `f`
+    Call(Named),
+    /// `e.f`
+    Method(Receiver, Named),
+}
+
+/// What is open, with the lines of operators. An expression comes next in it.
+#[derive(Drop)]
+pub enum Frame {
+    /// `(`
+    Paren,
+    /// `f(a, b,` or `f(a, b, name =`
+    Argument(Callee, Vec<Arg>, Option<Text>),
+    /// `-`
+    Minus(u32),
+    /// `!`
+    Not(u32),
+    /// `a + b -`
+    Chain(Expr, Vec<Step>, OperatorAt),
+    /// `a <`
+    Compare(Expr, OperatorAt),
+    /// `c ?`
+    Yes(Expr, u32),
+    /// `c ? a :`
+    No(Expr, Expr, u32),
+}
+
+/// What was read last of an expression.
+#[derive(Drop)]
+pub enum ExprState {
+    /// Nothing, or what opened the innermost frame.
+    OperandNext,
+    /// An expression of this precedence.
+    ValueRead(u8, Expr),
+    /// `f`
+    NameRead(Named),
+    /// `f(` or `e.f(`
+    ArgsOpened(Callee),
+    /// `e.`
+    DotRead(Receiver),
+    /// `e.f`
+    MethodRead(Receiver, Named),
+    /// `e.f(..)`
+    CallsRead(Receiver),
+}
+
+/// What a token does to an expression.
+#[derive(Drop)]
+pub enum ExprStep {
+    /// The token cannot stand there.
+    Refused,
+    /// It is taken.
+    Keeps(ExprState, Vec<Frame>),
+    /// The expression ends before it.
+    Leaves(Expr),
+}
+
+/// What a token does to the innermost frame, after an expression in it.
+#[derive(Drop)]
+pub enum Closing {
+    /// The token cannot stand there.
+    Refused,
+    /// It closes the frame.
+    Taken(ExprState),
+    /// Another frame stands in the place of this one.
+    Reopened(Frame),
+    /// The frame ends before it, as an expression of this precedence.
+    Closed(u8, Expr),
+}
+
+impl Frame {
+    /// The highest precedence of what comes next in the frame.
+    pub fn hole(&self) -> u8
+        ensures { result ≡ machine.hole_of (frame_view self.now) }
+    {
+        match self {
+            Frame::Minus(_) | Frame::Not(_) => UNARY,
+            Frame::Chain(_, _, last) => last.op.precedence() - 1,
+            Frame::Compare(_, _) => COMPARISON - 1,
+            _ => EXPRESSION,
+        }
+    }
+
+    /// How many levels of nesting the frame opens.
+    pub fn opens(&self) -> usize
+        ensures { result ≡ opens self.now }
+    {
+        match self {
+            Frame::Chain(_, _, _) | Frame::Compare(_, _) => 0,
+            _ => 1,
+        }
+    }
+}

@@ -1,0 +1,189 @@
+// What a token does to the head of a function.
+ghost use Rattle.std.specs.Prelude.{◌≡◌, [], Some};
+ghost use Rattle.avs_tree.specs.Words.{type_word_of};
+ghost use Rattle.avs_place.specs.Machine as machine;
+ghost use Rattle.avs_parse.specs.ScriptViews.{Steps, head_state_view, outer, step_view};
+ghost use Rattle.avs_parse.specs.Seen.{seen};
+
+use crate::block::goes;
+use crate::fault::Outcome;
+use crate::state::{
+    Around, HeadState, Levels, OpenFunction, ScriptStep, Signature, State, StatementState,
+};
+use crate::turn::Turn;
+use avs_tree::{Parameter, Punctuation, Symbol, TypeWord, is_name, type_word};
+use fv_io::Text;
+use std::alloc::Global;
+
+// The head goes on with this.
+fn head_goes(here: HeadState, around: Around) -> ScriptStep
+    ensures { step_view result ≡ machine.goes (outer around (machine.at_head (head_state_view here))) }
+{
+    ScriptStep::Goes(State::Head(here, around))
+}
+
+// The name of the function.
+fn function_name(around: Around, turn: Turn<'_>) -> Outcome<ScriptStep>
+    ensures { Steps result (outer around (machine.advance_head machine.after_function) (seen turn.entry)) }
+{
+    match turn.symbol {
+        Symbol::Name => {
+            let name = Text::from_str(turn.alloc, turn.content)?;
+            Ok(head_goes(HeadState::AfterName(name), around))
+        }
+        _ => Ok(ScriptStep::Refused),
+    }
+}
+
+// The parenthesis after the name.
+fn parenthesis(name: Text, around: Around, turn: Turn<'_>) -> ScriptStep
+    ensures { step_view result ≡ outer around (machine.advance_head (machine.after_function_name name)) (seen turn.entry) }
+{
+    if !turn.is(Punctuation::LeftParen) {
+        return ScriptStep::Refused;
+    }
+    head_goes(HeadState::Opened(name), around)
+}
+
+// The type of a parameter.
+fn parameter_type(signature: Signature, must: bool, around: Around, turn: Turn<'_>) -> ScriptStep
+    ensures { step_view result ≡ outer around (machine.type_by (Some turn.entry.symbol)
+        (type_word_of turn.entry.content.now) signature.name signature.params.items must) }
+{
+    match (turn.symbol, type_word(turn.content)) {
+        (Symbol::Name, Some(word)) => head_goes(
+            HeadState::AfterType(signature, must, word),
+            around,
+        ),
+        _ => ScriptStep::Refused,
+    }
+}
+
+// After the left parenthesis: a right one, or the first parameter.
+fn first_parameter(name: Text, around: Around, turn: Turn<'_>) -> ScriptStep
+    ensures { step_view result ≡ outer around (machine.advance_head (machine.head_opened name)) (seen turn.entry) }
+{
+    let params = Vec::new(turn.alloc);
+    let signature = Signature { name, params };
+    if turn.is(Punctuation::RightParen) {
+        return head_goes(HeadState::BracesNext(signature), around);
+    }
+    parameter_type(signature, false, around, turn)
+}
+
+// After the name of a parameter.
+fn parameter(
+    mut signature: Signature,
+    word: TypeWord,
+    optional: bool,
+    around: Around,
+    turn: Turn<'_>,
+) -> Outcome<ScriptStep>
+    ensures { Steps result (machine.goes (outer around (machine.at_head (machine.after_parameter signature.name
+        (machine.with_parameter signature.params.items word optional turn.entry.content.now) optional)))) }
+{
+    let name = Text::from_str(turn.alloc, turn.content)?;
+    signature.params.push(Parameter {
+        name,
+        word,
+        optional,
+    })?;
+    Ok(head_goes(HeadState::AfterParameter(signature, optional), around))
+}
+
+// The name of a parameter, or a string that is one where it is optional.
+fn parameter_name(
+    signature: Signature,
+    must: bool,
+    word: TypeWord,
+    around: Around,
+    turn: Turn<'_>,
+) -> Outcome<ScriptStep>
+    ensures { Steps result (outer around (machine.parameter_by (Some turn.entry.symbol) turn.entry.content.now
+        signature.name signature.params.items must word)) }
+{
+    match turn.symbol {
+        Symbol::Name if !must => parameter(signature, word, false, around, turn),
+        Symbol::Str if is_name(turn.content) => parameter(signature, word, true, around, turn),
+        _ => Ok(ScriptStep::Refused),
+    }
+}
+
+// After a parameter: a comma or the right parenthesis.
+fn after_parameter(signature: Signature, must: bool, around: Around, turn: Turn<'_>) -> ScriptStep
+    ensures { step_view result ≡ outer around
+        (machine.advance_head (machine.after_parameter signature.name signature.params.items must)) (seen turn.entry) }
+{
+    if turn.is(Punctuation::Comma) {
+        return head_goes(HeadState::ParameterNext(signature, must), around);
+    }
+    if turn.is(Punctuation::RightParen) {
+        return head_goes(HeadState::BracesNext(signature), around);
+    }
+    ScriptStep::Refused
+}
+
+// After the left brace.
+#[tactic(auto, using(crate::proofs::LevelLemmas::of_levels))]
+fn open(alloc: Global, signature: Signature, around: Around) -> ScriptStep
+    ensures { step_view result ≡ machine.goes (machine.at machine.statement_next around.line []
+        (outer around (machine.in_function signature.name signature.params.items))) }
+{
+    let Around {
+        line,
+        before,
+        levels,
+    } = around;
+    let function = Some(OpenFunction {
+        signature,
+        line,
+        before,
+    });
+    let levels = Levels {
+        inner: Vec::new(alloc),
+        function,
+        functions: levels.functions,
+    };
+    let before = Vec::new(alloc);
+    let inside = Around {
+        line,
+        before,
+        levels,
+    };
+    goes(StatementState::StatementNext, inside)
+}
+
+// Newlines and the left brace.
+fn body(signature: Signature, around: Around, turn: Turn<'_>) -> ScriptStep
+    ensures { step_view result ≡ outer around
+        (machine.function_body_by (Some turn.entry.symbol) signature.name signature.params.items) }
+{
+    match turn.symbol {
+        Symbol::Punctuation(Punctuation::Newline) => {
+            head_goes(HeadState::BracesNext(signature), around)
+        }
+        Symbol::Punctuation(Punctuation::LeftBrace) => open(turn.alloc, signature, around),
+        _ => ScriptStep::Refused,
+    }
+}
+
+/// What the token does to the head of a function.
+pub fn advance_head(here: HeadState, around: Around, turn: Turn<'_>) -> Outcome<ScriptStep>
+    ensures { Steps result (outer around (machine.advance_head (head_state_view here)) (seen turn.entry)) }
+{
+    match here {
+        HeadState::AfterFunction => function_name(around, turn),
+        HeadState::AfterName(name) => Ok(parenthesis(name, around, turn)),
+        HeadState::Opened(name) => Ok(first_parameter(name, around, turn)),
+        HeadState::AfterType(signature, must, word) => {
+            parameter_name(signature, must, word, around, turn)
+        }
+        HeadState::AfterParameter(signature, must) => {
+            Ok(after_parameter(signature, must, around, turn))
+        }
+        HeadState::ParameterNext(signature, must) => {
+            Ok(parameter_type(signature, must, around, turn))
+        }
+        HeadState::BracesNext(signature) => Ok(body(signature, around, turn)),
+    }
+}

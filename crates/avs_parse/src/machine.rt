@@ -1,0 +1,97 @@
+// The machine over tokens.
+ghost use Rattle.std.specs.Prelude.{◌≡◌, All, IfOk};
+ghost use Rattle.avs_lex.specs.TokenList.{IsTokenOf};
+ghost use Rattle.avs_tree.specs.Lexeme.{lexemes};
+ghost use Rattle.avs_tree.specs.View.{script_view};
+ghost use Rattle.avs_place.specs.Machine as machine;
+ghost use Rattle.avs_place.specs.Place.{verdict, alone};
+ghost use Rattle.avs_parse.specs.ScriptViews.{Steps, state_view};
+ghost use Rattle.avs_parse.specs.VerdictView.{verdict_view};
+ghost use Rattle.avs_parse.specs.Seen.{seen};
+
+use crate::fault::Outcome;
+use crate::head::advance_head;
+use crate::state::{Around, Levels, ScriptStep, State, StatementState};
+use crate::statement::advance_statement;
+use crate::turn::Turn;
+use avs_lex::Token;
+use avs_tree::Script;
+use std::alloc::Global;
+
+/// How many levels of parentheses, braces and the like may be open at once.
+pub const NESTING_LIMIT: usize = 32;
+
+/// What the machine answers of tokens.
+#[derive(Drop)]
+pub enum Verdict {
+    /// They are a script.
+    Accepts(Script),
+    /// One of them is refused. So many are left from it on.
+    Stops(usize),
+    /// One of them nests too deep. So many are left from it on.
+    TooDeep(usize),
+}
+
+// Nothing was read.
+#[tactic(auto, using(crate::proofs::LevelLemmas::of_levels))]
+fn start(alloc: Global) -> State
+    ensures { state_view result ≡ machine.start }
+{
+    let levels = Levels {
+        inner: Vec::new(alloc),
+        function: None,
+        functions: Vec::new(alloc),
+    };
+    let around = Around {
+        line: 0,
+        before: Vec::new(alloc),
+        levels,
+    };
+    State::Statement(StatementState::StatementNext, around)
+}
+
+// One token.
+fn advance(state: State, turn: Turn<'_>) -> Outcome<ScriptStep>
+    ensures { Steps result (machine.advance (state_view state) (seen turn.entry)) }
+{
+    match state {
+        State::Statement(here, around) => advance_statement(here, around, turn),
+        State::Head(here, around) => advance_head(here, around, turn),
+    }
+}
+
+// A whole script, with these tokens after its end.
+fn alone(script: Script, text: &str, after: &[Token]) -> Verdict
+    ensures { verdict_view result ≡ alone (script_view script) (lexemes text.now after.now) }
+{
+    if after.is_empty() {
+        Verdict::Accepts(script)
+    } else {
+        Verdict::Stops(after.len())
+    }
+}
+
+/// The verdict on tokens.
+#[tactic(auto, unfolding(avs_place::specs::Place::verdict))]
+pub fn run(alloc: Global, text: &str, tokens: &[Token]) -> Outcome<Verdict>
+    requires { All (IsTokenOf text.now) tokens.now }
+    ensures { IfOk result (λ made. verdict_view made ≡ verdict (lexemes text.now tokens.now)) }
+{
+    let mut state = start(alloc);
+    let mut rest = tokens;
+    while let [token, after @ ..] = rest {
+        match advance(state, Turn::new(alloc, text, token))? {
+            ScriptStep::Refused => return Ok(Verdict::Stops(rest.len())),
+            ScriptStep::Whole(script) => return Ok(alone(script, text, after)),
+            ScriptStep::Goes(next) => {
+                if next.is_deeper(NESTING_LIMIT) {
+                    return Ok(Verdict::TooDeep(rest.len()));
+                }
+                state = next;
+                rest = after;
+                continue;
+            }
+        }
+    }
+    Ok(Verdict::Stops(0))
+}

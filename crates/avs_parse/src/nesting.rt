@@ -1,0 +1,104 @@
+// How many levels of nesting are open.
+ghost use Rattle.std.specs.Prelude.{◌≡◌, ◌<◌, ◌≤◌, ◌^◌, nat_lt};
+ghost use Rattle.avs_place.specs.Machine as machine;
+ghost use Rattle.avs_place.specs.Nesting.{frames_level, expr_level, use_level, statement_level, head_level, level_of};
+ghost use Rattle.avs_parse.specs.ExprViews.{frames_view, expr_state_view};
+ghost use Rattle.avs_parse.specs.ScriptViews.{levels_view, statement_state_view, head_state_view, state_view, use_view};
+
+use crate::frame::{ExprState, Frame};
+use crate::state::{HeadState, Levels, State, StatementState, Use};
+
+impl Levels {
+    /// How many braces are open.
+    #[tactic(auto, using(crate::proofs::LevelLemmas::depth_within))]
+    pub fn depth(&self) -> usize
+        ensures { result ≡ machine.depth (levels_view self.now) }
+    {
+        let outermost = match self.function {
+            Some(_) => 1,
+            None => 0,
+        };
+        self.inner.len() + outermost
+    }
+}
+
+// How many of the frames are levels.
+fn frames_level(frames: &[Frame]) -> usize
+    ensures level { result ≡ frames_level (frames_view frames.now) }
+    ensures few { result < 2 ^ 63 }
+{
+    let mut open = 0;
+    for frame in frames {
+        open += frame.opens();
+    }
+    open
+}
+
+impl ExprState {
+    // The parenthesis of arguments, where it was read last.
+    fn level(&self) -> usize
+        ensures level { result ≡ expr_level (expr_state_view self.now) }
+        ensures few { result ≤ 1 }
+    {
+        match self {
+            ExprState::ArgsOpened(_) => 1,
+            _ => 0,
+        }
+    }
+}
+
+impl Use {
+    // The parenthesis around the expression.
+    fn level(&self) -> usize
+        ensures level { result ≡ use_level (use_view self.now) }
+        ensures few { result ≤ 1 }
+    {
+        match self {
+            Use::Value | Use::Global(_) | Use::Assign(_) | Use::Return => 0,
+            _ => 1,
+        }
+    }
+}
+
+impl StatementState {
+    // What is open in the statement, but for braces.
+    fn level(&self) -> usize
+        ensures { result ≡ statement_level (statement_state_view self.now) }
+    {
+        match self {
+            StatementState::InExpression(purpose, state, frames) => {
+                purpose.level() + (state.level() + frames_level(frames))
+            }
+            StatementState::ForOpened | StatementState::AfterForName(_) => 1,
+            _ => 0,
+        }
+    }
+}
+
+impl HeadState {
+    // The parenthesis of the parameters.
+    fn level(&self) -> usize
+        ensures { result ≡ head_level (head_state_view self.now) }
+    {
+        match self {
+            HeadState::AfterFunction | HeadState::AfterName(_) | HeadState::BracesNext(_) => 0,
+            _ => 1,
+        }
+    }
+}
+
+impl State {
+    /// Whether more levels are open than this.
+    #[tactic(auto, using(std::proofs::lemmas::Bool::Decides::nat_tests))]
+    pub fn is_deeper(&self, limit: usize) -> bool
+        ensures { result ≡ nat_lt limit (level_of (state_view self.now)) }
+    {
+        match self {
+            State::Statement(here, around) => {
+                let braces = around.levels.depth();
+                braces > limit || here.level() > limit - braces
+            }
+            State::Head(here, _) => here.level() > limit,
+        }
+    }
+}
