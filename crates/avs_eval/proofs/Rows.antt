@@ -6,7 +6,7 @@ use Rattle.avs_tree.specs.View.{expr_view, args_of, method_calls_of, method_call
 use Rattle.avs_tree.specs.declared.tree.Arg.{Arg}
 use Rattle.avs_tree.specs.declared.tree.Arm.{Arm, out-Arm}
 use Rattle.avs_tree.specs.declared.tree.Expr.{the_lemmas}
-use Rattle.avs_tree.specs.declared.tree.MethodCall.{MethodCall}
+use Rattle.avs_tree.specs.declared.tree.DotCall.{DotCall}
 use Rattle.avs_tree.specs.declared.tree.Statement.{Statement}
 use Rattle.avs_tree.specs.declared.tree.StatementKind.{the_lemmas as statement_lemmas}
 use Rattle.avs_tree.specs.declared.tree.Step.{Step}
@@ -55,7 +55,7 @@ module _ (clips : Text → Result Info InputFault) (scripts : Text → Result Te
   calls_one x (Some args) line rest v s = sym (then_pure _ (r.calls_from clips scripts n here rest))
 
   -- one more method call
-  pub calls_more : (xs : List MethodCall) (i : ℕ) (x : MethodCall) (v : Value) (s : State) → i < length xs → x ≡ get_or xs i x
+  pub calls_more : (xs : List DotCall) (i : ℕ) (x : DotCall) (v : Value) (s : State) → i < length xs → x ≡ get_or xs i x
       → r.calls_from clips scripts n here (method_calls_of (map method_call_view (drop i xs))) v s
       ≡ and_then (r.calls_from clips scripts n here (method_calls_of (method_call_view x ∷ [])) v s)
       (r.calls_from clips scripts n here (method_calls_of (map method_call_view (drop (i + 1) xs))))
@@ -65,7 +65,7 @@ module _ (clips : Text → Result Info InputFault) (scripts : Text → Result Te
       ∙ calls_one d.0 d.1.0 d.1.1 (method_calls_of (map method_call_view (drop (i + 1) xs))) v s
 
   -- where one method call fails, all do
-  pub calls_fail : (xs : List MethodCall) (i : ℕ) (x : MethodCall) (v : Value) (s : State) (whole : Outcome Value) (stop : ScriptStop)
+  pub calls_fail : (xs : List DotCall) (i : ℕ) (x : DotCall) (v : Value) (s : State) (whole : Outcome Value) (stop : ScriptStop)
       → i < length xs → x ≡ get_or xs i x → r.calls_from clips scripts n here (method_calls_of (map method_call_view (drop i xs))) v s ≡ whole
       → Fails (r.calls_from clips scripts n here (method_calls_of (method_call_view x ∷ [])) v s) stop → Fails whole stop
   calls_fail xs i x v s whole stop h is same failed =

@@ -10,7 +10,7 @@ use crate::walker::Walker;
 use avs_calls::{combined, compared, prefixed, truth};
 use avs_meaning::{ScriptStop, Table};
 use avs_state::{Host, Machine};
-use avs_tree::{Arg, Expr, MethodCall, Operator, Statement, Step};
+use avs_tree::{Arg, DotCall, Expr, Operator, Statement, Step};
 use avs_values::{Given, UnaryOp, Value};
 use fv_io::Text;
 use std::alloc::{AllocError, Global};
@@ -48,7 +48,7 @@ impl<
             Expr::Str(text) => Ok(Value::Text(Text::from_str(self.alloc, text.as_str())?)),
             Expr::Name { name, line } => self.named(machine, host, name, *line),
             Expr::Call { name, args, line } => self.call(machine, host, name, args, *line),
-            Expr::MethodCalls { first, calls } => {
+            Expr::Dots { first, calls } => {
                 let value = self.value_of(machine, host, first)?;
                 self.calls_from(machine, host, calls, value)
             }
@@ -80,7 +80,7 @@ impl<
                 let b = self.value_of(machine, host, right)?;
                 compared(self.alloc, *op, &a, &b, self.script_name, *line)
             }
-            Expr::Conditional {
+            Expr::Pick {
                 condition,
                 yes,
                 no,
@@ -150,7 +150,7 @@ impl<
         &self,
         machine: &mut Machine,
         host: &mut H,
-        calls: &[MethodCall],
+        calls: &[DotCall],
         first: Value,
     ) -> Result<Value, ScriptStop>
         requires deeper { Deeper H.Host self.now.depth F.Fn self.now.run }
@@ -170,7 +170,7 @@ impl<
         &self,
         machine: &mut Machine,
         host: &mut H,
-        call: &MethodCall,
+        call: &DotCall,
         first: Value,
     ) -> Result<Value, ScriptStop>
         requires deeper { Deeper H.Host self.now.depth F.Fn self.now.run }

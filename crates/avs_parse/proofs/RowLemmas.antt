@@ -3,7 +3,7 @@ use Rattle.std.proofs.Common.{◌≡◌, refl, ap, List, [], ◌∷◌, ◌++◌
 use Rattle.avs_tree.specs.View.{arg_view, step_view, method_call_view, arm_view, statement_view, function_view}
 use Rattle.avs_tree.specs.declared.tree.Arg.{Arg}
 use Rattle.avs_tree.specs.declared.tree.Step.{Step}
-use Rattle.avs_tree.specs.declared.tree.MethodCall.{MethodCall}
+use Rattle.avs_tree.specs.declared.tree.DotCall.{DotCall}
 use Rattle.avs_tree.specs.declared.tree.Arm.{Arm}
 use Rattle.avs_tree.specs.declared.tree.Statement.{Statement}
 use Rattle.avs_tree.specs.declared.tree.Function.{Function}
@@ -18,7 +18,7 @@ args_push = map_push arg_view
 pub steps_push : (xs : List Step) (x : Step) → map step_view (xs ++ x ∷ []) ≡ map step_view xs ++ step_view x ∷ []
 steps_push = map_push step_view
 
-pub calls_push : (xs : List MethodCall) (x : MethodCall) → map method_call_view (xs ++ x ∷ []) ≡ map method_call_view xs ++ method_call_view x ∷ []
+pub calls_push : (xs : List DotCall) (x : DotCall) → map method_call_view (xs ++ x ∷ []) ≡ map method_call_view xs ++ method_call_view x ∷ []
 calls_push = map_push method_call_view
 
 pub arms_push : (xs : List Arm) (x : Arm) → map arm_view (xs ++ x ∷ []) ≡ map arm_view xs ++ arm_view x ∷ []

@@ -11,7 +11,7 @@ use crate::frame::{
     COMPARISON, Callee, Closing, EXPRESSION, ExprState, Frame, Named, OperatorAt, PRIMARY, UNARY,
 };
 use crate::turn::Turn;
-use avs_tree::{Arg, Expr, MethodCall, Punctuation, Step};
+use avs_tree::{Arg, DotCall, Expr, Punctuation, Step};
 use fv_io::Text;
 use std::alloc::Global;
 
@@ -29,7 +29,7 @@ pub fn called(callee: Callee, args: Vec<Arg>) -> Outcome<ExprState>
         Callee::Method(mut receiver, called) => {
             let Named { name, line } = called;
             let args = Some(args);
-            receiver.calls.push(MethodCall { name, args, line })?;
+            receiver.calls.push(DotCall { name, args, line })?;
             Ok(ExprState::CallsRead(receiver))
         }
     }
@@ -168,7 +168,7 @@ fn close_conditional(
     let no = Box::new(alloc, no)?;
     Ok(Closing::Closed(
         EXPRESSION,
-        Expr::Conditional {
+        Expr::Pick {
             condition,
             yes,
             no,

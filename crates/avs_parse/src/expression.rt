@@ -13,7 +13,7 @@ use crate::frame::{
     POSTFIX, PRIMARY, Receiver,
 };
 use crate::turn::Turn;
-use avs_tree::{Expr, Keyword, MethodCall, Operator, Punctuation, Symbol};
+use avs_tree::{DotCall, Expr, Keyword, Operator, Punctuation, Symbol};
 use fv_io::Text;
 use std::alloc::Global;
 
@@ -174,7 +174,7 @@ fn after_calls(receiver: Receiver, frames: Vec<Frame>, turn: Turn<'_>) -> Outcom
     }
     let Receiver { first, calls } = receiver;
     let first = Box::new(turn.alloc, first)?;
-    after(POSTFIX, Expr::MethodCalls { first, calls }, frames, turn)
+    after(POSTFIX, Expr::Dots { first, calls }, frames, turn)
 }
 
 // After the name of a method.
@@ -194,7 +194,7 @@ fn after_method(
     }
     let Named { name, line } = method;
     let args = None;
-    receiver.calls.push(MethodCall { name, args, line })?;
+    receiver.calls.push(DotCall { name, args, line })?;
     after_calls(receiver, frames, turn)
 }
 

@@ -4,7 +4,7 @@ ghost use Rattle.avs_place.specs.ExprMachine as machine;
 ghost use Rattle.avs_parse.specs.ExprViews.{frame_view};
 ghost use Rattle.avs_parse.specs.Open.{opens};
 
-use avs_tree::{Arg, Expr, MethodCall, Operator, Step};
+use avs_tree::{Arg, DotCall, Expr, Operator, Step};
 use fv_io::Text;
 
 /// The precedence of a literal, a name, a call or a group.
@@ -36,7 +36,7 @@ pub struct OperatorAt {
 #[derive(Drop)]
 pub struct Receiver {
     pub first: Expr,
-    pub calls: Vec<MethodCall>,
+    pub calls: Vec<DotCall>,
 }
 
 /// What arguments belong to.

@@ -22,8 +22,8 @@ mod statement;
 mod turn;
 
 pub use avs_tree::{
-    Arg, Arm, Expr, Function, MethodCall, Operator, Parameter, Script, Statement, StatementKind,
-    Step, TypeWord,
+    Arg, Arm, DotCall, Expr, Function, Operator, Parameter, Script, Statement, StatementKind, Step,
+    TypeWord,
 };
 pub use fault::{LoadFault, ParseError};
 pub use loader::{Loaded, load};

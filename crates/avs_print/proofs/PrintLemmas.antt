@@ -18,7 +18,7 @@ use Rattle.avs_tree.specs.declared.words.Keyword.TheVariants as reserved
 use Rattle.avs_tree.specs.declared.tree.Parameter.{Parameter}
 use Rattle.avs_tree.specs.declared.tree.Function.{Function as Code}
 use Rattle.avs_tree.specs.declared.tree.Arg.{Arg}
-use Rattle.avs_tree.specs.declared.tree.MethodCall.{MethodCall}
+use Rattle.avs_tree.specs.declared.tree.DotCall.{DotCall}
 use Rattle.avs_tree.specs.declared.tree.Step.{Step}
 
 pub written_both : (a b : List Word) → written (a ++ b) ≡ written a ++ written b
@@ -32,7 +32,7 @@ rest_more view xs i x h is = rw (add-one, drop-cons xs i x) (ap (λ z. view z �
 pub args_more : (xs : List Arg) (i : ℕ) (x : Arg) → i < length xs → x ≡ get_or xs i x → args_of (map arg_view (drop i xs)) ≡ args_of (arg_view x ∷ map arg_view (drop (i + 1) xs))
 args_more xs i x h is = ap args_of (rest_more arg_view xs i x h is)
 
-pub method_calls_more : (xs : List MethodCall) (i : ℕ) (x : MethodCall) → i < length xs → x ≡ get_or xs i x → method_calls_of (map method_call_view (drop i xs)) ≡ method_calls_of (method_call_view x ∷ map method_call_view (drop (i + 1) xs))
+pub method_calls_more : (xs : List DotCall) (i : ℕ) (x : DotCall) → i < length xs → x ≡ get_or xs i x → method_calls_of (map method_call_view (drop i xs)) ≡ method_calls_of (method_call_view x ∷ map method_call_view (drop (i + 1) xs))
 method_calls_more xs i x h is = ap method_calls_of (rest_more method_call_view xs i x h is)
 
 pub steps_more : (xs : List Step) (i : ℕ) (x : Step) → i < length xs → x ≡ get_or xs i x → steps_of (map step_view (drop i xs)) ≡ steps_of (step_view x ∷ map step_view (drop (i + 1) xs))
@@ -47,7 +47,7 @@ method_calls_split : (d : MethodCallIs) (ds : List MethodCallIs) → method_call
 method_calls_split d ds = method_calls_one d.0 d.1.0 d.1.1 (method_calls_of ds)
 
 -- one more turn of the loop over calls
-pub calls_step : (xs : List MethodCall) (i : ℕ) (x : MethodCall) (old new whole : List ℕ) → i < length xs → x ≡ get_or xs i x → old ++ written (method_calls_words (method_calls_of (map method_call_view (drop i xs)))) ≡ whole
+pub calls_step : (xs : List DotCall) (i : ℕ) (x : DotCall) (old new whole : List ℕ) → i < length xs → x ≡ get_or xs i x → old ++ written (method_calls_words (method_calls_of (map method_call_view (drop i xs)))) ≡ whole
     → new ≡ old ++ written (method_calls_words (method_calls_of (method_call_view x ∷ []))) → new ++ written (method_calls_words (method_calls_of (map method_call_view (drop (i + 1) xs)))) ≡ whole
 calls_step xs i x old new whole h item before is =
     let one = method_calls_words (method_calls_of (method_call_view x ∷ [])) in

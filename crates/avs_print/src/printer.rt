@@ -11,7 +11,7 @@ ghost use Rattle.avs_tree.specs.Tree.{else_};
 ghost use Rattle.avs_tree.specs.View.{expr_view, arg_view, method_call_view, step_view, args_of, method_calls_of, steps_of, kind_view, arm_view, statement_view, arms_of, block_view, function_view, script_view};
 
 use avs_tree::{
-    Arg, Arm, Expr, Function, Keyword, MethodCall, Operator, Parameter, Script, Statement,
+    Arg, Arm, DotCall, Expr, Function, Keyword, Operator, Parameter, Script, Statement,
     StatementKind, Step,
 };
 use fv_io::Text;
@@ -187,7 +187,7 @@ impl Printer {
                 self.put(name.as_str())?;
                 self.args(args)
             }
-            Expr::MethodCalls { first, calls } => {
+            Expr::Dots { first, calls } => {
                 self.expr(first)?;
                 self.calls(calls)
             }
@@ -206,7 +206,7 @@ impl Printer {
                 self.expr(left)?;
                 self.signed(operator_text(*op), right)
             }
-            Expr::Conditional {
+            Expr::Pick {
                 condition,
                 yes,
                 no,
@@ -271,7 +271,7 @@ impl Printer {
 
     #[cycle(print_expression)]
     #[tactic(auto, using(crate::proofs::PrintLemmas::putting))]
-    fn call(&mut self, call: &MethodCall) -> Result<(), AllocError>
+    fn call(&mut self, call: &DotCall) -> Result<(), AllocError>
         ensures { OnOk result
             (Appends (p.method_calls_words (method_calls_of (method_call_view call.now ∷ []))) self.old self.new) }
     {
@@ -285,7 +285,7 @@ impl Printer {
 
     #[cycle(print_expression)]
     #[tactic(auto, using(crate::proofs::PrintLemmas::putting, crate::proofs::PrintLemmas::method_calls_more, crate::proofs::PrintLemmas::method_calls_one))]
-    fn calls(&mut self, calls: &[MethodCall]) -> Result<(), AllocError>
+    fn calls(&mut self, calls: &[DotCall]) -> Result<(), AllocError>
         ensures { OnOk result
             (Appends (p.method_calls_words (method_calls_of (map method_call_view calls.now))) self.old self.new) }
     {

@@ -5,9 +5,9 @@ use Rattle.avs_tree.specs.Tree as t
 use Rattle.avs_tree.specs.declared.tree.Operator.{Operator}
 use Rattle.avs_tree.specs.declared.tree.Expr.{Expr, fold-Expr}
 use Rattle.avs_tree.specs.declared.tree.Arg.{Arg, fold-Arg}
-use Rattle.avs_tree.specs.declared.tree.MethodCall.{MethodCall, fold-MethodCall}
+use Rattle.avs_tree.specs.declared.tree.DotCall.{DotCall, fold-DotCall}
 use Rattle.avs_tree.specs.declared.tree.Step.{Step, fold-Step}
-use Rattle.avs_tree.specs.declared.tree.Expr.TheOpen.{Expr-F, Arg-F, MethodCall-F, Step-F}
+use Rattle.avs_tree.specs.declared.tree.Expr.TheOpen.{Expr-F, Arg-F, DotCall-F, Step-F}
 use Rattle.avs_tree.specs.declared.tree.Statement.{Statement, fold-Statement}
 use Rattle.avs_tree.specs.declared.tree.StatementKind.{StatementKind, fold-StatementKind}
 use Rattle.avs_tree.specs.declared.tree.Arm.{Arm, fold-Arm}
@@ -48,18 +48,18 @@ expr_layer (Expr-F.Bool b) = t.bool b
 expr_layer (Expr-F.Str x) = t.str x
 expr_layer (Expr-F.Name x line) = t.name x line
 expr_layer (Expr-F.Call x es line) = t.call x (args_of es.items) line
-expr_layer (Expr-F.MethodCalls e ds) = t.method_calls e.value (method_calls_of ds.items)
+expr_layer (Expr-F.Dots e ds) = t.method_calls e.value (method_calls_of ds.items)
 expr_layer (Expr-F.Minus e line) = t.minus e.value line
 expr_layer (Expr-F.Not e line) = t.not_ e.value line
 expr_layer (Expr-F.Chain e ss) = t.chain e.value (steps_of ss.items)
 expr_layer (Expr-F.Compare op a b line) = t.compare op a.value b.value line
-expr_layer (Expr-F.Conditional c a b line) = t.conditional c.value a.value b.value line
+expr_layer (Expr-F.Pick c a b line) = t.conditional c.value a.value b.value line
 expr_layer (Expr-F.Group e) = t.group e.value
 
 abbrev pub arg_layer : Arg-F t.Expr ArgIs MethodCallIs StepIs → ArgIs
 arg_layer a = (a.name, a.value)
 
-abbrev pub method_call_layer : MethodCall-F t.Expr ArgIs MethodCallIs StepIs → MethodCallIs
+abbrev pub method_call_layer : DotCall-F t.Expr ArgIs MethodCallIs StepIs → MethodCallIs
 method_call_layer d = (d.name, (option_map (λ es. args_of es.items) d.args, d.line))
 
 abbrev pub step_layer : Step-F t.Expr ArgIs MethodCallIs StepIs → StepIs
@@ -71,8 +71,8 @@ expr_view = fold-Expr t.Expr ArgIs MethodCallIs StepIs expr_layer arg_layer meth
 abbrev pub arg_view : Arg → ArgIs
 arg_view = fold-Arg t.Expr ArgIs MethodCallIs StepIs expr_layer arg_layer method_call_layer step_layer
 
-abbrev pub method_call_view : MethodCall → MethodCallIs
-method_call_view = fold-MethodCall t.Expr ArgIs MethodCallIs StepIs expr_layer arg_layer method_call_layer step_layer
+abbrev pub method_call_view : DotCall → MethodCallIs
+method_call_view = fold-DotCall t.Expr ArgIs MethodCallIs StepIs expr_layer arg_layer method_call_layer step_layer
 
 abbrev pub step_view : Step → StepIs
 step_view = fold-Step t.Expr ArgIs MethodCallIs StepIs expr_layer arg_layer method_call_layer step_layer

@@ -11,7 +11,6 @@ mod words;
 
 pub use symbol::{Punctuation, Symbol, content, is_name, symbol_of};
 pub use tree::{
-    Arg, Arm, Expr, Function, MethodCall, Operator, Parameter, Script, Statement, StatementKind,
-    Step,
+    Arg, Arm, DotCall, Expr, Function, Operator, Parameter, Script, Statement, StatementKind, Step,
 };
 pub use words::{Keyword, TypeWord, type_word};

@@ -91,9 +91,10 @@ pub enum Expr {
         args: Vec<Arg>,
         line: u32,
     },
-    MethodCalls {
+    /// Method calls: `first.f(..).g`.
+    Dots {
         first: Box<Expr>,
-        calls: Vec<MethodCall>,
+        calls: Vec<DotCall>,
     },
     Minus {
         operand: Box<Expr>,
@@ -113,7 +114,8 @@ pub enum Expr {
         right: Box<Expr>,
         line: u32,
     },
-    Conditional {
+    /// `condition ? yes : no`
+    Pick {
         condition: Box<Expr>,
         yes: Box<Expr>,
         no: Box<Expr>,
@@ -133,7 +135,7 @@ pub struct Arg {
 /// A method call: a name after a dot, with arguments or without.
 #[cycle(expressions)]
 #[derive(Drop)]
-pub struct MethodCall {
+pub struct DotCall {
     pub name: Text,
     pub args: Option<Vec<Arg>>,
     pub line: u32,
