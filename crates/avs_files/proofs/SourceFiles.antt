@@ -21,6 +21,7 @@ use Rattle.clip_term.specs.declared.fault.FilterFault.{FilterFault}
 use Rattle.clip_term.specs.declared.filter.Filter.{Filter}
 use Rattle.clip_term.specs.declared.filter.Filter.TheVariants as f
 use Rattle.clip_term.specs.declared.op.TimeOp.TheVariants as t
+use Rattle.clip_graph.specs.declared.graph.TheConstants.Graph.{MAX_NODES, MAX_DEPTH}
 use Rattle.clip_graph.specs.Plan.{Application, infos_among, sources_in}
 use Rattle.mt_modes.specs.Modes.{is_mode, mode_in, with_setting}
 use Rattle.avs_meaning.specs.Arguments as arguments
@@ -126,7 +127,7 @@ module _ (outside : Outside) where
       let next = filters.next_application act inputs info mode s.plan in
       let more : Outcome Value = Ok (v.Clip (length s.plan), record s { plan = s.plan ++ next ∷ [] }) in
       let deep : Outcome Value = fails k.DepthLimit here line s in
-      if_keeps (nat_le filters.node_limit (length s.plan)) (fails k.NodeLimit here line s) (if nat_lt filters.depth_limit next.depth then deep else more) tt (if_keeps (nat_lt filters.depth_limit next.depth) deep more tt (more_files s.plan next are is))
+      if_keeps (nat_le MAX_NODES (length s.plan)) (fails k.NodeLimit here line s) (if nat_lt MAX_DEPTH next.depth then deep else more) tt (if_keeps (nat_lt MAX_DEPTH next.depth) deep more tt (more_files s.plan next are is))
 
   add_by_keeps : (here : Text) (r : Result Info FilterFault) (act : Act) (inputs : List ℕ) (mode line : ℕ) (s : State) → IsFile act → AreFiles s.plan → Has (filters.add_by here r act inputs mode line s)
   add_by_keeps here (Ok info) act inputs mode line s is are = add_keeps here act inputs info mode line s is are

@@ -4,12 +4,13 @@ use Rattle.std.specs.Fmt.{decimal}
 use Rattle.fv_plane.specs.declared.format.Info.{Info}
 use Rattle.clip_term.specs.Filters.{name_of}
 use Rattle.clip_graph.specs.Plan.{Application, application_at}
-use Rattle.serve_text.specs.Names.{filter_of, format_name}
+use Rattle.fv_plane.specs.FormatNames.{format_name}
+use Rattle.clip_term.specs.Ops.{filter_of}
 
 -- the size and the format of a clip, its rate and its length
 abbrev pub clip_line : Info → List ℕ
 clip_line info = codes "clip " ++ (decimal info.shape.width ++ (codes "x" ++ (decimal info.shape.height
-    ++ (codes " " ++ (format_name info.shape.kind ++ (codes " " ++ (decimal info.num ++ (codes ":" ++ (decimal info.den
+    ++ (codes " " ++ (format_name info.shape ++ (codes " " ++ (decimal info.num ++ (codes ":" ++ (decimal info.den
     ++ (codes " frames " ++ (decimal info.frames ++ codes "\n")))))))))))
 
 -- the numbers of the inputs, each after a space

@@ -1,4 +1,3 @@
-pub mod Names
 pub mod InfoText
 pub mod Report
 pub mod Counts

@@ -5,7 +5,7 @@ use Rattle.std.specs.Fmt.{decimal}
 use Rattle.std.specs.List.{count_by, sum_by, flat_map, range_with_len}
 use Rattle.clip_term.specs.Filters.{name_of}
 use Rattle.clip_graph.specs.Plan.{Application, application_at}
-use Rattle.serve_text.specs.Names.{filter_of}
+use Rattle.clip_term.specs.Ops.{filter_of}
 use Rattle.serve_events.specs.declared.event.Event.{Event}
 use Rattle.serve_events.specs.declared.event.Event.TheVariants.{Hit, Enter, Evict, Publish}
 use Rattle.serve_events.specs.Windows.{WindowEvents}

@@ -3,7 +3,6 @@ ghost use Rattle.std.specs.Prelude.{◌≡◌, ◌++◌, ◌<◌, length, OnOk, 
 ghost use Rattle.clip_graph.specs.Nodes.{application_of};
 ghost use Rattle.serve_text.specs.InfoText as t;
 
-use crate::names::{filter_of, format_name};
 use crate::text::add;
 use clip_graph::{Graph, Node};
 use fv_plane::Info;
@@ -27,7 +26,7 @@ fn add_clip(text: &mut Vec<u8>, info: &Info) -> Result<(), AllocError>
             "x",
             height.format(info.shape.height),
             " ",
-            format_name(info.shape.kind),
+            info.shape.format_name(),
             " ",
             num.format(info.num),
             ":",
@@ -54,7 +53,7 @@ fn add_inputs(text: &mut Vec<u8>, inputs: &[u32]) -> Result<(), AllocError>
 fn add_node(text: &mut Vec<u8>, i: u32, node: &Node) -> Result<(), AllocError>
     ensures { OnOk result (text.new.items ≡ text.old.items ++ t.node_line i (application_of node.now)) }
 {
-    let name = filter_of(&node.op).name();
+    let name = node.op.filter().name();
     let mut number = Buffer::new();
     let mut mode = Buffer::new();
     add(

@@ -8,7 +8,6 @@
 mod counts;
 mod info;
 mod lines;
-mod names;
 mod report;
 mod say;
 mod stop;
@@ -16,7 +15,6 @@ mod text;
 
 pub use info::info_text;
 pub use lines::put_report;
-pub use names::filter_of;
 pub use report::put_report_of;
 pub use say::{say_stop, say_usage};
 pub use stop::Stop;

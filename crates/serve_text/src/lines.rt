@@ -8,7 +8,6 @@ ghost use Rattle.serve_text.specs.Report.{report, node_line};
 ghost use Rattle.serve_text.specs.ReportLines.{lines_between};
 
 use crate::counts::{Counts, count_windows};
-use crate::filter_of;
 use arrayvec::ArrayString;
 use clip_graph::{Graph, Node};
 use fv_io::{Failed, Sink};
@@ -38,7 +37,7 @@ fn line_of(i: u32, node: &Node, counts: Counts) -> ArrayString<LINE>
     ensures { result.bytes ≡ node_line i (application_of node.now)
         counts.made counts.hit counts.evicted counts.entered }
 {
-    let name = filter_of(&node.op).name();
+    let name = node.op.filter().name();
     let mut number = Buffer::new();
     let mut made = Buffer::new();
     let mut hit = Buffer::new();

@@ -9,7 +9,8 @@ use Rattle.fv_plane.specs.declared.format.Info.{Info}
 use Rattle.seq_source.specs.FrameSource.{FrameSource, frames_of}
 use Rattle.clip_term.specs.ClipTerm.{Act, source, plain, time, space, joined, soft}
 use Rattle.clip_graph.specs.Plan.{Application, application_at, is_source, sources_in as count_sources, IsPlan, IsCounted}
-use Rattle.clip_frames.specs.Sources.{source_info, source_infos, AreSources}
+use Rattle.clip_term.specs.Ops.{source_info}
+use Rattle.clip_frames.specs.Sources.{source_infos, AreSources}
 use Rattle.inst_table.specs.declared.place.Place.{Place}
 use Rattle.inst_table.specs.declared.place.Slot.{Slot}
 use Rattle.inst_table.specs.declared.place.Slot.TheVariants.{Free, Leased}
@@ -40,19 +41,11 @@ pub record Begins {S : Type 0} (sources : List (FrameSource S)) (infos : List In
 begins : {S : Type 0} (act : Act) (sources : List (FrameSource S)) (infos : List Info) → is_source act ≡ true → map (λ (s : FrameSource S). s.index.info) sources ≡ cons_option (source_info act) infos → Begins sources infos
 begins (source name number info) [] infos is are = absurd (cc)
 begins (source name number info) (it ∷ later) infos is are = record { it = it; later = later; are = refl; rest = cc }
-begins (plain info colour) sources infos is are = absurd (cc)
-begins (time op) sources infos is are = absurd (cc)
-begins (space op) sources infos is are = absurd (cc)
-begins (joined op) sources infos is are = absurd (cc)
-begins (soft op) sources infos is are = absurd (cc)
+begins _ sources infos is are = absurd (cc)
 
 none_first : (act : Act) (infos : List Info) → is_source act ≡ false → cons_option (source_info act) infos ≡ infos
 none_first (source name number info) infos is = absurd (cc)
-none_first (plain info colour) infos is = refl
-none_first (time op) infos is = refl
-none_first (space op) infos is = refl
-none_first (joined op) infos is = refl
-none_first (soft op) infos is = refl
+none_first _ infos is = refl
 
 no_more : {S : Type 0} (sources : List (FrameSource S)) → map (λ (s : FrameSource S). s.index.info) sources ≡ [] → sources ≡ []
 no_more [] are = refl
@@ -61,11 +54,7 @@ no_more (it ∷ later) are = absurd (cc)
 -- the op of a source
 named : (act : Act) → is_source act ≡ true → (name : List ℕ) × ((number : ℕ) × ((info : Info) × (act ≡ source name number info)))
 named (source name number info) is = (name, (number, (info, refl)))
-named (plain info colour) is = absurd (cc)
-named (time op) is = absurd (cc)
-named (space op) is = absurd (cc)
-named (joined op) is = absurd (cc)
-named (soft op) is = absurd (cc)
+named _ is = absurd (cc)
 
 module _ {S : Type 0} (of : Ghosts S) (table : List (Place × Slot (Instance S))) where
   told_from : (i : ℕ) (plan : List Application) (sources : List (FrameSource S)) → map (λ (it : FrameSource S). it.index.info) sources ≡ source_infos plan

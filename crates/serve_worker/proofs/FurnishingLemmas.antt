@@ -1,6 +1,6 @@
 -- Instances that are added node after node, from the last node to the first.
 use Rattle.std.proofs.Common.{◌≡◌, ◌⊎◌, ℕ, zero, suc, ◌+◌, ◌<◌, ◌==◌, true, false, if◌then◌else◌, List, [], ◌∷◌, ◌++◌, length, take, slice_get, Option, Some, None, Result, Ok, Err, OnOk, OnErr, sym, refl, ap, ◌∙◌, subst, inl, inr, ⊎_elim, arith, append_assoc, append-nil, eq-eqb, ne_eqb, ◌≤◌}
-use Rattle.std.specs.Prelude.{is_some}
+use Rattle.std.specs.Prelude.{is_some, option_map}
 use Rattle.std.proofs.lemmas.Bool.{eqb-true}
 use Rattle.std.proofs.lemmas.List.{length-append, take_all, length-map}
 use Rattle.std.proofs.lemmas.List.Sums.{count_by_more_yes, count_by_more_no}
@@ -13,7 +13,8 @@ use Rattle.clip_term.specs.ClipTerm.{Act, source, plain, time, space, joined, so
 use Rattle.clip_term.specs.declared.op.Op.{Op}
 use Rattle.clip_term.specs.declared.op.Op.TheVariants.{Source as SourceOp, Blank, Time, Space, Join, Soft}
 use Rattle.clip_graph.specs.Plan.{Application, application_at, no_application, is_source, sources_in as count_sources, IsPlan, IsCounted}
-use Rattle.clip_frames.specs.Sources.{source_info, source_infos, AreSources}
+use Rattle.clip_term.specs.Ops.{SourcePart, source_info, source_part}
+use Rattle.clip_frames.specs.Sources.{source_infos, AreSources}
 use Rattle.clip_frames.proofs.CallerLemmas.{has_source}
 use Rattle.inst_table.specs.declared.place.Place.{Place}
 use Rattle.inst_table.specs.declared.place.Slot.{Slot}
@@ -22,7 +23,7 @@ use Rattle.inst_table.specs.Places.{place_at, shared_place, own_place, same_plac
 use Rattle.inst_table.proofs.CallerLemmas.{test, same_places, place_itself, slot_added}
 use Rattle.serve_events.specs.Keys.{mode_at}
 use Rattle.serve_core.specs.Kept.{leases_out}
-use Rattle.serve_core.specs.Sources.{opened, opened_at, HoldTheirs}
+use Rattle.serve_core.specs.Sources.{opened_at, HoldTheirs}
 use Rattle.serve_core.proofs.Places.{free_same, some_same}
 use Rattle.serve_worker.specs.declared.instance.Instance.{Instance}
 use Rattle.serve_worker.specs.declared.instance.Instance.TheVariants.{Plain, Scratch, Source}
@@ -90,11 +91,7 @@ module _ {S : Type 0} where
   -- filters keep none
   no_source : (act : Act) → source_of {S = S} (filter_instance act) ≡ []
   no_source (source name number info) = refl
-  no_source (plain info colour) = refl
-  no_source (time op) = refl
-  no_source (space op) = refl
-  no_source (joined op) = refl
-  no_source (soft op) = refl
+  no_source _ = refl
 
   -- an instance that keeps a source is one
   is_it : (x : Instance S) (info : Info) → holds_of x ≡ Some info → (it : FrameSource S) × (x ≡ Source it) × (source_of x ≡ it ∷ [])
@@ -102,13 +99,9 @@ module _ {S : Type 0} where
   is_it (Scratch width) info h = absurd (cc)
   is_it (Source it) info h = (it, refl, refl)
 
-  held_source : (act : Act) (x : Instance S) → is_source act ≡ true → holds_of x ≡ opened act → (it : FrameSource S) × (source_of x ≡ it ∷ [])
+  held_source : (act : Act) (x : Instance S) → is_source act ≡ true → holds_of x ≡ source_info act → (it : FrameSource S) × (source_of x ≡ it ∷ [])
   held_source (source name number info) x is holds = let own = is_it x info holds in (own.0, own.2)
-  held_source (plain info colour) x is holds = absurd (cc)
-  held_source (time op) x is holds = absurd (cc)
-  held_source (space op) x is holds = absurd (cc)
-  held_source (joined op) x is holds = absurd (cc)
-  held_source (soft op) x is holds = absurd (cc)
+  held_source _ x is holds = absurd (cc)
 
   is_no : (x : Instance S) → holds_of x ≡ None → source_of x ≡ []
   is_no Plain h = refl
@@ -117,20 +110,12 @@ module _ {S : Type 0} where
 
 no_held : (S : Type 0) (act : Act) → holds_of (filter_instance {S = S} act) ≡ None
 no_held S (source name number info) = refl
-no_held S (plain info colour) = refl
-no_held S (time op) = refl
-no_held S (space op) = refl
-no_held S (joined op) = refl
-no_held S (soft op) = refl
+no_held S _ = refl
 
 -- what a filter keeps
-filter_kind : (S : Type 0) (act : Act) → opened act ≡ None → IsKindOf {S = S} act (filter_instance act)
+filter_kind : (S : Type 0) (act : Act) → source_info act ≡ None → IsKindOf {S = S} act (filter_instance act)
 filter_kind S (source name number info) none = absurd (cc)
-filter_kind S (plain info colour) none = refl
-filter_kind S (time op) none = refl
-filter_kind S (space op) none = refl
-filter_kind S (joined op) none = refl
-filter_kind S (soft op) none = refl
+filter_kind S _ none = refl
 
 -- ONE FOR EACH WORKER
 
@@ -208,14 +193,11 @@ module _ {S E : Type 0} (sources left : List (FrameSource S)) (old new : List (P
   moved_leases (Ok u) m same = (moved sources left old new i m).1
   moved_leases (Err e) m same = ap leases_out same
 
-  put_source : (r : Result Unit E) (name : List ℕ) (number : ℕ) (info : Info) → EndsIn info sources → OnOk r (Moves sources left old new i) → OnOk r (Adds sources left old new (source name number info) (λ x. (shared_place i, Free x) ∷ []))
-  put_source (Ok u) name number info ends m = record { value = Source m.it; holds = ap Some (ends.info_is left m.it m.from); kind = (m.it, refl); from = m.from; to = m.to }
-  put_source (Err e) name number info ends m = tt
-
-  pub moved_adds : (r : Result Unit E) (act : Act) (name : List ℕ) (number : ℕ) (info : Info) → act ≡ source name number info → IsNext act sources → OnOk r (Moves sources left old new i) → OnOk r (Adds sources left old new act (λ x. (shared_place i, Free x) ∷ []))
-  moved_adds r act name number info is next m =
-      subst (λ a. OnOk r (Adds sources left old new a (λ x. (shared_place i, Free x) ∷ []))) (sym is)
-      (put_source r name number info (subst (λ a. IsNext a sources) is next) m)
+  pub moved_adds : (r : Result Unit E) (act : Act) (part : SourcePart) → source_part act ≡ Some part → IsNext act sources → OnOk r (Moves sources left old new i) → OnOk r (Adds sources left old new act (λ x. (shared_place i, Free x) ∷ []))
+  moved_adds (Ok u) act part is next m =
+      let ends : EndsIn part.info sources = rw is at next in
+      record { value = Source m.it; holds = ap Some (ends.info_is left m.it m.from) ∙ sym (ap (option_map (λ (p : SourcePart). p.info)) is); kind = rw is (m.it, refl); from = m.from; to = m.to }
+  moved_adds (Err e) act part is next m = tt
 
 module _ {S E : Type 0} (sources : List (FrameSource S)) (old new : List (Place × Slot (Instance S))) (p : Place) (act : Act) where
   -- a filter's instance, or nothing
@@ -229,30 +211,18 @@ module _ {S E : Type 0} (sources : List (FrameSource S)) (old new : List (Place 
 
 -- filters that were added
 put_filter : {S : Type 0} (sources : List (FrameSource S)) (old new : List (Place × Slot (Instance S))) (act : Act) (entries : Instance S → List (Place × Slot (Instance S)))
-    → opened act ≡ None → new ≡ old ++ entries (filter_instance act) → Adds sources sources old new act entries
+    → source_info act ≡ None → new ≡ old ++ entries (filter_instance act) → Adds sources sources old new act entries
 put_filter {S = S} sources old new act entries none to = record { value = filter_instance act; holds = no_held S act ∙ sym none; kind = filter_kind S act none; from = sym (ap (λ l. sources ++ l) (no_source act) ∙ append-nil sources); to = to }
 
 pub filter_adds : {S E : Type 0} (sources : List (FrameSource S)) (old new : List (Place × Slot (Instance S))) (act : Act) (entries : Instance S → List (Place × Slot (Instance S))) (r : Result Unit E)
-    → opened act ≡ None → OnOk r (new ≡ old ++ entries (filter_instance act)) → OnOk r (Adds sources sources old new act entries)
+    → source_info act ≡ None → OnOk r (new ≡ old ++ entries (filter_instance act)) → OnOk r (Adds sources sources old new act entries)
 filter_adds sources old new act entries (Ok u) none to = put_filter sources old new act entries none to
 filter_adds sources old new act entries (Err e) none to = tt
 
 -- an op that is no source
-opened_filter : (act : Act) → is_source act ≡ false → opened act ≡ None
+opened_filter : (act : Act) → is_source act ≡ false → source_info act ≡ None
 opened_filter (source name number info) is = absurd (cc)
-opened_filter (plain info colour) is = refl
-opened_filter (time op) is = refl
-opened_filter (space op) is = refl
-opened_filter (joined op) is = refl
-opened_filter (soft op) is = refl
-
-pub opened_default : (op : Op) → ((name : Text) (number : ℕ) (info : Info) → op ≡ SourceOp name number info → ⊥) → opened (act_of op) ≡ None
-opened_default (SourceOp name number info) none = absurd (none name number info refl)
-opened_default (Blank info colour) none = refl
-opened_default (Time op) none = refl
-opened_default (Space op) none = refl
-opened_default (Join op) none = refl
-opened_default (Soft op) none = refl
+opened_filter _ is = refl
 
 pub opened_none : (plan : List Application) (i : ℕ) → IsPlan plan → i < length plan → (mode_at plan i ≡ 3 → ⊥) → opened_at plan i ≡ None
 opened_none plan i is less differ = ⊎_elim
@@ -299,13 +269,13 @@ module _ {S : Type 0} (mode i workers : ℕ) (x : Instance S) where
       (λ two h. let one = own_only i x p s workers h in (one.0, one.2))
       (λ a b h. absurd (cc))
 
-pub each_adds : {S E : Type 0} (sources : List (FrameSource S)) (old new : List (Place × Slot (Instance S))) (a : Application) (i workers : ℕ) (r : Result Unit E) → a.mode ≡ 2 → opened a.act ≡ None
+pub each_adds : {S E : Type 0} (sources : List (FrameSource S)) (old new : List (Place × Slot (Instance S))) (a : Application) (i workers : ℕ) (r : Result Unit E) → a.mode ≡ 2 → source_info a.act ≡ None
     → OnOk r (new ≡ old ++ own_entries i (filter_instance a.act) workers) → OnOk r (Adds sources sources old new a.act (node_entries a.mode i workers))
 each_adds {S = S} sources old new a i workers r two none to =
     subst (λ m. OnOk r (Adds sources sources old new a.act (node_entries m i workers))) (sym two) (filter_adds sources old new a.act (λ x. own_entries i x workers) r none to)
 
 -- a node that needs no instance
-pub none_adds : {S : Type 0} (sources : List (FrameSource S)) (table : List (Place × Slot (Instance S))) (a : Application) (i workers : ℕ) → (a.mode ≡ 3 → ⊥) → (a.mode ≡ 2 → ⊥) → opened a.act ≡ None
+pub none_adds : {S : Type 0} (sources : List (FrameSource S)) (table : List (Place × Slot (Instance S))) (a : Application) (i workers : ℕ) → (a.mode ≡ 3 → ⊥) → (a.mode ≡ 2 → ⊥) → source_info a.act ≡ None
     → Adds sources sources table table a.act (node_entries a.mode i workers)
 none_adds sources table a i workers three two none = put_filter sources table table a.act (node_entries a.mode i workers) none
     (by_mode a.mode i workers (filter_instance a.act) (λ es. table ≡ table ++ es) (λ e. absurd (three e)) (λ e. absurd (two e)) (λ e f. sym (append-nil table)))
@@ -333,11 +303,7 @@ pub record FurnishedFrom {S : Type 0} (plan : List Application) (workers : ℕ) 
 -- the sources that a plan opens
 length_infos : (act : Act) (infos : List Info) → length (cons_option (source_info act) infos) ≡ (if is_source act then 1 + length infos else length infos)
 length_infos (source name number info) infos = omega arith
-length_infos (plain info colour) infos = refl
-length_infos (time op) infos = refl
-length_infos (space op) infos = refl
-length_infos (joined op) infos = refl
-length_infos (soft op) infos = refl
+length_infos _ infos = refl
 
 count_infos : (plan : List Application) → length (source_infos plan) ≡ count_sources plan
 count_infos plan = is_count_by (λ (as' : List Application). length (source_infos as')) (λ (a : Application). is_source a.act) refl (λ a later. length_infos a.act (source_infos later)) plan
@@ -391,11 +357,7 @@ module _ {S : Type 0} (plan : List Application) (workers : ℕ) (sources : List 
               let same : Some it ≡ Some own.it = sym (last_is front it e) ∙ (ap (slice_get sources) at ∙ own.there) in
               ap (λ (j : FrameSource S). j.index.info) (some_same same) ∙ own.info_is;
         }
-    next_at (plain info colour) act = tt
-    next_at (time op) act = tt
-    next_at (space op) act = tt
-    next_at (joined op) act = tt
-    next_at (soft op) act = tt
+    next_at _ act = tt
 
     pub next_is : IsNext (application_at plan i).act left
     next_is = next_at (application_at plan i).act refl
@@ -443,7 +405,7 @@ module _ {S : Type 0} (plan : List Application) (workers : ℕ) (sources : List 
       -- the source that stands here
       source_here : (number : ℕ) (name : List ℕ) (info : Info) (it : FrameSource S) → (application_at plan i).act ≡ source name number info → slice_get sources number ≡ Some it → slot_at (shared_place i) after ≡ Some (Free (Source it))
       source_here number name info it act found =
-          let own = is_it added.value info (added.holds ∙ ap opened act) in
+          let own = is_it added.value info (added.holds ∙ ap source_info act) in
           let from : left ≡ rest ++ own.0 ∷ [] = added.from ∙ ap (λ l. rest ++ l) own.2 in
           let count = one_more (ap is_source act) in
           let fewer : length left ≡ length rest + 1 = ap length from ∙ (length-append rest (own.0 ∷ [])) in

@@ -22,11 +22,7 @@ use Rattle.serve_worker.specs.Works.{IsMade}
 
 counted_mode : (act : Act) (before mode : ℕ) → is_source act ≡ true → IsCounted act before mode → mode ≡ 3
 counted_mode (source name number info) before mode is counted = counted.1
-counted_mode (plain info colour) before mode is counted = absurd (cc)
-counted_mode (time op) before mode is counted = absurd (cc)
-counted_mode (space op) before mode is counted = absurd (cc)
-counted_mode (joined op) before mode is counted = absurd (cc)
-counted_mode (soft op) before mode is counted = absurd (cc)
+counted_mode _ before mode is counted = absurd (cc)
 
 pub source_mode : (plan : List Application) (i : ℕ) → IsPlan plan → i < length plan → is_source (application_at plan i).act ≡ true → mode_at plan i ≡ 3
 source_mode plan i is less h = counted_mode (application_at plan i).act _ _ h (is.each i less).counted
@@ -75,8 +71,4 @@ module _ {I : Type 0} (feed : I → Option (List Picture)) (faults : I → ℕ) 
           let told : feed value ≡ Some (slice_index_or b number []) = fit.0 b q in
           let none : inputs ≡ [] = right b q ∙ ap (λ act. map (key_picture b plan) (map (key_of plan k.node) (asked act (infos_at plan k.node) k.n))) e in
           source_right plan k b name number info frame is less e (slice_index_or b number []) (subst (λ l. IsMade plan k (Some (slice_index_or b number [])) l frame) none (subst (λ o. IsMade plan k o inputs frame) told made)) refl
-      pick (plain info colour) e = other (ap is_source e)
-      pick (time op) e = other (ap is_source e)
-      pick (space op) e = other (ap is_source e)
-      pick (joined op) e = other (ap is_source e)
-      pick (soft op) e = other (ap is_source e)
+      pick _ e = other (ap is_source e)

@@ -108,11 +108,7 @@ module _ {I : Type 0} (holds : I → Option Info) (feed : I → Option (List Pic
 
   pub fits_more : (act : Act) (x y : I) (book : Book) (numbers : List ℕ) → feed y ≡ feed x → faults x ≤ faults y → FitsAct feed faults book numbers act x → FitsAct feed faults book numbers act y
   fits_more (source name number info) x y book numbers f g h = let low = h.1 in ((λ b q. f ∙ h.0 b q), omega arith)
-  fits_more (plain info colour) x y book numbers f g h = tt
-  fits_more (time op) x y book numbers f g h = tt
-  fits_more (space op) x y book numbers f g h = tt
-  fits_more (joined op) x y book numbers f g h = tt
-  fits_more (soft op) x y book numbers f g h = tt
+  fits_more _ x y book numbers f g h = tt
 
   -- what stays when an instance was out
   lent_stands : (c c1 e : CoreValue I) (i : ℕ) (l : Lent I) (value : I) → c.stop ≡ first_stop c.journal → Admits c 0 i (Lends l) c1 → slot_at l.place c1.table ≡ Some (Leased 0) → e ≡ left c1 0 l.place value → feed value ≡ feed l.value → faults l.value ≤ faults value
@@ -176,20 +172,12 @@ module _ {I : Type 0} (holds : I → Option Info) (feed : I → Option (List Pic
 
   pub exceeds : (act : Act) (x y : I) (book : Book) (numbers : List ℕ) → FitsAct feed faults book numbers act x → HasRisen (faults x) (faults y) → ExceedsAct feed faults book numbers act y
   exceeds (source name number info) x y book numbers fits risen = let low = fits.1 in omega arith
-  exceeds (plain info colour) x y book numbers fits risen = tt
-  exceeds (time op) x y book numbers fits risen = tt
-  exceeds (space op) x y book numbers fits risen = tt
-  exceeds (joined op) x y book numbers fits risen = tt
-  exceeds (soft op) x y book numbers fits risen = tt
+  exceeds _ x y book numbers fits risen = tt
 
   pub untold_book : (act : Act) (x : I) (book : Book) (numbers : List ℕ) → is_source act ≡ true → ((frames : List Picture) → feed x ≡ Some frames → ⊥) → FitsAct feed faults book numbers act x → book ≡ None
   untold_book (source name number info) x None numbers is untold fits = refl
   untold_book (source name number info) x (Some b) numbers is untold fits = absurd (untold (slice_index_or b number []) (fits.0 b refl))
-  untold_book (plain info colour) x book numbers is untold fits = absurd (cc)
-  untold_book (time op) x book numbers is untold fits = absurd (cc)
-  untold_book (space op) x book numbers is untold fits = absurd (cc)
-  untold_book (joined op) x book numbers is untold fits = absurd (cc)
-  untold_book (soft op) x book numbers is untold fits = absurd (cc)
+  untold_book _ x book numbers is untold fits = absurd (cc)
 
   make_stop : (c c1 e : CoreValue I) (i : ℕ) (l : Lent I) (value : I) (why : WindowStop) → Alone plan c → i < length plan → c.stop ≡ first_stop c.journal → Admits c 0 i (Lends l) c1 → e ≡ left c1 0 l.place value → feed value ≡ feed l.value → faults l.value ≤ faults value
       → MakeStops feed faults ends plan i l.value value why → StopIs holds feed faults ends plan c why e

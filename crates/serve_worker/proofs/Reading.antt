@@ -9,7 +9,8 @@ use Rattle.seq_source.specs.FrameSource.{FrameSource, frames_of}
 use Rattle.clip_term.specs.ClipTerm.{Act, source, plain, time, space, joined, soft}
 use Rattle.clip_term.specs.Terms.{check}
 use Rattle.clip_graph.specs.Plan.{Application, application_at, infos_among, is_source, IsPlan}
-use Rattle.serve_core.specs.Sources.{opened, opened_at}
+use Rattle.clip_term.specs.Ops.{source_info}
+use Rattle.serve_core.specs.Sources.{opened_at}
 use Rattle.serve_worker.specs.Works.{IsMade}
 
 -- whatever a filter's instance keeps
@@ -22,13 +23,9 @@ pub record IsOfSource (plan : List Application) (i : ℕ) (info : Info) : Type 0
   pub source : is_source (application_at plan i).act ≡ true
   pub info_is : info ≡ (application_at plan i).info
 
-opened_info : (act : Act) (infos : List Info) (info told : Info) → Some info ≡ opened act → check act infos ≡ Ok told → (is_source act ≡ true) × (info ≡ told)
+opened_info : (act : Act) (infos : List Info) (info told : Info) → Some info ≡ source_info act → check act infos ≡ Ok told → (is_source act ≡ true) × (info ≡ told)
 opened_info (source name number own) infos info told is checked = (refl, (let same : info ≡ own = cc in let ok : own ≡ told = cc in same ∙ ok))
-opened_info (plain own colour) infos info told is checked = absurd (cc)
-opened_info (time op) infos info told is checked = absurd (cc)
-opened_info (space op) infos info told is checked = absurd (cc)
-opened_info (joined op) infos info told is checked = absurd (cc)
-opened_info (soft op) infos info told is checked = absurd (cc)
+opened_info _ infos info told is checked = absurd (cc)
 
 pub of_source : (plan : List Application) (i : ℕ) (info : Info) → IsPlan plan → i < length plan → Some info ≡ opened_at plan i → IsOfSource plan i info
 of_source plan i info is less holds =

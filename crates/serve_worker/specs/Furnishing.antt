@@ -1,15 +1,16 @@
 -- The instances that the nodes of a plan need, and the sources that stand among them.
-use Rattle.std.specs.Prelude.{◌≡◌, ℕ, zero, suc, ◌+◌, ◌==◌, ◌<◌, if◌then◌else◌, List, [], ◌∷◌, ◌++◌, length, map, slice_get, Option, Some, None}
+use Rattle.std.specs.Prelude.{◌≡◌, ℕ, zero, suc, ◌+◌, ◌==◌, ◌<◌, if◌then◌else◌, List, [], ◌∷◌, ◌++◌, length, map, slice_get, Option, Some, None, IfSome, MatchOption}
 use Rattle.fv_io.specs.declared.source.Source.{Ghosts}
 use Rattle.fv_plane.specs.declared.format.Info.{Info}
 use Rattle.seq_source.specs.FrameSource.{FrameSource}
-use Rattle.clip_term.specs.ClipTerm.{Act, source, plain, time, space, joined, soft}
+use Rattle.clip_term.specs.ClipTerm.{Act, source, soft}
+use Rattle.clip_term.specs.Ops.{SourcePart, source_info, source_part}
 use Rattle.clip_graph.specs.Plan.{Application, application_at}
 use Rattle.inst_table.specs.declared.place.Place.{Place}
 use Rattle.inst_table.specs.declared.place.Slot.{Slot}
 use Rattle.inst_table.specs.declared.place.Slot.TheVariants.{Free, Leased}
 use Rattle.inst_table.specs.Places.{slot_at, shared_place, own_place, IsNewPair}
-use Rattle.serve_core.specs.Sources.{opened, IsFurnished, HoldTheirs}
+use Rattle.serve_core.specs.Sources.{IsFurnished, HoldTheirs}
 use Rattle.serve_worker.specs.declared.instance.Instance.{Instance}
 use Rattle.serve_worker.specs.declared.instance.Instance.TheVariants.{Plain, Scratch, Source}
 use Rattle.serve_worker.specs.Instances.{holds_of}
@@ -32,14 +33,15 @@ some_in [] = 0
 some_in (None ∷ infos) = some_in infos
 some_in (Some info ∷ infos) = some_in infos + 1
 
--- what a node of this op keeps: a source its frames, a filter of the group Soft a scratch with no row, others nothing
+-- what a node keeps that is no source: a filter of the group Soft a scratch with no row, others nothing
+abbrev pub filter_instance : {S : Type 0} → Act → Instance S
+filter_instance (soft op) = Scratch 0
+filter_instance _ = Plain
+
+-- what a node of this op keeps: a source its frames
 abbrev pub IsKindOf : {S : Type 0} → Act → Instance S → Type 0
-IsKindOf {S = S} (source name number info) x = (it : FrameSource S) × (x ≡ Source it)
-IsKindOf (plain info colour) x = x ≡ Plain
-IsKindOf (time op) x = x ≡ Plain
-IsKindOf (space op) x = x ≡ Plain
-IsKindOf (joined op) x = x ≡ Plain
-IsKindOf (soft op) x = x ≡ Scratch 0
+IsKindOf {S = S} act x =
+    MatchOption (source_part act) (x ≡ filter_instance act) (λ (part : SourcePart). (it : FrameSource S) × (x ≡ Source it))
 
 -- the table has what the modes ask for, each instance is what its node keeps, and each source stands at its node
 pub record Furnishes {S : Type 0} (plan : List Application) (workers : ℕ) (sources : List (FrameSource S))
@@ -51,15 +53,6 @@ pub record Furnishes {S : Type 0} (plan : List Application) (workers : ℕ) (sou
   pub at_nodes : (i number : ℕ) (name : List ℕ) (info : Info) (it : FrameSource S)
       → (application_at plan i).act ≡ source name number info → slice_get sources number ≡ Some it
       → slot_at (shared_place i) table ≡ Some (Free (Source it))
-
--- what a node keeps that is no source
-abbrev pub filter_instance : {S : Type 0} → Act → Instance S
-filter_instance (soft op) = Scratch 0
-filter_instance (source name number info) = Plain
-filter_instance (plain info colour) = Plain
-filter_instance (time op) = Plain
-filter_instance (space op) = Plain
-filter_instance (joined op) = Plain
 
 -- an instance of a node for each of so many workers
 abbrev pub own_entries : {S : Type 0} → ℕ → Instance S → ℕ → List (Place × Slot (Instance S))
@@ -77,12 +70,7 @@ pub record EndsIn {S : Type 0} (info : Info) (sources : List (FrameSource S)) : 
 
 -- the last source is that of the op, where the op is one
 abbrev pub IsNext : {S : Type 0} → Act → List (FrameSource S) → Type 0
-IsNext (source name number info) sources = EndsIn info sources
-IsNext (plain info colour) sources = Unit {0}
-IsNext (time op) sources = Unit {0}
-IsNext (space op) sources = Unit {0}
-IsNext (joined op) sources = Unit {0}
-IsNext (soft op) sources = Unit {0}
+IsNext act sources = IfSome (source_part act) (λ (part : SourcePart). EndsIn part.info sources)
 
 -- the source that an instance keeps, where it keeps one
 abbrev pub source_of : {S : Type 0} → Instance S → List (FrameSource S)
@@ -105,7 +93,7 @@ module _ {S : Type 0} (sources left : List (FrameSource S)) (old new : List (Pla
   -- the instances of a node of this op were added. A source was the last of the list
   pub record Adds (act : Act) (entries : Instance S → List (Place × Slot (Instance S))) : Type 0 where
     pub value : Instance S
-    pub holds : holds_of value ≡ opened act
+    pub holds : holds_of value ≡ source_info act
     pub kind : IsKindOf act value
     pub from : sources ≡ left ++ source_of value
     pub to : new ≡ old ++ entries value

@@ -104,9 +104,9 @@ fn share<S: Source>(
     ensures kept { sources.old.items ++ sources_in table.old ≡ sources.new.items ++ sources_in table.new }
     ensures leases { leases_out table.new ≡ leases_out table.old }
 {
-    match op {
-        Op::Source { .. } => move_last(table, node, sources),
-        _ => add_filter(alloc, table, op, node, 0, true),
+    match op.source_part() {
+        Some(_) => move_last(table, node, sources),
+        None => add_filter(alloc, table, op, node, 0, true),
     }
 }
 
