@@ -28,6 +28,20 @@ impl Numbers {
         }
     }
 
+    /// The numbers of a `Vec`, in their order.
+    pub fn from_vec(items: Vec<i32>) -> Numbers
+        ensures { result ≡ items.items }
+    {
+        Numbers { items }
+    }
+
+    /// The numbers as a `Vec`.
+    pub fn into_vec(self) -> Vec<i32>
+        ensures { result.items ≡ self }
+    {
+        self.items
+    }
+
     /// Adds a number at the end. An `Err` is out of memory, and then nothing has changed.
     pub fn push(&mut self, number: i32) -> Result<(), AllocError>
         ensures ok { OnOk result (self.new ≡ self.old ++ number ∷ []) }
