@@ -3,11 +3,11 @@ ghost use Rattle.std.specs.Prelude.{◌≡◌, ◌+◌, ◌-◌, ◌*◌, ◌≤
 ghost use Rattle.fv_plane.specs.Format.{largest_sample, scale, plane_width, plane_height};
 ghost use Rattle.fv_plane.specs.Look.{look_in, across, down};
 ghost use Rattle.fv_plane.specs.Refusals.{first_fault};
-ghost use Rattle.clip_term.specs.Refusals.{nat_of, part_of, paint};
+ghost use Rattle.clip_term.specs.Refusals.{nat_of, paint};
 ghost use Rattle.clip_term.specs.Space.{space_at, space_refusals, is_within, is_among, limited, swapped};
 
 use crate::place::{across, down, height, largest_sample, look, scale, width};
-use clip_term::{Channels, SpaceOp};
+use clip_term::{Channels, SpaceOp, part_of};
 use fv_plane::{Frame, Shape};
 
 /// A sample of what the op makes of a frame of this shape.
@@ -128,19 +128,6 @@ fn is_within(start: u64, end: u64, at: u64) -> bool
     ensures { result ≡ is_within start end at }
 {
     start <= at && at < end
-}
-
-// The part of a colour that a plane shows.
-fn part_of(colour: u32, plane: u32) -> u8
-    ensures { result ≡ part_of colour plane }
-{
-    if plane == 0 {
-        (colour / 65536 % 256) as u8
-    } else if plane == 1 {
-        (colour / 256 % 256) as u8
-    } else {
-        (colour % 256) as u8
-    }
 }
 
 fn paint(colour: i32, shape: Shape, plane: u32) -> u8

@@ -1,5 +1,5 @@
 // Frames share their bytes, and give them back.
-use fv_plane::{Colour, Frame, PixelType, Shape, Window};
+use fv_plane::{Colour, Frame, PixelType, Shape};
 use std::test::Fail;
 
 // More shares and windows than memory would hold as copies.
@@ -15,12 +15,7 @@ fn shares_frames(rt: HostRuntime) -> Result<(), Fail> {
     let mut shares = Vec::new(alloc);
     for _ in 0..1_000 {
         shares.push(frame.share()?)?;
-        shares.push(frame.window(Window {
-            x: 1,
-            y: 0,
-            width: 4095,
-            height: 4096,
-        })?)?;
+        shares.push(frame.window(1, 0, 4095, 4096)?)?;
     }
     assert_eq!(rt; shares.len(), 2_000);
     assert!(rt; frame.into_vec().is_none());

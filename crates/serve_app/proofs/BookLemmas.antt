@@ -24,11 +24,7 @@ AreClips outside (one ∷ rest) = (outside.clips one.name ≡ Ok one.info) × Ar
 
 by_act : (outside : Outside) (act : Act) (rest : List Application) → IsFile outside act → AreClips outside (sources_of rest) → AreClips outside (source_of act ++ sources_of rest)
 by_act outside (source name number info) rest is later = (is, later)
-by_act outside (plain info colour) rest is later = later
-by_act outside (time op) rest is later = later
-by_act outside (space op) rest is later = later
-by_act outside (joined op) rest is later = later
-by_act outside (soft op) rest is later = later
+by_act outside _ rest is later = later
 
 are_clips : (outside : Outside) (plan : List Application) → AreFiles outside plan → AreClips outside (sources_of plan)
 are_clips outside [] are = tt

@@ -74,11 +74,7 @@ in_told told world P holds other is =
 by_act : (act : Act) (inputs : List ℕ) (info : Info) (mode depth : ℕ) (rest : List Application) → map (λ (one : SourceClip). one.info) (sources_of rest) ≡ source_infos rest
     → map (λ (one : SourceClip). one.info) (source_of act ++ sources_of rest) ≡ source_infos (record { act = act; inputs = inputs; info = info; mode = mode; depth = depth } ∷ rest)
 by_act (source name number info) inputs shown mode depth rest is = ap (λ l. info ∷ l) is
-by_act (plain info colour) inputs shown mode depth rest is = is
-by_act (time op) inputs shown mode depth rest is = is
-by_act (space op) inputs shown mode depth rest is = is
-by_act (joined op) inputs shown mode depth rest is = is
-by_act (soft op) inputs shown mode depth rest is = is
+by_act _ inputs shown mode depth rest is = is
 
 pub infos_are : (plan : List Application) → map (λ (one : SourceClip). one.info) (sources_of plan) ≡ source_infos plan
 infos_are [] = refl

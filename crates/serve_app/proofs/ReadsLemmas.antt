@@ -53,11 +53,7 @@ fault_told told outside name h.Memory stop tells by = rw by tt
 
 one_source : (act : Act) (later : List SourceClip) → length (source_of act ++ later) ≡ (if is_source act then 1 + length later else length later)
 one_source (source name number info) later = omega arith
-one_source (plain info colour) later = refl
-one_source (time op) later = refl
-one_source (space op) later = refl
-one_source (joined op) later = refl
-one_source (soft op) later = refl
+one_source _ later = refl
 
 count_sources : (plan : List Application) → length (sources_of plan) ≡ sources_in plan
 count_sources plan = is_count_by (λ (as' : List Application). length (sources_of as')) (λ (a : Application). is_source a.act) refl (λ a later. one_source a.act (sources_of later)) plan

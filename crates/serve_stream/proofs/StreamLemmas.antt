@@ -106,11 +106,7 @@ tells_stop plan worker.Memory told is = ap Some is
 -- a source that exceeds its number has failed
 one_failed : {I : Type 0} (feed : I → Option (List Picture)) (faults : I → ℕ) (book : Book) (numbers : List ℕ) (act : Act) (x : I) → is_source act ≡ true → ExceedsAct feed faults book numbers act x → 1 ≤ faults x
 one_failed feed faults book numbers (source name number info) x is more = omega (arith, more)
-one_failed feed faults book numbers (plain info colour) x is more = absurd (cc)
-one_failed feed faults book numbers (time op) x is more = absurd (cc)
-one_failed feed faults book numbers (space op) x is more = absurd (cc)
-one_failed feed faults book numbers (joined op) x is more = absurd (cc)
-one_failed feed faults book numbers (soft op) x is more = absurd (cc)
+one_failed feed faults book numbers _ x is more = absurd (cc)
 
 module _ {S K : Type 0} (of : of_source.Ghosts S) (sink : Ghosts K) (c : CoreValue (Instance S)) (old mid new : K) (window : ℕ)
     (stands : Stands (feed_of of) (faults_of of) (book_of (feed_of of) c.fixed.plan c.table) (faults_in (faults_of of) c.fixed.plan c.table) c)

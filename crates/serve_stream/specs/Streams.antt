@@ -1,9 +1,11 @@
 -- What the calls that put a stream answer.
 use Rattle.std.specs.Prelude.{◌≡◌, ◌⊎◌, ℕ, true, List, [], Option, Some, None, Result, Ok, Err}
+use Rattle.std.specs.Option.{option_map, unwrap_or}
 use Rattle.fv_io.specs.declared.sink.Sink.{Ghosts}
 use Rattle.fv_io.specs.Sink.{PutsPrefix, SinkFailed}
 use Rattle.fv_plane.specs.declared.format.Info.{Info}
-use Rattle.clip_term.specs.ClipTerm.{Act, source, plain, time, space, joined, soft}
+use Rattle.clip_term.specs.ClipTerm.{Act}
+use Rattle.clip_term.specs.Ops.{SourcePart, source_part}
 use Rattle.clip_graph.specs.Plan.{Application, application_at}
 use Rattle.serve_events.specs.declared.event.WindowStop.{WindowStop}
 use Rattle.serve_events.specs.declared.event.WindowStop.TheVariants as worker
@@ -32,12 +34,7 @@ NamesSource plan Memory = Unit {0}
 
 -- the name of the file of a source
 abbrev pub file_of : Act → List ℕ
-file_of (source name number info) = name
-file_of (plain info colour) = []
-file_of (time op) = []
-file_of (space op) = []
-file_of (joined op) = []
-file_of (soft op) = []
+file_of act = unwrap_or (option_map (λ (part : SourcePart). part.name) (source_part act)) []
 
 abbrev pub file_at : List Application → ℕ → List ℕ
 file_at plan node = file_of (application_at plan node).act

@@ -52,15 +52,10 @@ fn name_of(alloc: Global, graph: &Graph, node: u32) -> Result<Text, AllocError>
     requires source { is_source (application_at graph.now node).act ≡ true }
     ensures { IfOk result (λ name. name ≡ file_at graph.now node) }
 {
-    let Op::Source {
-        name,
-        number: _,
-        info: _,
-    } = &graph.node(node).op
-    else {
+    let Some(source) = graph.node(node).op.source_part() else {
         unreachable!()
     };
-    Text::from_str(alloc, name.as_str())
+    Text::from_str(alloc, source.name.as_str())
 }
 
 // The stop, told with the name of the file.
