@@ -22,7 +22,7 @@ use Rattle.avs_meaning.specs.Meaning.{below, run}
 use Rattle.avs_meaning.specs.Operators.{compared, joined}
 use Rattle.avs_meaning.specs.Outside.{Outside}
 use Rattle.avs_meaning.specs.Rules as r
-use Rattle.avs_meaning.specs.Rules.{is_logical, receiver, retried}
+use Rattle.avs_meaning.specs.Rules.{receiver, retried}
 use Rattle.avs_meaning.specs.State.{State, Defined, Outcome, Run, and_then, ◌>>=◌, fails, imported, variable}
 use Rattle.avs_meaning.specs.Statements.{condition}
 use Rattle.avs_meaning.specs.Texts.{load_short}

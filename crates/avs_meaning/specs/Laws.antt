@@ -5,11 +5,8 @@ use Rattle.y4m_stream.specs.declared.fault.Y4mFault.{Y4mFault}
 use Rattle.y4m_stream.specs.Stream.{Stream, HasFault}
 use Rattle.clip_term.specs.Filters as filters
 use Rattle.clip_term.specs.declared.filter.Filter.{Filter}
-use Rattle.clip_term.specs.declared.filter.Filter.TheVariants as f
 use Rattle.avs_meaning.specs.Outside.{clip_in}
 use Rattle.avs_meaning.specs.Table.{builtins, builtin_of, maker_of, name_of}
-use Rattle.avs_meaning.specs.declared.builtin.Builtin.{Builtin}
-use Rattle.avs_meaning.specs.declared.builtin.Builtin.TheVariants as b
 use Rattle.avs_meaning.specs.declared.fault.InputFault.TheVariants as i
 
 -- What bytes are as a file of a world is what they are as a stream.

@@ -1,11 +1,8 @@
 -- Files of a world as scripts and as clips, each computed.
 use Rattle.std.specs.Prelude.{◌≡◌, [], ◌∷◌, Ok, Err}
 use Rattle.std.specs.Prelude.{codes, Some, None}
-use lib.Utf8.{encode}
-use Rattle.std.specs.Str.{is_utf8, chars}
 use Rattle.y4m_stream.specs.declared.fault.Y4mFault.TheVariants.{NotY4m, NoFrames, Truncated}
-use Rattle.y4m_stream.specs.Parameters.{parameter_fault, info_of}
-use Rattle.avs_meaning.specs.Outside.{script_in, clip_in, frames_from}
+use Rattle.avs_meaning.specs.Outside.{script_in, clip_in}
 use Rattle.avs_meaning.specs.declared.fault.FileKind.TheVariants as f
 use Rattle.avs_meaning.specs.declared.fault.InputFault.TheVariants as i
 

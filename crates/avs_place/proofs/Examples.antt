@@ -3,7 +3,7 @@ use Rattle.std.proofs.Common.{◌≡◌, refl, subst, ℕ, suc}
 use Rattle.avs_tree.specs.Lexeme.{Lexemes}
 use Rattle.avs_tree.specs.Words.{type_word_of}
 use Rattle.avs_place.specs.Next.{is_punctuation, operator_at}
-use Rattle.avs_place.specs.ExprMachine.{operand, continues, grows, grow, reach, closing_argument}
+use Rattle.avs_place.specs.ExprMachine.{operand, continues, grow, reach, closing_argument}
 use Rattle.avs_place.specs.Place.{verdict, stops, too_deep, StopsAt, DeepAt, Answers}
 use Rattle.avs_place.specs.Examples.{Examples}
 use Rattle.avs_place.proofs.Places.{exact}

@@ -1,7 +1,7 @@
 -- What a token does depends on no token after it.
 use Rattle.std.proofs.Common.{◌≡◌, refl, ap, ◌∙◌, ℕ, List, [], ◌∷◌, ◌++◌, None, if◌then◌else◌}
 use Rattle.avs_tree.specs.Lexeme.{Lexeme, Lexemes}
-use Rattle.avs_tree.specs.Tree.{Expr, method_calls, minus, not_, chain, compare, conditional}
+use Rattle.avs_tree.specs.Tree.{Expr, method_calls}
 use Rattle.avs_tree.specs.Tree.{Function}
 use Rattle.avs_tree.specs.Tree as t
 use Rattle.avs_tree.specs.View.{StatementIs, MethodCallIs, method_calls_of}

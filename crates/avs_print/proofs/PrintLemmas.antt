@@ -1,12 +1,12 @@
 -- What is written, piece by piece.
-use Rattle.std.proofs.Common.{◌≡◌, refl, sym, ap, subst, ◌∙◌, ℕ, ℤ, pos, negsuc, suc, ◌+◌, ◌<◌, arith, List, [], ◌∷◌, ◌++◌, append_assoc, append-nil, map, take, drop, length-append, ◌-◌, ◌≤◌, ◌⊎◌, inl, inr, length, get_or, Option, Some, None, Bool, false, codes, if◌then◌else◌, ◌<ℤ◌, add-one, drop-cons, true, rules}
+use Rattle.std.proofs.Common.{◌≡◌, refl, sym, ap, subst, ◌∙◌, ℕ, ℤ, pos, negsuc, suc, ◌+◌, ◌<◌, arith, List, [], ◌∷◌, ◌++◌, append_assoc, append-nil, map, take, drop, length-append, ◌-◌, ◌≤◌, ◌⊎◌, inl, inr, length, get_or, Option, Some, None, Bool, false, if◌then◌else◌, ◌<ℤ◌, add-one, drop-cons, true, rules}
 use Rattle.std.specs.Int.{cast_unsigned, w64}
 use Rattle.std.proofs.lemmas.Int.{ints}
 use Rattle.std.specs.Int.Signed.{le_z}
 use Rattle.std.proofs.lemmas.Grind.{common_steps}
 use Rattle.avs_lex.specs.Written.{Word, written}
 use Rattle.avs_tree.specs.View.{MethodCallIs, ArmIs, args_of, method_calls_of, method_call_of, steps_of, arms_of, block_of, arg_view, method_call_view, step_view, arm_view, statement_view, kind_view, function_view}
-use Rattle.avs_tree.specs.Tree.{Expr, int, bool, str, call, method_calls, minus, not_, chain, compare, conditional, group, Args, no_args, arg, MethodCalls, no_method_calls, method, method_call, Steps, no_steps, step, Kind, global, assign, return, if_, while, for, value, Arms, no_arms, arm, Else, no_else, else_, Block, Function}
+use Rattle.avs_tree.specs.Tree.{Expr, int, bool, str, call, method_calls, minus, not_, chain, compare, conditional, group, Args, no_args, arg, MethodCalls, no_method_calls, method, method_call, Steps, no_steps, step, Kind, global, assign, return, if_, while, for, value, Arms, no_arms, arm, Else, no_else, else_, Function}
 use Rattle.avs_tree.specs.Tree as t
 use Rattle.avs_print.specs.Printed.{number, hexadecimal, method_calls_words, args_words, punctuation, keyword, ident, arms_words, else_word, condition_words, braces_words, block_words, expr_words, steps_words, label_words, kind_words, else_words, head_words, comma_words, operator_kind, params_words, function_words, ended, Open, EndsLine}
 use Rattle.avs_lex.specs.declared.token.TokenKind.TheVariants.{Dot, LeftParen, RightParen, LeftBrace, RightBrace, Assign, Minus, Not, Question, Colon}

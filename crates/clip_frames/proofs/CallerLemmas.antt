@@ -10,7 +10,7 @@ use Rattle.fv_plane.specs.declared.key.Key.{Key}
 use Rattle.seq_source.specs.FrameSource.{FrameSource}
 use Rattle.clip_term.specs.declared.op.Op.{Op}
 use Rattle.clip_term.specs.declared.op.Op.TheVariants as op
-use Rattle.clip_term.specs.ClipTerm.{Act, source, plain, time, space, joined, soft, act_of}
+use Rattle.clip_term.specs.ClipTerm.{Act, source, act_of}
 use Rattle.clip_graph.specs.Plan.{Application, application_at, is_source, sources_in, IsPlan}
 use Rattle.clip_graph.specs.Unfolding.{IsKeyBelow, input_keys}
 use Rattle.clip_graph.proofs.UnfoldingLemmas.{inputs_are_keys}

@@ -1,17 +1,8 @@
 -- Each is computed.
-use Rattle.std.proofs.Common.{◌≡◌, [], ◌∷◌, refl, Ok, Err}
-use Rattle.fv_plane.specs.declared.format.PixelType.TheVariants.{Y8, YV12, YV24}
-use Rattle.fv_plane.specs.declared.format.Field.TheVariants.{Progressive}
-use Rattle.fv_plane.specs.declared.format.Tag.TheVariants.{Jpeg}
-use Rattle.clip_term.specs.declared.fault.FilterFault.TheVariants.{FormatDiffers, SizeDiffers}
-use Rattle.clip_term.specs.declared.op.TimeOp.TheVariants as t
-use Rattle.clip_term.specs.declared.op.SpaceOp.TheVariants as s
-use Rattle.clip_term.specs.declared.op.JoinOp.TheVariants as j
-use Rattle.clip_term.specs.ClipTerm.{applied, no_terms, and_term, time, space, joined}
+use Rattle.std.proofs.Common.{◌≡◌, [], ◌∷◌, refl}
 use Rattle.clip_term.specs.Terms.{term_sample, term_samples, info_of, infos_of}
 use Rattle.fv_plane.specs.Look.{picture_from}
 use Rattle.fv_plane.specs.Rate.{gcd}
-use Rattle.clip_term.specs.ExampleClips.{rendered, a12, a16, a24, a8, all_channels, b12, b8, c12, m4, one, q8, two}
 use Rattle.clip_term.specs.JoinExamples.{JoinRows}
 
 pub join_rows : JoinRows

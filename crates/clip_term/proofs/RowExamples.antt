@@ -1,22 +1,8 @@
 -- Each is computed.
-use Rattle.std.proofs.Common.{◌≡◌, [], ◌∷◌, refl, pos, negsuc, Ok, Err, true, false}
-use Rattle.std.specs.Prelude.{codes, Some, None}
-use Rattle.fv_plane.specs.declared.format.PixelType.TheVariants.{Y8, YV411}
-use Rattle.clip_term.specs.declared.fault.FilterFault.TheVariants.{BadRange, BadText, TooLarge, LengthLimit, NotWholeChroma, EmptyClip}
-use Rattle.clip_term.specs.declared.op.TimeOp.TheVariants as t
-use Rattle.clip_term.specs.declared.op.JoinOp.TheVariants as j
-use Rattle.clip_term.specs.declared.op.SoftOp.TheVariants as f
-use Rattle.clip_term.specs.declared.filter.Filter.TheVariants as filter
-use Rattle.clip_term.specs.ClipTerm.{time, joined, soft}
-use Rattle.clip_term.specs.Blank.{check_blank, default_clip}
-use Rattle.fv_plane.specs.FormatNames.{format_named}
-use Rattle.clip_term.specs.Texts.{channels_named, matrix_named}
-use Rattle.clip_term.specs.Filters.{declared_mode}
-use Rattle.clip_term.specs.Time.{from_input}
-use Rattle.clip_term.specs.Terms.{info_of, infos_of, term_sample, term_samples, term_picture, make, asked}
+use Rattle.std.proofs.Common.{◌≡◌, [], ◌∷◌, refl}
+use Rattle.clip_term.specs.Terms.{info_of, infos_of, term_sample, term_samples}
 use Rattle.fv_plane.specs.Look.{picture_from}
 use Rattle.fv_plane.specs.Rate.{gcd}
-use Rattle.clip_term.specs.ExampleClips.{samples, blank_clip, none_given, one, m4, m4_told, book}
 use Rattle.clip_term.specs.RowExamples.{OtherRows}
 
 pub other_rows : OtherRows

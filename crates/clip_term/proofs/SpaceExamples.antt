@@ -1,16 +1,8 @@
 -- Each is computed.
-use Rattle.std.proofs.Common.{◌≡◌, [], ◌∷◌, refl, pos, negsuc, Ok, Err, true, false}
-use Rattle.std.specs.Prelude.{Some}
-use Rattle.fv_plane.specs.declared.format.PixelType.TheVariants.{Y8, YV12, YV16, YV24, YV411}
-use Rattle.fv_plane.specs.declared.format.Field.TheVariants.{Progressive, Top}
-use Rattle.fv_plane.specs.declared.format.Tag.TheVariants.{Jpeg, Mpeg2}
-use Rattle.clip_term.specs.declared.fault.FilterFault.TheVariants.{BadRange, NeedsChroma, NotWholeChroma, OutOfPicture, TooLarge, TurnFormat}
-use Rattle.clip_term.specs.declared.op.SpaceOp.TheVariants as s
-use Rattle.clip_term.specs.ClipTerm.{space}
+use Rattle.std.proofs.Common.{◌≡◌, [], ◌∷◌, refl}
 use Rattle.clip_term.specs.Terms.{term_sample, term_samples, info_of, infos_of}
 use Rattle.fv_plane.specs.Look.{picture_from}
 use Rattle.fv_plane.specs.Rate.{gcd}
-use Rattle.clip_term.specs.ExampleClips.{rendered, a11, a12, a16, a24, a8, b8, blank_clip, c12, none_given, one, p, q8}
 use Rattle.clip_term.specs.SpaceExamples.{SpaceRows}
 
 pub space_rows : SpaceRows

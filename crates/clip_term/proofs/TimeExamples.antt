@@ -1,18 +1,8 @@
 -- Each is computed.
-use Rattle.std.proofs.Common.{◌≡◌, [], ◌∷◌, refl, pos, negsuc, Ok, Err}
-use Rattle.std.specs.Prelude.{codes, Some}
-use Rattle.fv_plane.specs.declared.format.PixelType.TheVariants.{Y8}
-use Rattle.fv_plane.specs.declared.format.Field.TheVariants.{Progressive}
-use Rattle.fv_plane.specs.declared.format.Tag.TheVariants.{Jpeg}
-use Rattle.clip_term.specs.declared.fault.FilterFault.TheVariants.{BadRange, EmptyClip, FormatDiffers, LengthLimit, RateLimit, SizeDiffers}
-use Rattle.clip_term.specs.declared.op.TrimBound.TheVariants.{Last, Length, End}
-use Rattle.clip_term.specs.declared.op.TimeOp.TheVariants as t
-use Rattle.clip_term.specs.declared.op.SpaceOp.TheVariants as s
-use Rattle.clip_term.specs.ClipTerm.{applied, no_terms, and_term, time, space}
+use Rattle.std.proofs.Common.{◌≡◌, [], ◌∷◌, refl}
 use Rattle.clip_term.specs.Terms.{term_sample, term_samples, info_of, infos_of}
 use Rattle.fv_plane.specs.Look.{picture_from}
 use Rattle.fv_plane.specs.Rate.{gcd}
-use Rattle.clip_term.specs.ExampleClips.{rendered, a8, all_channels, b8, blank_clip, m3, m4, none_given, one, p, q8, two}
 use Rattle.clip_term.specs.TimeExamples.{TimeRows}
 
 pub time_rows : TimeRows

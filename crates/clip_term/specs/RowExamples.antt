@@ -13,9 +13,7 @@ use Rattle.fv_plane.specs.FormatNames.{format_named}
 use Rattle.clip_term.specs.Texts.{channels_named, matrix_named}
 use Rattle.clip_term.specs.Filters.{declared_mode}
 use Rattle.clip_term.specs.Time.{from_input}
-use Rattle.clip_term.specs.Terms.{info_of, infos_of, term_sample, term_samples, term_picture, make, asked}
-use Rattle.fv_plane.specs.Look.{picture_from}
-use Rattle.fv_plane.specs.Rate.{gcd}
+use Rattle.clip_term.specs.Terms.{info_of, term_sample, term_picture, make, asked}
 use Rattle.clip_term.specs.ExampleClips.{samples, blank_clip, none_given, one, m4, m4_told, book}
 
 pub record OtherRows : Type 0 where

@@ -8,9 +8,6 @@ use Rattle.clip_term.specs.declared.fault.FilterFault.TheVariants.{BadRange}
 use Rattle.clip_term.specs.declared.op.SpaceOp.TheVariants as s
 use Rattle.clip_term.specs.declared.op.SoftOp.TheVariants as f
 use Rattle.clip_term.specs.ClipTerm.{space, soft}
-use Rattle.clip_term.specs.Terms.{term_sample, term_samples, info_of, infos_of}
-use Rattle.fv_plane.specs.Look.{picture_from}
-use Rattle.fv_plane.specs.Rate.{gcd}
 use Rattle.clip_term.specs.ExampleClips.{rendered, a12, a16, a24, a8, b8, blank_clip, convolution, m4, none_given, one, q8}
 
 pub record SoftRows : Type 0 where

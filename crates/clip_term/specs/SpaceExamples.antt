@@ -7,9 +7,6 @@ use Rattle.fv_plane.specs.declared.format.Tag.TheVariants.{Jpeg, Mpeg2}
 use Rattle.clip_term.specs.declared.fault.FilterFault.TheVariants.{BadRange, NeedsChroma, NotWholeChroma, OutOfPicture, TooLarge, TurnFormat}
 use Rattle.clip_term.specs.declared.op.SpaceOp.TheVariants as s
 use Rattle.clip_term.specs.ClipTerm.{space}
-use Rattle.clip_term.specs.Terms.{term_sample, term_samples, info_of, infos_of}
-use Rattle.fv_plane.specs.Look.{picture_from}
-use Rattle.fv_plane.specs.Rate.{gcd}
 use Rattle.clip_term.specs.ExampleClips.{rendered, a11, a12, a16, a24, a8, b8, blank_clip, c12, none_given, one, p, q8}
 
 pub record SpaceRows : Type 0 where

@@ -6,7 +6,7 @@ use Rattle.fv_plane.specs.declared.format.Shape.{Shape}
 use Rattle.fv_plane.specs.Bytes.{row_of_bytes}
 use Rattle.fv_plane.specs.Format.{plane_width, row_bytes, sample_bytes, sub_w}
 use Rattle.fv_plane.specs.Picture.{Picture, IsPicture}
-use Rattle.fv_plane.specs.Look.{Look, look_in, look_at, row_from}
+use Rattle.fv_plane.specs.Look.{look_in, look_at, row_from}
 use Rattle.fv_plane.proofs.BytesLemmas.{row-bytes_of_row}
 use Rattle.fv_plane.proofs.CallerLemmas.{bytes_of_narrow}
 use Rattle.fv_plane.proofs.FillLemmas.{Filled, row_listed}

@@ -3,7 +3,7 @@ use Rattle.std.proofs.Common.{◌≡◌, ℕ, zero, suc, arith, List, [], ◌∷
 use Rattle.std.specs.FinMap.{get}
 use Rattle.fv_io.specs.World.{World}
 use Rattle.fv_plane.specs.Picture.{Picture}
-use Rattle.clip_term.specs.ClipTerm.{Act, source, plain, time, space, joined, soft}
+use Rattle.clip_term.specs.ClipTerm.{Act, source}
 use Rattle.clip_graph.specs.Plan.{Application}
 use Rattle.prefetch.specs.Clips.{clip_at}
 use Rattle.avs_parse.specs.Load.{script_of}

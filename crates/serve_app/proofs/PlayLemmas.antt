@@ -17,7 +17,7 @@ use Rattle.y4m_stream.specs.Head.{head}
 use Rattle.y4m_stream.specs.Stream.{frames_text, stream}
 use Rattle.seq_source.specs.FrameSource.{FrameSource, frames_of as frames_in}
 use Rattle.seq_source.proofs.CallerLemmas.{clip_told}
-use Rattle.clip_term.specs.ClipTerm.{Act, source, plain, time, space, joined, soft}
+use Rattle.clip_term.specs.ClipTerm.{Act, source}
 use Rattle.clip_graph.specs.Plan.{Application, application_at, IsPlan}
 use Rattle.clip_graph.specs.Unfolding.{key_picture}
 use Rattle.clip_frames.specs.Sources.{AreSources, source_infos}

@@ -10,16 +10,15 @@ use Rattle.fv_io.proofs.CallerLemmas.{gets_all, gets_none}
 use Rattle.fv_plane.specs.Clip.{Clip}
 use Rattle.fv_plane.specs.declared.format.Info.{Info}
 use Rattle.y4m_stream.specs.Stream.{stream}
-use Rattle.avs_meaning.specs.Faults.{Fault, input}
+use Rattle.avs_meaning.specs.Faults.{input}
 use Rattle.avs_meaning.specs.Faults as of_fault
-use Rattle.avs_meaning.specs.declared.fault.ScriptKind.{ScriptKind}
 use Rattle.serve_text.specs.declared.stop.Stop.{Stop}
 use Rattle.serve_text.specs.declared.stop.Stop.TheVariants.{Script, Input, Changed, Read, Write, Memory}
 use Rattle.serve_text.specs.StopKinds.{status_of_stop}
 use Rattle.serve_app.specs.Info.{IsInfoOf, IsToldInfo, InfoShows}
 use Rattle.serve_app.specs.Playing.{PutsClip, PutsInfo}
 use Rattle.serve_app.specs.Reads.{ReadsOnce}
-use Rattle.serve_app.specs.Meaning.{Meaning, a_clip, a_fault, MeansClip, Means, status_of, status_of_fault}
+use Rattle.serve_app.specs.Meaning.{Meaning, a_clip, a_fault, MeansClip, Means, status_of}
 use Rattle.prefetch.specs.Rendered.{PutsNothing}
 use Rattle.serve_stream.specs.Rendered.{PutsWholeFrames, EndsInFrame, PutsHead, PutsNoHead}
 use Rattle.serve_app.specs.Stop.{IsOfScript, ScriptHasClip, HasInfo, HasFault, HasChanged, IsScriptFault, RenderShows}

@@ -6,12 +6,9 @@ use Rattle.std.proofs.lemmas.List.{length-append, take_all, length-map}
 use Rattle.std.proofs.lemmas.List.Sums.{count_by_more_yes, count_by_more_no}
 use Rattle.std.proofs.lemmas.List.Recursion.{is_count_by}
 use Rattle.std.specs.List.{cons_option}
-use Rattle.fv_io.specs.declared.text.Text.{Text}
 use Rattle.fv_plane.specs.declared.format.Info.{Info}
 use Rattle.seq_source.specs.FrameSource.{FrameSource}
-use Rattle.clip_term.specs.ClipTerm.{Act, source, plain, time, space, joined, soft, act_of}
-use Rattle.clip_term.specs.declared.op.Op.{Op}
-use Rattle.clip_term.specs.declared.op.Op.TheVariants.{Source as SourceOp, Blank, Time, Space, Join, Soft}
+use Rattle.clip_term.specs.ClipTerm.{Act, source}
 use Rattle.clip_graph.specs.Plan.{Application, application_at, no_application, is_source, sources_in as count_sources, IsPlan, IsCounted}
 use Rattle.clip_term.specs.Ops.{SourcePart, source_info, source_part}
 use Rattle.clip_frames.specs.Sources.{source_infos, AreSources}

@@ -6,7 +6,7 @@ use Rattle.fv_plane.specs.declared.format.Info.{Info}
 use Rattle.fv_plane.specs.declared.key.Key.{Key}
 use Rattle.fv_plane.specs.Look.{look_in, picture_from}
 use Rattle.fv_plane.specs.Picture.{Picture}
-use Rattle.clip_term.specs.ClipTerm.{Act, source, plain, time, space, joined, soft}
+use Rattle.clip_term.specs.ClipTerm.{Act, source}
 use Rattle.clip_term.specs.Terms.{asked}
 use Rattle.clip_graph.specs.Plan.{Application, application_at, infos_at, is_source, IsPlan, IsCounted}
 use Rattle.clip_graph.specs.Unfolding.{key_of, input_keys, key_made, key_picture}

@@ -12,7 +12,7 @@ use Rattle.fv_io.specs.Faults.{HasRisen}
 use Rattle.fv_plane.specs.declared.format.Info.{Info}
 use Rattle.fv_plane.specs.declared.key.Key.{Key}
 use Rattle.fv_plane.specs.Picture.{Picture}
-use Rattle.clip_term.specs.ClipTerm.{Act, source, plain, time, space, joined, soft}
+use Rattle.clip_term.specs.ClipTerm.{Act, source}
 use Rattle.clip_term.specs.Terms.{asked}
 use Rattle.clip_graph.specs.Plan.{Application, application_at, is_source, IsPlan}
 use Rattle.clip_graph.specs.Unfolding.{input_keys, key_picture, IsKeyBelow}

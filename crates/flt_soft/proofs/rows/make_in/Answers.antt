@@ -1,6 +1,5 @@
 -- There is a first picture, and it has the shape of all.
-use Rattle.std.proofs.Common.{◌≡◌, ◌<◌, ◌∙◌, ap, arith, List, length}
-use Rattle.fv_plane.specs.declared.format.Shape.{Shape}
+use Rattle.std.proofs.Common.{◌≡◌, ◌<◌, ◌∙◌, ap, List, length}
 use Rattle.fv_plane.specs.Picture.{Picture}
 use Rattle.flt_soft.specs.Pictures.{shape_of}
 use Rattle.flt_soft.proofs.PictureLemmas.{first_shape, some_pictures}
