@@ -20,7 +20,6 @@ is_fault one other stop is h = subst (λ o. Fails o stop) (sym is) h
 -- what shows the fault of a part stops it
 pub shown_fails : {Y : Type 0} (o : Outcome Y) (fault : Fault) (stop : ScriptStop) → o ≡ Err fault → Shows fault stop → Fails o stop
 shown_fails o fault (e.Fault kind name line) is shows = is ∙ ap Err shows
-shown_fails o fault (e.Refused name nests line) is shows = is ∙ ap Err shows
 shown_fails o fault (e.Input name why) is shows = is ∙ ap Err shows
 shown_fails o fault e.Read is shows = tt
 shown_fails o fault e.Memory is shows = tt
