@@ -1,13 +1,16 @@
 -- Rows that are seen from the last one up, and pictures upside down.
-use Rattle.std.proofs.Common.{◌≡◌, ℕ, ◌+◌, ◌-◌, ◌*◌, ◌<◌, ◌≤◌, List, [], ◌∷◌, ◌++◌, length, get_or, take, drop, map, refl, sym, ◌∙◌, ap, arith, Bool, true, false, Option, None, Some}
+use Rattle.std.proofs.Common.{◌≡◌, ℕ, ◌+◌, ◌-◌, ◌*◌, ◌<◌, ◌≤◌, List, [], ◌∷◌, ◌++◌, length, get_or, take, drop, map, refl, sym, ◌∙◌, ap, arith, Bool, true, false, Option, None, Some, inl, inr}
 use Rattle.std.specs.Prelude.{reverse, not}
-use Rattle.std.proofs.lemmas.List.{append_assoc, reverse-append, reverse-reverse, length-reverse, get_or-reverse, map-append, take-append-drop, take_at, drop_at, length-drop, length-take-le}
+use Rattle.std.proofs.lemmas.List.{append_assoc, reverse-append, reverse-reverse, length-reverse, get_or-reverse, map-append, take-append-drop, take_at, drop_at, length-drop, length-take-le, get_or_past}
 use Rattle.fv_plane.specs.declared.format.Shape.{Shape}
 use Rattle.fv_plane.specs.Format.{planes, plane_width, plane_height}
 use Rattle.fv_plane.specs.Rows.{IsPlane, rows_of, rows_part, width_of, seen, first_stored}
 use Rattle.fv_plane.specs.Picture.{Picture, IsPicture}
-use Rattle.fv_plane.specs.Bytes.{row_of_bytes, decoded_rows, chroma_list, frame_of}
+use Rattle.fv_plane.specs.Bytes.{row_of_bytes, decoded_rows, chroma_list, frame_of, AreWhole}
 use Rattle.fv_plane.specs.Look.{Look, look_in, upside_down}
+use Rattle.std.proofs.Math.ListN.{get_or-map}
+use Rattle.std.proofs.lemmas.Bool.{cases_lt}
+use Rattle.fv_plane.proofs.BytesLemmas.{whole_none}
 use Rattle.fv_plane.proofs.RowLemmas.{length-rows_of}
 use Rattle.fv_plane.proofs.WindowLemmas.{width-rows_of, plane_listed, get_or-picture_from, IsPicture-picture_from, frame_listed, no_chroma, two_chroma}
 
@@ -83,6 +86,15 @@ width-seen upwards bytes offset stride width height some ends =
     ap length (row-seen upwards rows 0 (omega (arith, high)))
     ∙ width-rows_of bytes offset stride width height (first_stored upwards (length rows) 0 1) (omega (arith, high, inside-stored upwards (length rows) 0 1 (omega (arith, high)))) ends
 
+-- whole rows are whole in the other order
+pub whole-reverse : (shape : Shape) (rows : List (List ℕ)) → AreWhole shape rows → AreWhole shape (reverse rows)
+whole-reverse shape rows are = record {
+  whole = λ y. elim (cases_lt y (length rows)) [
+    | inl there ↦ rw (get_or-reverse rows y [] there) (are.whole (length rows - 1 - y))
+    | inr past ↦ rw (get_or_past (reverse rows) y [] (omega (arith, length-reverse rows))) ((whole_none shape).whole 0)
+  ];
+}
+
 -- PICTURES
 
 -- the rows of a plane in the other order are a plane
@@ -115,6 +127,13 @@ chroma_flipped shape luma (Some (u, v)) is =
     two_chroma shape _ _ _ (λ one. omega (arith, one, is.count))
     (map-reverse (row_of_bytes shape) u ∙ reverse_listed picture 1 is (omega (arith, is.count)))
     (map-reverse (row_of_bytes shape) v ∙ reverse_listed picture 2 is (omega (arith, is.count)))
+
+-- planes in the other order are whole
+pub stored_flipped : (shape : Shape) (luma made : List (List ℕ)) (chroma uv : Option (List (List ℕ) × List (List ℕ))) → made ≡ reverse luma → chroma_list uv ≡ map reverse (chroma_list chroma)
+    → ((p : ℕ) → AreWhole shape (get_or (luma ∷ chroma_list chroma) p [])) → (p : ℕ) → AreWhole shape (get_or (made ∷ chroma_list uv) p [])
+stored_flipped shape luma made chroma uv luma_is chroma_is are p =
+    let all : made ∷ chroma_list uv ≡ map reverse (luma ∷ chroma_list chroma) = ap (λ l. l ∷ chroma_list uv) luma_is ∙ ap (λ l. reverse luma ∷ l) chroma_is in
+    rw (all, get_or-map reverse (luma ∷ chroma_list chroma) p []) (whole-reverse shape (get_or (luma ∷ chroma_list chroma) p []) (are p))
 
 -- a frame of planes in the other order is the picture upside down
 pub frame_flipped : (shape : Shape) (luma made : List (List ℕ)) (chroma uv : Option (List (List ℕ) × List (List ℕ))) → IsPicture (frame_of shape luma chroma)

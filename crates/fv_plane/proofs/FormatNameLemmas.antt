@@ -1,15 +1,56 @@
 -- The formats by their names, computed.
-use Rattle.std.proofs.Common.{◌≡◌, Some, refl}
+use Rattle.std.proofs.Common.{◌≡◌, ℕ, Some, refl, sym, subst, true, inl, inr}
 use Rattle.fv_plane.specs.declared.format.PixelType.{PixelType}
 use Rattle.fv_plane.specs.declared.format.PixelType.TheVariants.{Y8, YV12, YV16, YV24, YV411}
-use Rattle.fv_plane.specs.FormatNames.{FormatsAreNamed, format_named, kind_name}
+use Rattle.fv_plane.specs.Format.{has_depth}
+use Rattle.fv_plane.specs.FormatNames.{FormatsAreNamed, format_named, name_of}
+use Rattle.fv_plane.proofs.PictureLemmas.{five_depths}
 
-by_kind : (kind : PixelType) → format_named (kind_name kind) ≡ Some (record { kind = kind })
-by_kind Y8 = refl
-by_kind YV12 = refl
-by_kind YV16 = refl
-by_kind YV24 = refl
-by_kind YV411 = refl
+abbrev Found : PixelType → ℕ → Type 0
+Found kind bits = format_named (name_of (record { kind = kind; bits = bits })) ≡ Some (record { kind = kind; bits = bits })
+
+of_8_bits : (kind : PixelType) → Found kind 8
+of_8_bits Y8 = refl
+of_8_bits YV12 = refl
+of_8_bits YV16 = refl
+of_8_bits YV24 = refl
+of_8_bits YV411 = refl
+
+of_10_bits : (kind : PixelType) → has_depth kind 10 ≡ true → Found kind 10
+of_10_bits Y8 is = refl
+of_10_bits YV12 is = refl
+of_10_bits YV16 is = refl
+of_10_bits YV24 is = refl
+of_10_bits YV411 is = cc
+
+of_12_bits : (kind : PixelType) → has_depth kind 12 ≡ true → Found kind 12
+of_12_bits Y8 is = refl
+of_12_bits YV12 is = refl
+of_12_bits YV16 is = refl
+of_12_bits YV24 is = refl
+of_12_bits YV411 is = cc
+
+of_14_bits : (kind : PixelType) → has_depth kind 14 ≡ true → Found kind 14
+of_14_bits Y8 is = refl
+of_14_bits YV12 is = refl
+of_14_bits YV16 is = refl
+of_14_bits YV24 is = refl
+of_14_bits YV411 is = cc
+
+of_16_bits : (kind : PixelType) → has_depth kind 16 ≡ true → Found kind 16
+of_16_bits Y8 is = refl
+of_16_bits YV12 is = refl
+of_16_bits YV16 is = refl
+of_16_bits YV24 is = refl
+of_16_bits YV411 is = cc
 
 pub formats_are_named : FormatsAreNamed
-formats_are_named format = by_kind format.kind
+formats_are_named format is =
+    let kind = format.kind in
+    elim (five_depths kind format.bits is) [
+      | inl e ↦ subst (λ n. Found kind n) (sym e) (of_8_bits kind)
+      | inr (inl e) ↦ subst (λ n. Found kind n) (sym e) (of_10_bits kind (subst (λ n. has_depth kind n ≡ true) e is))
+      | inr (inr (inl e)) ↦ subst (λ n. Found kind n) (sym e) (of_12_bits kind (subst (λ n. has_depth kind n ≡ true) e is))
+      | inr (inr (inr (inl e))) ↦ subst (λ n. Found kind n) (sym e) (of_14_bits kind (subst (λ n. has_depth kind n ≡ true) e is))
+      | inr (inr (inr (inr e))) ↦ subst (λ n. Found kind n) (sym e) (of_16_bits kind (subst (λ n. has_depth kind n ≡ true) e is))
+    ]

@@ -1,10 +1,10 @@
 -- Rows in bytes, and some of them written anew.
 use Rattle.std.proofs.Common.{◌≡◌, ℕ, zero, suc, ◌+◌, ◌*◌, ◌-◌, ◌<◌, ◌≤◌, List, [], ◌∷◌, ◌++◌, length, take, drop, get_or, set, replicate, refl, sym, ◌∙◌, ap, arith, Option, None, Some, unwrap_or, inl, inr}
-use Rattle.std.proofs.lemmas.List.{drop-drop, length-drop, length-append, take_at, drop_at, take-append-le, drop-append-le, take-take, drop-take, length-take-le, take-replicate, drop-replicate, append-nil, append_assoc, take_all, get_or-take, get_or-drop, length-replicate, nil_from_length, set_split, get_or_past, replicate-append-replicate}
-use Rattle.std.proofs.lemmas.Bool.{cases_lt}
+use Rattle.std.proofs.lemmas.List.{drop-drop, length-drop, length-append, take_at, drop_at, take-append-le, drop-append-le, take-take, drop-take, length-take-le, take-replicate, drop-replicate, append-nil, append_assoc, take_all, get_or-take, get_or-drop, length-replicate, get_or-replicate, length-set, get_or-set_same, get_or-set_other, nil_from_length, set_split, get_or_past, replicate-append-replicate}
+use Rattle.std.proofs.lemmas.Bool.{cases_lt, cases_eq}
 use Rattle.std.proofs.lemmas.Nat.{mul-le}
 use Rattle.std.proofs.Math.Seq.{take-add}
-use Rattle.fv_plane.specs.Rows.{rows_of, IsPlane, flat_rows, rows_put, width_of, filled_to, IsBuilding}
+use Rattle.fv_plane.specs.Rows.{rows_of, IsPlane, flat_rows, rows_put, bytes_put, width_of, filled_to, IsBuilding}
 
 -- rows are as many as they are said to be
 pub length-rows_of : (bytes : List ℕ) (stride width height : ℕ) → length (rows_of bytes stride width height) ≡ height
@@ -212,7 +212,7 @@ rows_of-flat width (suc height) (row ∷ rows) rest is =
     (ap (λ l. row ∷ l) (rows_of-flat width height rows rest (rest_plane width height row rows is)))
 
 -- no item of a front is greater than those of all
-bounded_take : (most width : ℕ) (bytes : List ℕ) → ((k : ℕ) → get_or bytes k 0 ≤ most) → (x : ℕ) → get_or (take width bytes) x 0 ≤ most
+pub bounded_take : (most width : ℕ) (bytes : List ℕ) → ((k : ℕ) → get_or bytes k 0 ≤ most) → (x : ℕ) → get_or (take width bytes) x 0 ≤ most
 bounded_take most zero bytes bounded x = omega arith
 bounded_take most (suc width) [] bounded x = omega arith
 bounded_take most (suc width) (byte ∷ bytes) bounded zero = bounded 0
@@ -276,3 +276,24 @@ rows_of-like width height y (suc n) rows bytes is within = ap (λ w. rows_of byt
 pub times-like : (width height y n : ℕ) (rows : List (List ℕ)) → IsPlane width height rows → y + n ≤ length rows → n * width_of rows ≡ n * width
 times-like width height y zero rows is within = omega arith
 times-like width height y (suc n) rows is within = ap (λ w. suc n * w) (is.widths 0 (omega (arith, is.count)))
+
+-- one row that is put is the row of its bytes
+pub one_put : (old : List (List ℕ)) (y : ℕ) (row : List ℕ) → y < length old → length row ≡ width_of old → bytes_put old y 1 row ≡ set old y row
+one_put old y row within wide = ap (λ (r : List ℕ). rows_put old y (r ∷ [])) (take_all (width_of old) row (omega (arith, wide))) ∙ put_one old y row within
+
+-- a plane with a row of its width is a plane
+pub IsPlane-set : (width height y : ℕ) (rows : List (List ℕ)) (row : List ℕ) → IsPlane width height rows → length row ≡ width → IsPlane width height (set rows y row)
+IsPlane-set width height y rows row is long = record {
+  count = length-set rows y row ∙ is.count;
+  widths = λ z within. elim (cases_eq z y) [
+    | inl same ↦ rw (same, get_or-set_same rows y row [] (omega (arith, is.count))) long
+    | inr other ↦ rw (get_or-set_other rows y z row [] other) (is.widths z within)
+  ];
+}
+
+-- rows of one value are a plane
+pub IsPlane-replicate : (width height : ℕ) (row : List ℕ) → length row ≡ width → IsPlane width height (replicate height row)
+IsPlane-replicate width height row long = record {
+  count = length-replicate height row;
+  widths = λ z within. ap length (get_or-replicate height z row [] within) ∙ long;
+}

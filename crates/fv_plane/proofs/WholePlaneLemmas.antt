@@ -1,9 +1,9 @@
 -- A picture that is written from the top down, in planes and in rows that lie side by side.
-use Rattle.std.proofs.Common.{◌≡◌, ℕ, ◌+◌, ◌-◌, ◌*◌, ◌<◌, ◌≤◌, List, [], ◌++◌, length, get_or, set, take, drop, map, refl, ap, ◌∙◌, sym, arith, inl, inr, ne_of_lt, length-take-le, get_or-take}
+use Rattle.std.proofs.Common.{◌≡◌, ℕ, ◌+◌, ◌-◌, ◌*◌, ◌<◌, ◌≤◌, List, [], ◌++◌, length, get_or, set, take, drop, map, ap, ◌∙◌, sym, arith, inl, inr, ne_of_lt, if◌then◌else◌, ◌==◌, length-take-le, get_or-take}
 use Rattle.std.proofs.lemmas.List.{get_or-set_same, get_or-set_other, get_or_append_left, get_or-append_right}
 use Rattle.std.proofs.lemmas.Bool.{cases_eq, cases_lt}
 use Rattle.fv_plane.specs.declared.format.Shape.{Shape}
-use Rattle.fv_plane.specs.Format.{planes, plane_width, plane_height, row_bytes}
+use Rattle.fv_plane.specs.Format.{planes, plane_width, plane_height, row_bytes, sample_bytes}
 use Rattle.fv_plane.specs.Picture.{Picture, IsPicture, row_of, with_rows}
 use Rattle.fv_plane.specs.Look.{Look, look_in, row_from}
 use Rattle.fv_plane.specs.Rows.{IsPlane, rows_of, rows_put, flat_rows}
@@ -72,9 +72,9 @@ pub record RowBytes (shape : Shape) (plane n : ℕ) (rows : List (List ℕ)) (by
   pub same : rows_of_bytes shape plane n bytes ≡ rows
 
 pub row_bytes_are : (picture : Picture) (shape : Shape) (plane y n : ℕ) (bytes : List ℕ) → IsPicture picture → plane < planes picture.shape.kind → y + n ≤ plane_height picture.shape plane
-    → plane_width picture.shape plane ≡ plane_width shape plane → bytes ≡ bytes_of_rows picture.shape (take n (drop y (get_or picture.planes plane [])))
+    → plane_width picture.shape plane ≡ plane_width shape plane → picture.shape.bits ≡ shape.bits → bytes ≡ bytes_of_rows picture.shape (take n (drop y (get_or picture.planes plane [])))
     → RowBytes shape plane n (take n (drop y (get_or picture.planes plane []))) bytes
-row_bytes_are picture shape plane y n bytes is there inside width told =
+row_bytes_are picture shape plane y n bytes is there inside width bits told =
     let s = picture.shape in
     let rows : List (List ℕ) = take n (drop y (get_or picture.planes plane [])) in
     let part : IsPlane (plane_width s plane) n rows
@@ -82,13 +82,13 @@ row_bytes_are picture shape plane y n bytes is there inside width told =
     let stored : List (List ℕ) = map (bytes_of_row s) rows in
     let encoded : IsPlane (row_bytes s plane) n stored = IsPlane-encoded s (plane_width s plane) n rows part in
     let flat : bytes ≡ flat_rows stored = told ∙ sym (flat-encoded s rows) in
-    let wide : row_bytes shape plane ≡ row_bytes s plane = sym (ap (λ w. w * 1) width) in
+    let wide : row_bytes shape plane ≡ row_bytes s plane = sym (ap (λ w. w * sample_bytes s) width ∙ ap (λ k. plane_width shape plane * (if k == 8 then 1 else 2)) bits) in
     record {
       long = ap length flat ∙ length-flat_rows (row_bytes s plane) n stored encoded ∙ ap (λ w. n * w) (sym wide);
       count = part.count;
       same =
           ap (λ w. decoded_rows shape (rows_of bytes w w n)) wide ∙ ap (λ l. decoded_rows shape (rows_of l (row_bytes s plane) (row_bytes s plane) n)) flat
-          ∙ ap (decoded_rows shape) (rows_of-flat_all (row_bytes s plane) n stored encoded) ∙ decoded-same shape s stored refl ∙ decoded-encoded s rows;
+          ∙ ap (decoded_rows shape) (rows_of-flat_all (row_bytes s plane) n stored encoded) ∙ decoded-same shape s stored (sym bits) ∙ decoded-encoded s rows;
     }
 
 -- the rows that are listed

@@ -2,19 +2,20 @@
 use Rattle.std.proofs.Common.{◌≡◌, ℕ, zero, suc, ◌+◌, ◌-◌, ◌*◌, ◌/◌, ◌%◌, ◌<◌, ◌≤◌, List, [], ◌∷◌, length, get_or, take, drop, map, refl, sym, ◌∙◌, ap, arith, Bool, true, false, if◌then◌else◌, ◌==◌, inl, inr, Option}
 use Rattle.std.specs.Prelude.{◌≢◌}
 use Rattle.std.proofs.Math.ListN.{get_or-map}
-use Rattle.std.proofs.lemmas.Bool.{cases_lt}
+use Rattle.std.proofs.lemmas.Bool.{cases_lt, eqb-true}
 use Rattle.std.proofs.lemmas.Nat.{mul-le}
-use Rattle.std.proofs.lemmas.List.{drop-drop, drop-take, take-take, take-map, drop-map, get_or-take, get_or-drop, get_or_past, length-map, length-take-le, length-drop}
+use Rattle.std.proofs.lemmas.List.{drop-drop, drop-take, take-take, take-map, drop-map, get_or-take, get_or-drop, get_or_past, length-map, length-take, length-take-le, length-drop}
 use Rattle.std.proofs.lemmas.List.FromFn.{fill_by_all, get_or-map-range_with_len, length-map-range_with_len}
 use Rattle.std.specs.List.{range_with_len}
 use Rattle.fv_plane.specs.declared.format.PixelType.{PixelType}
 use Rattle.fv_plane.specs.declared.format.PixelType.TheVariants.{Y8, YV12, YV16, YV24, YV411}
 use Rattle.fv_plane.specs.declared.format.Shape.{Shape}
 use Rattle.fv_plane.specs.declared.format.Window.{Window}
-use Rattle.fv_plane.specs.Format.{IsLegal, IsWindow, planes, sub_w, sub_h, plane_width, plane_height, sample_bytes, largest_sample, window_shape, shape_of_plane}
+use Rattle.fv_plane.specs.Format.{IsLegal, IsWindow, planes, sub_w, sub_h, plane_width, plane_height, sample_bytes, largest_sample, has_depth, frame_samples, window_shape, shape_of_plane}
 use Rattle.fv_plane.specs.Rows.{IsPlane, rows_of, rows_part}
 use Rattle.fv_plane.specs.Picture.{Picture, IsPicture}
-use Rattle.fv_plane.specs.Bytes.{row_of_bytes, decoded_rows, chroma_list, frame_of}
+use Rattle.fv_plane.specs.Bytes.{row_of_bytes, decoded_rows, chroma_list, frame_of, AreWhole}
+use Rattle.fv_plane.proofs.BytesLemmas.{row_of_bytes-take, row_of_bytes-drop, decoded-same, whole_none, whole-part}
 use Rattle.fv_plane.specs.Look.{Look, across, down, look_in, row_from, plane_from, picture_from, picture_in, plane_alone}
 use Rattle.fv_plane.proofs.RowLemmas.{drop-rows_of, take-rows_of, times_add, row-rows_of}
 use Rattle.fv_plane.proofs.PictureLemmas.{one_or_three}
@@ -61,25 +62,23 @@ part_ends offset stride width height x y w h size ends wide high k within = omeg
 -- SAMPLES
 
 -- a part of the bytes of a row is that part of its samples
-part-row_of_bytes : (shape made : Shape) (bytes : List ℕ) (x w : ℕ) → row_of_bytes made (take (w * sample_bytes shape) (drop (x * sample_bytes shape) bytes)) ≡ take w (drop x (row_of_bytes shape bytes))
-unfolding row_of_bytes
-part-row_of_bytes shape made bytes x w =
-    let wide : w * 1 ≡ w = omega arith in
-    let far : x * 1 ≡ x = omega arith in
-    ap (λ n. take n (drop (x * 1) bytes)) wide ∙ ap (λ n. take w (drop n bytes)) far
+part-row_of_bytes : (shape : Shape) (bytes : List ℕ) (x w : ℕ) → row_of_bytes shape (take (w * sample_bytes shape) (drop (x * sample_bytes shape) bytes)) ≡ take w (drop x (row_of_bytes shape bytes))
+part-row_of_bytes shape bytes x w =
+    row_of_bytes-take shape w (drop (x * sample_bytes shape) bytes) ∙ ap (λ (l : List ℕ). take w l) (row_of_bytes-drop shape x bytes)
 
-part-decoded : (shape made : Shape) (rows : List (List ℕ)) (x w : ℕ)
-    → decoded_rows made (map (λ row. take (w * sample_bytes shape) (drop (x * sample_bytes shape) row)) rows) ≡ map (λ row. take w (drop x row)) (decoded_rows shape rows)
-part-decoded shape made [] x w = refl
-part-decoded shape made (row ∷ rows) x w =
-    ap (λ r. r ∷ decoded_rows made (map (λ row. take (w * sample_bytes shape) (drop (x * sample_bytes shape) row)) rows)) (part-row_of_bytes shape made row x w)
-    ∙ ap (λ l. take w (drop x (row_of_bytes shape row)) ∷ l) (part-decoded shape made rows x w)
+part-decoded : (shape : Shape) (rows : List (List ℕ)) (x w : ℕ)
+    → decoded_rows shape (map (λ row. take (w * sample_bytes shape) (drop (x * sample_bytes shape) row)) rows) ≡ map (λ row. take w (drop x row)) (decoded_rows shape rows)
+part-decoded shape [] x w = refl
+part-decoded shape (row ∷ rows) x w =
+    ap (λ r. r ∷ decoded_rows shape (map (λ row. take (w * sample_bytes shape) (drop (x * sample_bytes shape) row)) rows)) (part-row_of_bytes shape row x w)
+    ∙ ap (λ l. take w (drop x (row_of_bytes shape row)) ∷ l) (part-decoded shape rows x w)
 
 -- the part of a plane, from the bytes that show it
-pub part-shown : (shape made : Shape) (stored plane : List (List ℕ)) (x y w h : ℕ) → decoded_rows shape stored ≡ plane
+pub part-shown : (shape made : Shape) (stored plane : List (List ℕ)) (x y w h : ℕ) → made.bits ≡ shape.bits → decoded_rows shape stored ≡ plane
     → decoded_rows made (rows_part stored (x * sample_bytes shape) y (w * sample_bytes shape) h) ≡ rows_part plane x y w h
-part-shown shape made stored plane x y w h shows =
-    part-decoded shape made (take h (drop y stored)) x w
+part-shown shape made stored plane x y w h same shows =
+    decoded-same made shape (rows_part stored (x * sample_bytes shape) y (w * sample_bytes shape) h) same
+    ∙ part-decoded shape (take h (drop y stored)) x w
     ∙ ap (map (λ row. take w (drop x row))) (sym (take-map (row_of_bytes shape) h (drop y stored)) ∙ ap (take h) (sym (drop-map (row_of_bytes shape) y stored) ∙ ap (drop y) shows))
 
 -- no samples
@@ -97,6 +96,17 @@ row_part : (plane : List (List ℕ)) (x y w h z : ℕ) → z < h → get_or (row
 row_part plane x y w h z within =
     ap (λ (d : List ℕ). get_or (rows_part plane x y w h) z d) (sym (no_part x w)) ∙ get_or-map (λ (row : List ℕ). take w (drop x row)) (take h (drop y plane)) z []
     ∙ ap (λ (row : List ℕ). take w (drop x row)) (get_or-take h (drop y plane) z [] within ∙ get_or-drop y plane z [])
+
+-- a part of whole rows is whole
+pub whole-part_of_rows : (shape : Shape) (stored : List (List ℕ)) (x y w h : ℕ) → AreWhole shape stored → AreWhole shape (rows_part stored (x * sample_bytes shape) y (w * sample_bytes shape) h)
+whole-part_of_rows shape stored x y w h are = record {
+  whole = λ z.
+      let rows = rows_part stored (x * sample_bytes shape) y (w * sample_bytes shape) h in
+      elim (cases_lt z h) [
+        | inl within ↦ rw (row_part stored (x * sample_bytes shape) y (w * sample_bytes shape) h z within) (whole-part shape (get_or stored (y + z) []) x w (are.whole (y + z)))
+        | inr past ↦ rw (get_or_past rows z [] (omega (arith, length-map (take h (drop y stored)) (λ (row : List ℕ). take (w * sample_bytes shape) (drop (x * sample_bytes shape) row)), length-take h (drop y stored)))) ((whole_none shape).whole 0)
+      ];
+}
 
 -- a part of a plane is a plane
 IsPlane-rows_part : (plane : List (List ℕ)) (width height x y w h : ℕ) → IsPlane width height plane → x + w ≤ width → y + h ≤ height → IsPlane w h (rows_part plane x y w h)
@@ -243,14 +253,16 @@ module _ (shape : Shape) (window : Window) (is : IsWindow shape window) where
       let luma = mul-le window.width window.height shape.width shape.height (omega (arith, is.across)) (omega (arith, is.down)) in
       let chroma = mul-le (window.width / sub_w shape.kind) (window.height / sub_h shape.kind) (shape.width / sub_w shape.kind) (shape.height / sub_h shape.kind) (omega arith) (omega arith) in
       let both = mul-le (planes shape.kind - 1) ((window.width / sub_w shape.kind) * (window.height / sub_h shape.kind)) (planes shape.kind - 1) ((shape.width / sub_w shape.kind) * (shape.height / sub_h shape.kind)) (omega arith) chroma in
+      let size = mul-le (frame_samples (window_shape shape window)) (sample_bytes shape) (frame_samples shape) (sample_bytes shape) (omega arith) (omega arith) in
       record {
+        depth = legal.depth;
         some_width = is.some_width;
         some_height = is.some_height;
         most_width = omega (arith, is.across, legal.most_width);
         most_height = omega (arith, is.down, legal.most_height);
         whole_width = is.whole_width;
         whole_height = is.whole_height;
-        most_bytes = omega (arith, legal.most_bytes);
+        most_bytes = omega (arith, size, legal.most_bytes);
       }
 
 -- the part of a plane that is in a window
@@ -294,20 +306,30 @@ some_across false YV16 w some whole = omega arith
 some_across false YV24 w some whole = omega arith
 some_across false YV411 w some whole = omega arith
 
+-- luma alone may have the bits of each format
+depth_alone : (kind : PixelType) (bits : ℕ) → has_depth kind bits ≡ true → has_depth Y8 bits ≡ true
+depth_alone Y8 bits is = is
+depth_alone YV12 bits is = is
+depth_alone YV16 bits is = is
+depth_alone YV24 bits is = is
+depth_alone YV411 bits is = rw (eqb-true bits 8 is) refl
+
 -- a plane of a legal frame is a legal frame
 pub legal_plane : (shape : Shape) (p : ℕ) → IsLegal shape → IsLegal (shape_of_plane shape p)
 legal_plane shape p legal =
     let high = plane_height_le shape p in
     let few : plane_width shape p ≤ shape.width = if_at_most (p == 0) shape.width (shape.width / sub_w shape.kind) (omega arith) in
     let luma = mul-le (plane_width shape p) (plane_height shape p) shape.width shape.height few high in
+    let size = mul-le (frame_samples (shape_of_plane shape p)) (sample_bytes shape) (frame_samples shape) (sample_bytes shape) (omega (arith, luma)) (omega arith) in
     record {
+      depth = depth_alone shape.kind shape.bits legal.depth;
       some_width = some_across (p == 0) shape.kind shape.width legal.some_width legal.whole_width;
       some_height = some_rows shape p legal;
       most_width = omega (arith, few, legal.most_width);
       most_height = omega (arith, high, legal.most_height);
       whole_width = omega arith;
       whole_height = omega arith;
-      most_bytes = omega (arith, luma, legal.most_bytes);
+      most_bytes = omega (arith, size, legal.most_bytes);
     }
 
 -- a plane is that of the picture of it alone

@@ -1,13 +1,14 @@
 // A frame that is being written.
 ghost use Rattle.std.specs.Prelude.{◌≡◌, ◌<◌, ◌≤◌, ◌+◌, ◌*◌, IfOk, OnOk, OnErr};
-ghost use Rattle.std.specs.Prelude.{[], map, length, slice_index_or, slice_set};
+ghost use Rattle.std.specs.Prelude.{[], ◌^◌, map, length, replicate, slice_index_or, slice_set};
 ghost use Rattle.fv_plane.specs.Format.{IsLegal, HasSamePlane, planes, plane_width, plane_height, row_bytes};
 ghost use Rattle.fv_plane.specs.Rows.{IsPlaneLike, width_of, bytes_put};
 ghost use Rattle.fv_plane.specs.Picture.{IsPicture, with_row, with_rows, blank};
 ghost use Rattle.fv_plane.specs.Picture.{plain_plane as of_one_value, plain_chroma as of_one_colour};
 ghost use Rattle.fv_plane.specs.Bytes.{row_of_bytes, rows_of_bytes, decoded_rows, chroma_list, plane_list, plane_of};
+ghost use Rattle.fv_plane.specs.Bytes.{wide_bytes, FitBytes, AreWhole, AllWhole};
 
-use crate::{Colour, Frame, Plane, PlaneBuilder, Shape};
+use crate::{Colour, Frame, Plane, PlaneBuilder, Shape, write_samples};
 use std::alloc::{AllocError, Global};
 use std::marker::Model;
 
@@ -22,14 +23,37 @@ pub struct FrameBuilder {
 }
 
 impl Model for FrameBuilder {
-    ghost use Rattle.fv_plane.specs.Picture.{Picture, IsPicture};
-    ghost use Rattle.fv_plane.specs.Bytes.{frame_of};
+    ghost use Rattle.fv_plane.specs.Picture.{Picture};
+    ghost use Rattle.fv_plane.specs.Bytes.{frame_of, IsStored};
 
     ghost Value = { Picture };
 
     ghost view = { λ f. frame_of f.shape f.luma f.chroma };
 
-    ghost invariant = { λ f. IsPicture (frame_of f.shape f.luma f.chroma) };
+    ghost invariant = { λ f. IsStored f.shape f.luma f.chroma };
+}
+
+// The bytes of a row of one value, of samples of two bytes.
+fn plain_row(alloc: Global, width: usize, value: u16) -> Result<Vec<u8>, AllocError>
+    requires { width < 65536 }
+    ensures { IfOk result (λ row. row.items ≡ wide_bytes (replicate width value)) }
+{
+    let samples = vec![in alloc; value; width]?;
+    let mut bytes = vec![in alloc; 0u8; width * 2]?;
+    write_samples(samples.as_slice(), bytes.as_mut_slice());
+    Ok(bytes)
+}
+
+// A plane all of whose rows are this one.
+fn repeated(alloc: Global, height: usize, row: &[u8]) -> Result<PlaneBuilder, AllocError>
+    requires { height * length row.now < 2 ^ 32 }
+    ensures { IfOk result (λ plane. plane ≡ replicate height row.now) }
+{
+    let mut made = PlaneBuilder::new(alloc, row.len(), height, 0)?;
+    for y in 0..height {
+        made.put_rows(y, 1, row);
+    }
+    Ok(made)
 }
 
 // A plane of one value.
@@ -40,11 +64,16 @@ fn plain_plane(
     sample: u8,
 ) -> Result<PlaneBuilder, AllocError>
     requires { IsLegal shape }
-    ensures { IfOk result (λ made. decoded_rows shape made ≡ of_one_value shape plane sample) }
+    ensures shown { IfOk result (λ made. decoded_rows shape made ≡ of_one_value shape plane sample) }
+    ensures whole { IfOk result (λ made. AreWhole shape made) }
 {
-    let width = shape.row_bytes(plane) as usize;
     let height = shape.plane_height(plane) as usize;
-    PlaneBuilder::new(alloc, width, height, sample)
+    if shape.bits == 8 || sample == 0 {
+        return PlaneBuilder::new(alloc, shape.row_bytes(plane) as usize, height, sample);
+    }
+    let value = sample as u16 * shape.scale();
+    let row = plain_row(alloc, shape.plane_width(plane) as usize, value)?;
+    repeated(alloc, height, row.as_slice())
 }
 
 // The chroma planes of one colour.
@@ -54,7 +83,8 @@ fn plain_chroma(
     colour: Colour,
 ) -> Result<Option<(PlaneBuilder, PlaneBuilder)>, AllocError>
     requires { IsLegal shape }
-    ensures { IfOk result (λ made. map (decoded_rows shape) (chroma_list made) ≡ of_one_colour shape colour) }
+    ensures shown { IfOk result (λ made. map (decoded_rows shape) (chroma_list made) ≡ of_one_colour shape colour) }
+    ensures whole { IfOk result (λ made. AllWhole shape (chroma_list made)) }
 {
     if shape.kind.planes() == 1 {
         return Ok(None);
@@ -146,11 +176,12 @@ impl FrameBuilder {
         })
     }
 
-    /// Puts the bytes of a row in its place. The other rows stay.
+    /// Puts the bytes of a row in its place. No sample may be over the largest one. The other rows stay.
     pub fn put_row(&mut self, plane: u32, y: u32, row: &[u8])
         requires plane { plane < planes self.old.shape.kind }
         requires inside { y < plane_height self.old.shape plane }
         requires whole { length row.now ≡ row_bytes self.old.shape plane }
+        requires fits { FitBytes self.old.shape row.now }
         ensures shape { self.new.shape ≡ self.old.shape }
         ensures rows { self.new.planes ≡ with_row self.old.planes plane y (row_of_bytes self.old.shape row.now) }
         ensures sizes { IsPicture self.new }
@@ -159,11 +190,13 @@ impl FrameBuilder {
         self.put_rows(plane, y, 1, row);
     }
 
-    /// Puts the bytes of `count` rows that lie side by side in the places from row `y` on. The other rows stay.
+    /// Puts the bytes of `count` rows that lie side by side in the places from row `y` on. No sample may be over the
+    /// largest one. The other rows stay.
     pub fn put_rows(&mut self, plane: u32, y: u32, count: u32, rows: &[u8])
         requires plane { plane < planes self.old.shape.kind }
         requires inside { y + count ≤ plane_height self.old.shape plane }
         requires whole { length rows.now ≡ count * row_bytes self.old.shape plane }
+        requires fits { FitBytes self.old.shape rows.now }
         ensures shape { self.new.shape ≡ self.old.shape }
         ensures rows { self.new.planes
             ≡ with_rows self.old.planes plane y (rows_of_bytes self.old.shape plane count rows.now) }

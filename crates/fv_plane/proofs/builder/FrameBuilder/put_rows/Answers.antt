@@ -1,7 +1,7 @@
 use Rattle.std.proofs.Common.{◌≡◌, ◌∷◌, map, ◌∙◌, ap, arith}
-use Rattle.fv_plane.specs.Picture.{IsPicture, with_rows}
-use Rattle.fv_plane.specs.Bytes.{decoded_rows, chroma_list, frame_of, rows_of_bytes}
-use Rattle.fv_plane.proofs.FrameLemmas.{whole_rows, frame_put, IsPicture-put, IsPicture-new}
+use Rattle.fv_plane.specs.Picture.{with_rows}
+use Rattle.fv_plane.specs.Bytes.{decoded_rows, chroma_list, rows_of_bytes, IsStored}
+use Rattle.fv_plane.proofs.FrameLemmas.{whole_rows, whole_put, frame_put, IsPicture-put, IsStored-new}
 use Rattle.fv_plane.proofs.builder.FrameBuilder.put_rows.Goals as goal
 use Rattle.fv_plane.proofs.builder.FrameBuilder.put_rows.Goals.{After-put_rows_in}
 
@@ -18,12 +18,14 @@ planes_are c =
     ap (map (decoded_rows p.shape)) c.put_rows_in.ensures
     ∙ frame_put p.shape p.luma p.chroma c.args.self.now c.self.view_is c.self.invariant c.args.plane c.requires.plane c.args.y c.args.count c.args.rows.now c.requires.inside
 
--- they are a picture
-written : (c : After-put_rows_in) → IsPicture (frame_of c.self.inside.shape c.put_rows_in.new.luma c.put_rows_in.new.chroma)
+-- they are stored
+written : (c : After-put_rows_in) → IsStored c.self.inside.shape c.put_rows_in.new.luma c.put_rows_in.new.chroma
 written c =
     let p = c.self.inside in
-    IsPicture-new p.shape p.luma p.chroma c.args.self.now c.self.view_is c.self.invariant c.args.plane c.requires.plane c.put_rows_in.new.luma c.put_rows_in.new.chroma _ (planes_are c)
-    (IsPicture-put p.shape p.luma p.chroma c.args.self.now c.self.view_is c.self.invariant c.args.plane c.requires.plane c.args.y c.args.count c.args.rows.now c.requires.inside c.requires.whole (λ k. omega (arith, c.type_inv.rows k)))
+    IsStored-new p.shape p.luma p.chroma c.args.self.now c.self.view_is c.self.invariant c.args.plane c.requires.plane c.put_rows_in.new.luma c.put_rows_in.new.chroma _ _ c.put_rows_in.ensures
+    (whole_put p.shape p.luma p.chroma c.args.self.now c.self.view_is c.self.invariant c.args.plane c.requires.plane c.args.y c.args.count c.args.rows.now c.requires.inside c.requires.whole (λ k. omega (arith, c.type_inv.rows k)))
+    (planes_are c)
+    (IsPicture-put p.shape p.luma p.chroma c.args.self.now c.self.view_is c.self.invariant c.args.plane c.requires.plane c.args.y c.args.count c.args.rows.now c.requires.inside c.requires.whole (λ k. omega (arith, c.type_inv.rows k)) c.requires.fits)
 
 pub invariant_of-self : goal.invariant_of-self
 invariant_of-self c = written c
@@ -32,4 +34,4 @@ pub returns-clause-rows : goal.returns-clause-rows
 returns-clause-rows c = planes_are c
 
 pub returns-clause-sizes : goal.returns-clause-sizes
-returns-clause-sizes c = written c
+returns-clause-sizes c = (let is : IsStored c.self.inside.shape c.put_rows_in.new.luma c.put_rows_in.new.chroma = written c in is.picture)

@@ -1,16 +1,21 @@
-use Rattle.std.proofs.Common.{◌≡◌, ◌+◌, List, ℕ, drop, arith, sym, subst, rules}
-use Rattle.std.proofs.lemmas.List.{length-drop, get_or-drop}
-use Rattle.fv_plane.specs.Picture.{Picture, IsPicture}
-use Rattle.fv_plane.specs.Bytes.{picture_of, frame_of}
-use Rattle.fv_plane.proofs.RowLemmas.{bounded_all}
-use Rattle.fv_plane.proofs.CutLemmas.{IsPicture-picture_of}
+use Rattle.std.proofs.Common.{◌∙◌, ◌+◌, List, ℕ, take, drop, arith}
+use Rattle.std.proofs.lemmas.List.{get_or-drop}
+use Rattle.std.proofs.lemmas.Result.{IfOk-weaker}
+use Rattle.fv_plane.specs.Format.{frame_bytes}
+use Rattle.fv_plane.proofs.RowLemmas.{bounded_all, bounded_take}
+use Rattle.fv_plane.proofs.CutLemmas.{cut-limited}
+use Rattle.fv_plane.proofs.BytesLemmas.{in_range-fits}
 use Rattle.fv_plane.proofs.frame.Frame.from_vec.Goals as goal
 
-pub invariant_of-result : goal.invariant_of-result
-invariant_of-result c =
+pub of_bytes-requires-clause-fits : goal.of_bytes-requires-clause-fits
+of_bytes-requires-clause-fits c =
     let shape = c.args.shape in
     let bytes : List ℕ = drop c.args.offset c.args.bytes.items in
-    let is : frame_of shape c.in_ok-plane_at.field-0 c.in_ok-chroma_at.field-0 ≡ picture_of shape bytes = search rules in
-    subst (λ (p : Picture). IsPicture p) (sym is)
-    (IsPicture-picture_of shape bytes c.requires.legal (rw length-drop (omega arith))
-    (λ k. rw get_or-drop (bounded_all 255 c.args.bytes.items (λ i within. omega arith) (c.args.offset + k))))
+    rw c.with_samples_in_range.ensures.frame (in_range-fits shape (take (frame_bytes shape) bytes)
+    (bounded_take 255 (frame_bytes shape) bytes (λ k. rw get_or-drop (bounded_all 255 c.args.bytes.items (λ i within. omega arith) (c.args.offset + k)))))
+
+pub returns : goal.returns
+returns c =
+    IfOk-weaker c.of_bytes.result _ _
+    (λ frame is. is ∙ cut-limited c.args.shape (drop c.args.offset c.with_samples_in_range.result.items) (drop c.args.offset c.args.bytes.items) c.with_samples_in_range.ensures.frame)
+    c.of_bytes.ensures

@@ -6,7 +6,7 @@ use Rattle.fv_plane.proofs.frame.Frame.rows_from.Goals as goal
 use Rattle.fv_plane.proofs.frame.Frame.rows_from.Goals.{After-plane}
 
 sized : (c : After-plane) → IsPlane (row_bytes c.args.self.now.shape c.args.plane) (plane_height c.args.self.now.shape c.args.plane) c.plane.result.now
-sized c = stored_plane c.args.self.now.shape c.args.self.now.planes c.args.plane c.plane.result.now c.plane.ensures.sizes c.requires.plane c.plane.ensures.rows
+sized c = stored_plane c.args.self.now.shape c.args.self.now.planes c.args.plane c.plane.result.now c.plane.ensures.sizes c.requires.plane c.plane.ensures.rows c.plane.ensures.whole
 
 pub rows_from-count-requires : goal.rows_from-count-requires
 rows_from-count-requires c = (let sizes = sized c in omega (arith, sizes.count, c.requires.inside))
@@ -24,4 +24,4 @@ returns-clause-inside c =
 pub returns-clause-rows : goal.returns-clause-rows
 returns-clause-rows c =
     c.rows_from-count.ensures.rows
-    ∙ stored_rows c.args.self.now.shape c.plane.result.now (get_or c.args.self.now.planes c.args.plane []) c.args.y c.rows_from-count.result.1 c.plane.ensures.rows
+    ∙ stored_rows c.args.self.now.shape c.plane.result.now (get_or c.args.self.now.planes c.args.plane []) c.args.y c.rows_from-count.result.1 c.plane.ensures.rows c.plane.ensures.whole
