@@ -19,6 +19,7 @@ use Rattle.clip_term.specs.Refusals.{nat_of, below, part_of, paint}
 use Rattle.clip_term.specs.Space.{space_shape, space_refusals, space_at, is_within, is_among, limited, swapped, bad_bounds}
 use Rattle.clip_term.specs.Join.{join_at, beside, beneath}
 use Rattle.clip_term.specs.Soft.{soft_at, near, samples_at, side_of, weighed, divisor_of}
+use Rattle.fv_plane.proofs.CallerLemmas as plane
 use Rattle.clip_term.proofs.PassedLemmas.{Passed, or_false}
 
 pub record IsBounded (shape : Shape) (from : Look) : Type 0 where
@@ -26,7 +27,7 @@ pub record IsBounded (shape : Shape) (from : Look) : Type 0 where
 
 -- a part of eight bits, scaled
 scaled : (shape : Shape) (n : ℕ) → IsLegal shape → n ≤ 255 → n * scale shape ≤ largest_sample shape
-scaled shape n legal h = omega arith
+scaled shape n legal h = plane.scaled shape n legal.depth h
 
 if_few : (t : Bool) (a b m : ℕ) → a ≤ m → b ≤ m → (if t then a else b) ≤ m
 if_few true a b m h g = h

@@ -15,7 +15,7 @@ use Rattle.fv_plane.specs.Look.{Look, look_at}
 use Rattle.clip_term.specs.Refusals.{info_at, same_format, same_size}
 use Rattle.clip_term.specs.Join.{join_refusals, join_shape, join_at, beside, beneath, has_sizes, kind_of}
 use Rattle.fv_plane.proofs.LookLemmas.{Inside, Agree}
-use Rattle.clip_term.proofs.PassedLemmas.{Passed, agreed, or_false, both, not_false, if_same, all_at, same_kind_is, same_number}
+use Rattle.clip_term.proofs.PassedLemmas.{Passed, agreed, or_false, both, not_false, if_same, all_at, same_format_is, same_number}
 use Rattle.clip_term.proofs.SeenLemmas.{EachSeen, no_more, one_more, each_at, each_like, agree_at}
 
 -- STACKS
@@ -30,7 +30,7 @@ beside_same no_more shape p x y e f h g = refl
 beside_same (one_more {d} {ds} {a} {b} {ls} {ms} first rest) shape p x y e f h g =
     let k = all_at (λ (o : Info). same_format o.shape shape) d ds e in
     let s = all_at (λ (o : Info). o.shape.height == shape.height) d ds f in
-    let kind = same_kind_is d.shape.kind shape.kind k.0 in
+    let kind = (same_format_is d.shape shape k.0).0 in
     let height = same_number d.shape.height shape.height s.0 in
     let width = plane_width d.shape p in
     if_same (nat_lt x width) (a p x y) (b p x y) (beside ds ls p (x - width) y) (beside ds ms p (x - width) y)
@@ -44,7 +44,7 @@ beneath_same no_more shape p x y e f h g = refl
 beneath_same (one_more {d} {ds} {a} {b} {ls} {ms} first rest) shape p x y e f h g =
     let k = all_at (λ (o : Info). same_format o.shape shape) d ds e in
     let s = all_at (λ (o : Info). o.shape.width == shape.width) d ds f in
-    let kind = same_kind_is d.shape.kind shape.kind k.0 in
+    let kind = (same_format_is d.shape shape k.0).0 in
     let width = same_number d.shape.width shape.width s.0 in
     let height = plane_height d.shape p in
     if_same (nat_lt y height) (a p x y) (b p x y) (beneath ds ls p x (y - height)) (beneath ds ms p x (y - height))
@@ -147,7 +147,7 @@ join_local op.YToUV infos {ls} {ms} passed seen = record {
       let v = (info_at infos 1).shape in
       let y = (info_at infos 2).shape in
       let k = unwrap_or (kind_of u y) Y8 in
-      let tests = or_false (not (same_size u v)) (is_none (kind_of u y)) passed.0 in
+      let tests = or_false (not (same_size u v)) (is_none (kind_of u y)) passed.1.0 in
       let sized_v = not_false (same_size u v) tests.0 in
       let sized_y = found (has_sizes u y) (YV24 ∷ YV16 ∷ YV12 ∷ YV411 ∷ []) k (some_kind (kind_of u y) tests.1) in
       let b = p == 0 in

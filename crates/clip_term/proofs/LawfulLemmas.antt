@@ -11,7 +11,7 @@ use Rattle.fv_plane.specs.declared.format.Info.{Info}
 use Rattle.fv_plane.specs.declared.format.Shape.{Shape}
 use Rattle.fv_plane.specs.declared.format.PixelType.{PixelType}
 use Rattle.fv_plane.specs.declared.format.PixelType.TheVariants.{Y8, YV12, YV16, YV24, YV411}
-use Rattle.fv_plane.specs.Format.{sub_w, sub_h, frame_bytes, IsLegal}
+use Rattle.fv_plane.specs.Format.{has_depth, sub_w, sub_h, frame_bytes, IsLegal}
 use Rattle.fv_plane.specs.Info.{IsLawful, IsPar}
 use Rattle.clip_term.specs.declared.op.TimeOp.{TimeOp}
 use Rattle.clip_term.specs.declared.op.TimeOp.TheVariants as time_op
@@ -28,19 +28,20 @@ use Rattle.clip_term.specs.Soft.{soft_refusals}
 use Rattle.clip_term.specs.Blank.{plain_refusals}
 use Rattle.clip_term.specs.ClipTerm.{source, plain, time, space, joined, soft}
 use Rattle.clip_term.specs.Terms.{time_inputs, time_lists, join_inputs, AreLawful, ChecksLawful}
-use Rattle.clip_term.proofs.PassedLemmas.{Passed, passed, or_false, both, not_false, all_at, same_kind_is, same_number}
+use Rattle.clip_term.proofs.PassedLemmas.{Passed, passed, or_false, both, not_false, all_at, same_format_is, same_number}
 use Rattle.clip_term.proofs.JoinLocal.{found, some_kind}
 use Rattle.fv_plane.proofs.GcdLemmas.{lowest_terms}
 
 -- sides that are not 0 and whole chroma samples
 pub record IsSized (shape : Shape) : Type 0 where
+  pub depth : has_depth shape.kind shape.bits ≡ true
   pub some_width : 0 < shape.width
   pub some_height : 0 < shape.height
   pub whole_width : shape.width % sub_w shape.kind ≡ 0
   pub whole_height : shape.height % sub_h shape.kind ≡ 0
 
 sized_of : (shape : Shape) → IsLegal shape → IsSized shape
-sized_of shape legal = record { some_width = legal.some_width; some_height = legal.some_height; whole_width = legal.whole_width; whole_height = legal.whole_height }
+sized_of shape legal = record { depth = legal.depth; some_width = legal.some_width; some_height = legal.some_height; whole_width = legal.whole_width; whole_height = legal.whole_height }
 
 some_number : (n : ℕ) → n == 0 ≡ false → 0 < n
 some_number n e = grind (arith, nat_tests)
@@ -62,6 +63,7 @@ limits_lawful c frames rate shape info e par some more fits =
     let most_den = few MAX_RATE low.den rates.1 in
     let lawful : IsLawful made = record {
       shape = record {
+        depth = fits.depth;
         some_width = fits.some_width;
         some_height = fits.some_height;
         whole_width = fits.whole_width;
@@ -139,15 +141,15 @@ whole_parts shape w h e =
     let two = both ((w % sub_w shape.kind) == 0) ((h % sub_h shape.kind) == 0) e in
     (same_number (w % sub_w shape.kind) 0 two.0, same_number (h % sub_h shape.kind) 0 two.1)
 
-cut_sized : (shape : Shape) (left top width height : ℤ) → Passed (cut_refusals shape left top width height) → IsSized (sized shape (nat_of width) (nat_of height))
-cut_sized shape left top width height told =
+cut_sized : (shape : Shape) (left top width height : ℤ) → has_depth shape.kind shape.bits ≡ true → Passed (cut_refusals shape left top width height) → IsSized (sized shape (nat_of width) (nat_of height))
+cut_sized shape left top width height depth told =
     let two = or_false (is_no_part shape.width left width) (is_no_part shape.height top height) told.0 in
     let wide = or_false (below width 1) (above (left +ℤ width) shape.width) two.0 in
     let high = or_false (below height 1) (above (top +ℤ height) shape.height) two.1 in
     let whole = both (is_whole shape (nat_of left) (nat_of top)) (is_whole shape (nat_of width) (nat_of height))
     (not_false (is_whole shape (nat_of left) (nat_of top) && is_whole shape (nat_of width) (nat_of height)) told.1.0) in
     let parts = whole_parts shape (nat_of width) (nat_of height) whole.1 in
-    record { some_width = at_least_one width wide.0; some_height = at_least_one height high.0; whole_width = parts.0; whole_height = parts.1 }
+    record { depth = depth; some_width = at_least_one width wide.0; some_height = at_least_one height high.0; whole_width = parts.0; whole_height = parts.1 }
 
 cropped_height : (n : ℤ) (height : ℕ) → below n 0 ≡ false → below (pos height -ℤ n) 1 ≡ false → nat_of (pos height -ℤ n) ≡ height - nat_of n
 cropped_height n height e f = grind (arith, ints, nat_tests)
@@ -187,14 +189,22 @@ some_part_h YV16 w h e = omega arith
 some_part_h YV24 w h e = omega arith
 some_part_h YV411 w h e = omega arith
 
+-- luma alone may have the bits of each format
+luma_depth : (k : PixelType) (n : ℕ) → has_depth k n ≡ true → has_depth Y8 n ≡ true
+luma_depth Y8 n e = e
+luma_depth YV12 n e = e
+luma_depth YV16 n e = e
+luma_depth YV24 n e = e
+luma_depth YV411 n e = (let is = same_number n 8 e in rw is refl)
+
 space_sized : (op : SpaceOp) (shape : Shape) → IsSized shape → Passed (space_refusals op shape) → IsSized (space_shape op shape)
-space_sized (space_op.Crop left top width height) shape fits told = cut_sized shape left top (size_from left width shape.width) (size_from top height shape.height) told.1
+space_sized (space_op.Crop left top width height) shape fits told = cut_sized shape left top (size_from left width shape.width) (size_from top height shape.height) fits.depth told.1
 space_sized (space_op.CropBottom n) shape fits told =
     let h = pos shape.height -ℤ n in
     let two = or_false (is_no_part shape.width (pos 0) (pos shape.width)) (is_no_part shape.height (pos 0) h) told.1.0 in
     let high = or_false (below h 1) (above (pos 0 +ℤ h) shape.height) two.1 in
     subst (λ (m : ℕ). IsSized (sized shape shape.width m)) (cropped_height n shape.height told.0 high.0)
-    (cut_sized shape (pos 0) (pos 0) (pos shape.width) h told.1)
+    (cut_sized shape (pos 0) (pos 0) (pos shape.width) h fits.depth told.1)
 space_sized (space_op.AddBorders left top right bottom color_yuv) shape fits told =
     let whole = both (is_whole shape (nat_of left) (nat_of top)) (is_whole shape (nat_of right) (nat_of bottom))
     (not_false (is_whole shape (nat_of left) (nat_of top) && is_whole shape (nat_of right) (nat_of bottom)) told.1.0) in
@@ -203,6 +213,7 @@ space_sized (space_op.AddBorders left top right bottom color_yuv) shape fits tol
     let w = fits.some_width in
     let h = fits.some_height in
     record {
+      depth = fits.depth;
       some_width = omega arith;
       some_height = omega arith;
       whole_width = whole_sum_w shape.kind shape.width (nat_of left) (nat_of right) fits.whole_width first.0 last.0;
@@ -214,27 +225,29 @@ space_sized space_op.FlipVertical shape fits told = fits
 space_sized space_op.Turn180 shape fits told = fits
 space_sized space_op.TurnLeft shape fits told =
     let whole = turned shape.kind shape.width shape.height told.0 fits.whole_width fits.whole_height in
-    record { some_width = fits.some_height; some_height = fits.some_width; whole_width = whole.0; whole_height = whole.1 }
+    record { depth = fits.depth; some_width = fits.some_height; some_height = fits.some_width; whole_width = whole.0; whole_height = whole.1 }
 space_sized space_op.TurnRight shape fits told =
     let whole = turned shape.kind shape.width shape.height told.0 fits.whole_width fits.whole_height in
-    record { some_width = fits.some_height; some_height = fits.some_width; whole_width = whole.0; whole_height = whole.1 }
+    record { depth = fits.depth; some_width = fits.some_height; some_height = fits.some_width; whole_width = whole.0; whole_height = whole.1 }
 space_sized space_op.Greyscale shape fits told = fits
 space_sized (space_op.Invert channels) shape fits told = fits
 space_sized (space_op.Limiter min_luma max_luma min_chroma max_chroma) shape fits told = fits
 space_sized space_op.SwapUV shape fits told = fits
 space_sized space_op.UToY8 shape fits told = record {
+  depth = luma_depth shape.kind shape.bits fits.depth;
   some_width = some_part_w shape.kind shape.width fits.some_width fits.whole_width;
   some_height = some_part_h shape.kind shape.height fits.some_height fits.whole_height;
   whole_width = omega arith;
   whole_height = omega arith;
 }
 space_sized space_op.VToY8 shape fits told = record {
+  depth = luma_depth shape.kind shape.bits fits.depth;
   some_width = some_part_w shape.kind shape.width fits.some_width fits.whole_width;
   some_height = some_part_h shape.kind shape.height fits.some_height fits.whole_height;
   whole_width = omega arith;
   whole_height = omega arith;
 }
-space_sized space_op.ConvertToY8 shape fits told = record { some_width = fits.some_width; some_height = fits.some_height; whole_width = omega arith; whole_height = omega arith }
+space_sized space_op.ConvertToY8 shape fits told = record { depth = luma_depth shape.kind shape.bits fits.depth; some_width = fits.some_width; some_height = fits.some_height; whole_width = omega arith; whole_height = omega arith }
 
 -- GROUP JOIN
 
@@ -257,7 +270,7 @@ widths_whole : (shape : Shape) (ds : List Info) (a : ℕ) → AreLawful ds → l
 widths_whole shape [] a lawful e f = f
 widths_whole shape (d ∷ ds) a lawful e f =
     let two = all_at (λ (o : Info). same_format o.shape shape) d ds e in
-    let kind = same_kind_is d.shape.kind shape.kind two.0 in
+    let kind = (same_format_is d.shape shape two.0).0 in
     let first = (lawful 0 (omega arith)).shape.whole_width in
     widths_whole shape ds (a + d.shape.width) (λ i h. lawful (suc i) (omega arith)) two.1 (whole_two_w shape.kind a d.shape.width f (rw kind at first))
 
@@ -266,7 +279,7 @@ heights_whole : (shape : Shape) (ds : List Info) (a : ℕ) → AreLawful ds → 
 heights_whole shape [] a lawful e f = f
 heights_whole shape (d ∷ ds) a lawful e f =
     let two = all_at (λ (o : Info). same_format o.shape shape) d ds e in
-    let kind = same_kind_is d.shape.kind shape.kind two.0 in
+    let kind = (same_format_is d.shape shape two.0).0 in
     let first = (lawful 0 (omega arith)).shape.whole_height in
     heights_whole shape ds (a + d.shape.height) (λ i h. lawful (suc i) (omega arith)) two.1 (whole_two_h shape.kind a d.shape.height f (rw kind at first))
 
@@ -316,6 +329,7 @@ join_sized join_op.StackHorizontal infos lawful sound told =
     let some = join_some join_op.StackHorizontal (length infos) sound in
     let first = (lawful 0 some).shape in
     record {
+      depth = first.depth;
       some_width = some_sum (λ (d : Info). d.shape.width) infos some first.some_width;
       some_height = first.some_height;
       whole_width = widths_whole shape infos 0 lawful (not_false (list_all (λ (d : Info). same_format d.shape shape) infos) told.0) (whole_zero_w shape.kind);
@@ -326,6 +340,7 @@ join_sized join_op.StackVertical infos lawful sound told =
     let some = join_some join_op.StackVertical (length infos) sound in
     let first = (lawful 0 some).shape in
     record {
+      depth = first.depth;
       some_width = first.some_width;
       some_height = some_sum (λ (d : Info). d.shape.height) infos some first.some_height;
       whole_width = first.whole_width;
@@ -337,10 +352,11 @@ join_sized join_op.YToUV infos lawful sound told =
     let k = unwrap_or (kind_of u y) Y8 in
     let three = same_number (length infos) 3 sound in
     let third = (lawful 2 (omega arith)).shape in
-    let tests = or_false (not (same_size u (info_at infos 1).shape)) (is_none (kind_of u y)) told.0 in
+    let tests = or_false (not (same_size u (info_at infos 1).shape)) (is_none (kind_of u y)) told.1.0 in
     let fits = found (has_sizes u y) (YV24 ∷ YV16 ∷ YV12 ∷ YV411 ∷ []) k (some_kind (kind_of u y) tests.1) in
     let sizes = both (y.width == u.width * sub_w k) (y.height == u.height * sub_h k) fits in
     record {
+      depth = not_false (has_depth k u.bits) told.1.1.0;
       some_width = third.some_width;
       some_height = third.some_height;
       whole_width = whole_times_w k y.width u.width (same_number y.width (u.width * sub_w k) sizes.0);
@@ -355,14 +371,14 @@ join_sized join_op.MergeChroma infos lawful sound told = sized_of (info_at infos
 time_some_input : (op : TimeOp) (k : ℕ) → time_inputs op k ≡ true → 0 < k
 time_some_input _ k e = grind (arith, nat_tests)
 
-plain_sized : (info : Info) → Passed (plain_refusals info) → IsSized info.shape × IsSome (rate_of info)
-plain_sized info told =
+plain_sized : (info : Info) → has_depth info.shape.kind info.shape.bits ≡ true → Passed (plain_refusals info) → IsSized info.shape × IsSome (rate_of info)
+plain_sized info depth told =
     let shape = info.shape in
     let dens = or_false (shape.width == 0 || shape.height == 0 || info.num == 0) (info.den == 0) told.0 in
     let nums = or_false (shape.width == 0 || shape.height == 0) (info.num == 0) dens.0 in
     let sides = or_false (shape.width == 0) (shape.height == 0) nums.0 in
     let whole = whole_parts shape shape.width shape.height (not_false (is_whole shape shape.width shape.height) told.1.0) in (
-      record { some_width = some_number shape.width sides.0; some_height = some_number shape.height sides.1; whole_width = whole.0; whole_height = whole.1 },
+      record { depth = depth; some_width = some_number shape.width sides.0; some_height = some_number shape.height sides.1; whole_width = whole.0; whole_height = whole.1 },
       record { num = some_number info.num nums.1; den = some_number info.den dens.1 },
     )
 
@@ -370,7 +386,7 @@ pub checks_lawful : ChecksLawful
 checks_lawful (source name number told) infos info sound lawful e = let same : told ≡ info = cc in subst (λ (i : Info). IsLawful i) same sound.1
 checks_lawful (plain told colour) infos info sound lawful e =
     let rest = passed (plain_refusals told) (limits told told.frames (rate_of told) told.shape) info e in
-    let fits = plain_sized told rest.0 in
+    let fits = plain_sized told sound.2 rest.0 in
     limits_lawful told told.frames (rate_of told) told.shape info rest.1 sound.1 fits.1.num fits.1.den fits.0
 checks_lawful (time op) infos info sound lawful e =
     let c = info_at infos 0 in

@@ -64,12 +64,19 @@ same_kind_is _ _ e = cc
 pub same_number : (a b : ℕ) → a == b ≡ true → a ≡ b
 same_number a b e = grind (arith, nat_tests)
 
-same_shape : (a b : Shape) → a.kind ≡ b.kind → a.width ≡ b.width → a.height ≡ b.height → a ≡ b
-same_shape a b e f g =
-    let one : PixelType → Shape = λ k. record { kind = k; width = a.width; height = a.height } in
-    let two : ℕ → Shape = λ w. record { kind = b.kind; width = w; height = a.height } in
-    let three : ℕ → Shape = λ h. record { kind = b.kind; width = b.width; height = h } in
-    ap one e ∙ ap two f ∙ ap three g
+-- shapes of one format have one kind and as many bits
+pub same_format_is : (a b : Shape) → same_format a b ≡ true → (a.kind ≡ b.kind) × (a.bits ≡ b.bits)
+same_format_is a b e =
+    let two = both (same_kind a.kind b.kind) (a.bits == b.bits) e in
+    (same_kind_is a.kind b.kind two.0, same_number a.bits b.bits two.1)
+
+same_shape : (a b : Shape) → a.kind ≡ b.kind → a.bits ≡ b.bits → a.width ≡ b.width → a.height ≡ b.height → a ≡ b
+same_shape a b e d f g =
+    let one : PixelType → Shape = λ k. record { kind = k; bits = a.bits; width = a.width; height = a.height } in
+    let two : ℕ → Shape = λ n. record { kind = b.kind; bits = n; width = a.width; height = a.height } in
+    let three : ℕ → Shape = λ w. record { kind = b.kind; bits = b.bits; width = w; height = a.height } in
+    let four : ℕ → Shape = λ h. record { kind = b.kind; bits = b.bits; width = b.width; height = h } in
+    ap one e ∙ ap two d ∙ ap three f ∙ ap four g
 
 all_shapes : (shape : Shape) (ds : List Info) → list_all (λ (d : Info). same_format d.shape shape) ds ≡ true → list_all (λ (d : Info). same_size d.shape shape) ds ≡ true
     → (i : ℕ) → i < length ds → (info_at ds i).shape ≡ shape
@@ -78,7 +85,8 @@ all_shapes shape (d ∷ ds) e f zero h =
     let k = all_at (λ (o : Info). same_format o.shape shape) d ds e in
     let s = all_at (λ (o : Info). same_size o.shape shape) d ds f in
     let t = both (d.shape.width == shape.width) (d.shape.height == shape.height) s.0 in
-    same_shape d.shape shape (same_kind_is d.shape.kind shape.kind k.0) (same_number d.shape.width shape.width t.0) (same_number d.shape.height shape.height t.1)
+    let q = same_format_is d.shape shape k.0 in
+    same_shape d.shape shape q.0 q.1 (same_number d.shape.width shape.width t.0) (same_number d.shape.height shape.height t.1)
 all_shapes shape (d ∷ ds) e f (suc i) h =
     all_shapes shape ds (all_at (λ (o : Info). same_format o.shape shape) d ds e).1 (all_at (λ (o : Info). same_size o.shape shape) d ds f).1 i (omega arith)
 

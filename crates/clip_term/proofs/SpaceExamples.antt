@@ -49,4 +49,8 @@ space_rows = record {
   u_to_y8_of_y8 = refl;
   v_to_y8_of_y8 = refl;
   convert_to_y8 = refl;
+  invert_ten_bits = refl;
+  limiter_of_ten_bits = refl;
+  borders_of_ten_bits = refl;
+  luma_of_ten_bits = refl;
 }

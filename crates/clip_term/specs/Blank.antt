@@ -4,12 +4,11 @@ use Rattle.std.specs.Option.{option_map, unwrap_or}
 use Rattle.fv_plane.specs.declared.format.Info.{Info}
 use Rattle.fv_plane.specs.declared.format.Shape.{Shape}
 use Rattle.fv_plane.specs.declared.format.Colour.{Colour}
-use Rattle.fv_plane.specs.declared.format.PixelType.{PixelType}
 use Rattle.fv_plane.specs.declared.format.PixelType.TheVariants.{YV12}
 use Rattle.fv_plane.specs.declared.format.Field.TheVariants.{Progressive}
 use Rattle.fv_plane.specs.declared.format.Tag.TheVariants.{Jpeg}
 use Rattle.fv_plane.specs.Format.{scale}
-use Rattle.fv_plane.specs.FormatNames.{format_named}
+use Rattle.fv_plane.specs.FormatNames.{format_named, format_of}
 use Rattle.fv_plane.specs.declared.format_names.Format.{Format}
 use Rattle.clip_term.specs.declared.arguments.TheConstants.{BLACK}
 use Rattle.clip_term.specs.declared.fault.FilterFault.{FilterFault}
@@ -31,7 +30,7 @@ pub record BlankArgs : Type 0 where
 -- what isn't given where there is no clip
 abbrev pub default_clip : Info
 default_clip = record {
-  shape = record { kind = YV12; width = 640; height = 480 };
+  shape = record { kind = YV12; bits = 8; width = 640; height = 480 };
   frames = 240;
   num = 24;
   den = 1;
@@ -51,9 +50,9 @@ abbrev pub bad_format : Option (List ℕ) → Bool
 bad_format None = false
 bad_format (Some text) = is_none (format_named text)
 
-abbrev pub format_or : PixelType → Option (List ℕ) → PixelType
-format_or kind None = kind
-format_or kind (Some text) = unwrap_or (option_map (λ (format : Format). format.kind) (format_named text)) kind
+abbrev pub format_or : Format → Option (List ℕ) → Format
+format_or format None = format
+format_or format (Some text) = unwrap_or (format_named text) format
 
 abbrev pub nat_or : ℕ → Option ℤ → ℕ
 nat_or n None = n
@@ -66,7 +65,8 @@ colour_given args = unwrap_or args.color_yuv default_colour
 abbrev pub blank_info : Info → BlankArgs → Info
 blank_info c args = record c {
   shape = record c.shape {
-    kind = format_or c.shape.kind args.pixel_type;
+    kind = (format_or (format_of c.shape) args.pixel_type).kind;
+    bits = (format_or (format_of c.shape) args.pixel_type).bits;
     width = nat_or c.shape.width args.width;
     height = nat_or c.shape.height args.height;
   };

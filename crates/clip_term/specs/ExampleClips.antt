@@ -18,40 +18,43 @@ use Rattle.clip_term.specs.ClipTerm.{Act, ClipTerm, applied, no_terms, and_term,
 use Rattle.clip_term.specs.Terms.{info_of, term_picture}
 
 abbrev pub m4_told : Info
-m4_told = record { shape = record { kind = Y8; width = 1; height = 1 }; frames = 4; num = 25; den = 1; field = Progressive; par = record { num = 1; den = 1 }; tag = Jpeg }
+m4_told = record { shape = record { kind = Y8; bits = 8; width = 1; height = 1 }; frames = 4; num = 25; den = 1; field = Progressive; par = record { num = 1; den = 1 }; tag = Jpeg }
 
 abbrev pub m3_told : Info
-m3_told = record { shape = record { kind = Y8; width = 1; height = 1 }; frames = 3; num = 25; den = 1; field = Progressive; par = record { num = 1; den = 1 }; tag = Jpeg }
+m3_told = record { shape = record { kind = Y8; bits = 8; width = 1; height = 1 }; frames = 3; num = 25; den = 1; field = Progressive; par = record { num = 1; den = 1 }; tag = Jpeg }
 
 abbrev pub p_told : Info
-p_told = record { shape = record { kind = YV12; width = 2; height = 2 }; frames = 1; num = 25; den = 1; field = Progressive; par = record { num = 1; den = 1 }; tag = Jpeg }
+p_told = record { shape = record { kind = YV12; bits = 8; width = 2; height = 2 }; frames = 1; num = 25; den = 1; field = Progressive; par = record { num = 1; den = 1 }; tag = Jpeg }
 
 abbrev pub a12_told : Info
-a12_told = record { shape = record { kind = YV12; width = 4; height = 4 }; frames = 2; num = 30; den = 1; field = Top; par = record { num = 4; den = 3 }; tag = Mpeg2 }
+a12_told = record { shape = record { kind = YV12; bits = 8; width = 4; height = 4 }; frames = 2; num = 30; den = 1; field = Top; par = record { num = 4; den = 3 }; tag = Mpeg2 }
 
 abbrev pub b12_told : Info
-b12_told = record { shape = record { kind = YV12; width = 4; height = 4 }; frames = 2; num = 25; den = 1; field = Progressive; par = record { num = 1; den = 1 }; tag = Jpeg }
+b12_told = record { shape = record { kind = YV12; bits = 8; width = 4; height = 4 }; frames = 2; num = 25; den = 1; field = Progressive; par = record { num = 1; den = 1 }; tag = Jpeg }
 
 abbrev pub c12_told : Info
-c12_told = record { shape = record { kind = YV12; width = 2; height = 4 }; frames = 1; num = 25; den = 1; field = Progressive; par = record { num = 1; den = 1 }; tag = Jpeg }
+c12_told = record { shape = record { kind = YV12; bits = 8; width = 2; height = 4 }; frames = 1; num = 25; den = 1; field = Progressive; par = record { num = 1; den = 1 }; tag = Jpeg }
 
 abbrev pub a16_told : Info
-a16_told = record { shape = record { kind = YV16; width = 4; height = 2 }; frames = 2; num = 25; den = 1; field = Progressive; par = record { num = 1; den = 1 }; tag = Jpeg }
+a16_told = record { shape = record { kind = YV16; bits = 8; width = 4; height = 2 }; frames = 2; num = 25; den = 1; field = Progressive; par = record { num = 1; den = 1 }; tag = Jpeg }
 
 abbrev pub a24_told : Info
-a24_told = record { shape = record { kind = YV24; width = 3; height = 2 }; frames = 2; num = 25; den = 1; field = Progressive; par = record { num = 1; den = 1 }; tag = Jpeg }
+a24_told = record { shape = record { kind = YV24; bits = 8; width = 3; height = 2 }; frames = 2; num = 25; den = 1; field = Progressive; par = record { num = 1; den = 1 }; tag = Jpeg }
 
 abbrev pub a11_told : Info
-a11_told = record { shape = record { kind = YV411; width = 8; height = 1 }; frames = 1; num = 25; den = 1; field = Progressive; par = record { num = 1; den = 1 }; tag = Jpeg }
+a11_told = record { shape = record { kind = YV411; bits = 8; width = 8; height = 1 }; frames = 1; num = 25; den = 1; field = Progressive; par = record { num = 1; den = 1 }; tag = Jpeg }
 
 abbrev pub a8_told : Info
-a8_told = record { shape = record { kind = Y8; width = 4; height = 3 }; frames = 3; num = 25; den = 1; field = Progressive; par = record { num = 1; den = 1 }; tag = Jpeg }
+a8_told = record { shape = record { kind = Y8; bits = 8; width = 4; height = 3 }; frames = 3; num = 25; den = 1; field = Progressive; par = record { num = 1; den = 1 }; tag = Jpeg }
 
 abbrev pub b8_told : Info
-b8_told = record { shape = record { kind = Y8; width = 2; height = 2 }; frames = 2; num = 25; den = 1; field = Progressive; par = record { num = 1; den = 1 }; tag = Jpeg }
+b8_told = record { shape = record { kind = Y8; bits = 8; width = 2; height = 2 }; frames = 2; num = 25; den = 1; field = Progressive; par = record { num = 1; den = 1 }; tag = Jpeg }
 
 abbrev pub q8_told : Info
-q8_told = record { shape = record { kind = Y8; width = 2; height = 2 }; frames = 1; num = 25; den = 1; field = Progressive; par = record { num = 1; den = 1 }; tag = Jpeg }
+q8_told = record { shape = record { kind = Y8; bits = 8; width = 2; height = 2 }; frames = 1; num = 25; den = 1; field = Progressive; par = record { num = 1; den = 1 }; tag = Jpeg }
+
+abbrev pub d10_told : Info
+d10_told = record { shape = record { kind = Y8; bits = 10; width = 2; height = 1 }; frames = 1; num = 25; den = 1; field = Progressive; par = record { num = 1; den = 1 }; tag = Jpeg }
 
 abbrev pub book : List (List Picture)
 book =
@@ -67,6 +70,7 @@ book =
     ∷ (record { shape = a8_told.shape; planes = (((87 ∷ 215 ∷ 154 ∷ 138 ∷ []) ∷ (14 ∷ 100 ∷ 81 ∷ 225 ∷ []) ∷ (92 ∷ 112 ∷ 92 ∷ 21 ∷ []) ∷ []) ∷ []) } ∷ record { shape = a8_told.shape; planes = (((241 ∷ 115 ∷ 84 ∷ 27 ∷ []) ∷ (68 ∷ 56 ∷ 162 ∷ 92 ∷ []) ∷ (247 ∷ 99 ∷ 18 ∷ 212 ∷ []) ∷ []) ∷ []) } ∷ record { shape = a8_told.shape; planes = (((238 ∷ 179 ∷ 194 ∷ 36 ∷ []) ∷ (104 ∷ 121 ∷ 191 ∷ 0 ∷ []) ∷ (179 ∷ 207 ∷ 142 ∷ 209 ∷ []) ∷ []) ∷ []) } ∷ [])
     ∷ (record { shape = b8_told.shape; planes = (((58 ∷ 191 ∷ []) ∷ (18 ∷ 154 ∷ []) ∷ []) ∷ []) } ∷ record { shape = b8_told.shape; planes = (((48 ∷ 151 ∷ []) ∷ (173 ∷ 150 ∷ []) ∷ []) ∷ []) } ∷ [])
     ∷ (record { shape = q8_told.shape; planes = (((1 ∷ 2 ∷ []) ∷ (3 ∷ 4 ∷ []) ∷ []) ∷ []) } ∷ [])
+    ∷ (record { shape = d10_told.shape; planes = (((513 ∷ 1023 ∷ []) ∷ []) ∷ []) } ∷ [])
     ∷ []
 
 abbrev pub m4 : ClipTerm
@@ -104,6 +108,9 @@ b8 = applied (source [] 10 b8_told) no_terms
 
 abbrev pub q8 : ClipTerm
 q8 = applied (source [] 11 q8_told) no_terms
+
+abbrev pub d10 : ClipTerm
+d10 = applied (source [] 12 d10_told) no_terms
 
 abbrev pub one : Act → ClipTerm → ClipTerm
 one act c = applied act (and_term c no_terms)

@@ -7,9 +7,9 @@ use Rattle.fv_plane.specs.declared.format.Info.{Info}
 use Rattle.fv_plane.specs.declared.format.Shape.{Shape}
 use Rattle.fv_plane.specs.declared.format.PixelType.{PixelType}
 use Rattle.fv_plane.specs.declared.format.PixelType.TheVariants.{Y8, YV12, YV16, YV24, YV411}
-use Rattle.fv_plane.specs.Format.{sub_w, sub_h, plane_width, plane_height}
+use Rattle.fv_plane.specs.Format.{has_depth, sub_w, sub_h, plane_width, plane_height}
 use Rattle.clip_term.specs.declared.fault.FilterFault.{FilterFault}
-use Rattle.clip_term.specs.declared.fault.FilterFault.TheVariants.{FormatDiffers, SizeDiffers}
+use Rattle.clip_term.specs.declared.fault.FilterFault.TheVariants.{FormatDiffers, SizeDiffers, DepthRefused}
 use Rattle.clip_term.specs.declared.op.JoinOp.{JoinOp}
 use Rattle.clip_term.specs.declared.op.JoinOp.TheVariants as op
 use Rattle.fv_plane.specs.Look.{Look, look_at}
@@ -56,7 +56,9 @@ join_refusals op.Merge c infos = disagreements infos
 join_refusals op.MergeLuma c infos = disagreements infos
 join_refusals op.MergeChroma c infos = disagreements infos
 join_refusals op.YToUV c infos =
-    (SizeDiffers, not (same_size c.shape (info_at infos 1).shape) || is_none (kind_of c.shape (info_at infos 2).shape))
+    (FormatDiffers, not (list_all (λ (d : Info). d.shape.bits == c.shape.bits) infos))
+    ∷ (SizeDiffers, not (same_size c.shape (info_at infos 1).shape) || is_none (kind_of c.shape (info_at infos 2).shape))
+    ∷ (DepthRefused, not (has_depth (unwrap_or (kind_of c.shape (info_at infos 2).shape) Y8) c.shape.bits))
     ∷ []
 
 -- Length.

@@ -39,7 +39,7 @@ rate_of c = record { num = c.num; den = c.den }
 -- what stands where an input is missing
 abbrev pub no_info : Info
 no_info = record {
-  shape = record { kind = Y8; width = 0; height = 0 };
+  shape = record { kind = Y8; bits = 8; width = 0; height = 0 };
   frames = 0;
   num = 0;
   den = 1;
@@ -63,7 +63,7 @@ same_kind YV411 YV411 = true
 same_kind _ _ = false
 
 abbrev pub same_format : Shape → Shape → Bool
-same_format a b = same_kind a.kind b.kind
+same_format a b = same_kind a.kind b.kind && a.bits == b.bits
 
 abbrev pub same_size : Shape → Shape → Bool
 same_size a b = a.width == b.width && a.height == b.height

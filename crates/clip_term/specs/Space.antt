@@ -6,7 +6,7 @@ use Rattle.fv_plane.specs.declared.format.Shape.{Shape}
 use Rattle.fv_plane.specs.declared.format.PixelType.TheVariants.{Y8, YV16, YV411}
 use Rattle.fv_plane.specs.Format.{largest_sample, scale, plane_width, plane_height}
 use Rattle.clip_term.specs.declared.fault.FilterFault.{FilterFault}
-use Rattle.clip_term.specs.declared.fault.FilterFault.TheVariants.{BadRange, NotWholeChroma, OutOfPicture, TurnFormat, NeedsChroma}
+use Rattle.clip_term.specs.declared.fault.FilterFault.TheVariants.{BadRange, NotWholeChroma, OutOfPicture, TurnFormat, NeedsChroma, DepthRefused}
 use Rattle.clip_term.specs.declared.op.Channels.{Channels}
 use Rattle.clip_term.specs.declared.op.SpaceOp.{SpaceOp}
 use Rattle.clip_term.specs.declared.op.SpaceOp.TheVariants as op
@@ -85,9 +85,9 @@ space_refusals (op.Invert channels) shape = []
 space_refusals (op.Limiter min_luma max_luma min_chroma max_chroma) shape =
     (BadRange, bad_bounds min_luma max_luma || bad_bounds min_chroma max_chroma) ∷ []
 space_refusals op.SwapUV shape = []
-space_refusals op.UToY8 shape = (NeedsChroma, same_kind shape.kind Y8) ∷ []
-space_refusals op.VToY8 shape = (NeedsChroma, same_kind shape.kind Y8) ∷ []
-space_refusals op.ConvertToY8 shape = []
+space_refusals op.UToY8 shape = (NeedsChroma, same_kind shape.kind Y8) ∷ (DepthRefused, not (shape.bits == 8)) ∷ []
+space_refusals op.VToY8 shape = (NeedsChroma, same_kind shape.kind Y8) ∷ (DepthRefused, not (shape.bits == 8)) ∷ []
+space_refusals op.ConvertToY8 shape = (DepthRefused, not (shape.bits == 8)) ∷ []
 
 -- Size.
 

@@ -3,6 +3,7 @@ use Rattle.std.specs.Prelude.{◌≡◌, ℕ, ◌+◌, ◌<◌, Bool, true, ◌&
 use Rattle.std.specs.List.{All, range_with_len, list_all}
 use Rattle.fv_plane.specs.declared.format.Info.{Info}
 use Rattle.fv_plane.specs.declared.format.Shape.{Shape}
+use Rattle.fv_plane.specs.Format.{has_depth}
 use Rattle.fv_plane.specs.Info.{IsLawful, IsPar}
 use Rattle.fv_plane.specs.Picture.{Picture}
 use Rattle.clip_term.specs.declared.fault.FilterFault.{FilterFault}
@@ -126,7 +127,7 @@ soft_lists (soft_op.GeneralConvolution bias matrix) = is_matrix matrix.entries
 
 abbrev pub IsSound : Act → ℕ → Type 0
 IsSound (source name number info) k = (k ≡ 0) × IsLawful info
-IsSound (plain info colour) k = (k ≡ 0) × IsPar info.par
+IsSound (plain info colour) k = (k ≡ 0) × IsPar info.par × (has_depth info.shape.kind info.shape.bits ≡ true)
 IsSound (time op) k = IsTrue (time_inputs op k && time_lists op)
 IsSound (space op) k = k ≡ 1
 IsSound (joined op) k = IsTrue (join_inputs op k)

@@ -40,6 +40,9 @@ pub enum FilterFault {
     /// A side over 65,535, or a frame over 16,777,216 bytes.
     #[error("a side is over 65535, or a frame over 16777216 bytes")]
     TooLarge,
+    /// Bits of a sample that the filter or the format doesn't take.
+    #[error("the filter or the format does not take samples of so many bits")]
+    DepthRefused,
 }
 
 impl FilterFault {
@@ -63,6 +66,7 @@ impl FilterFault {
             FilterFault::TurnFormat => "TurnFormat",
             FilterFault::NeedsChroma => "NeedsChroma",
             FilterFault::TooLarge => "TooLarge",
+            FilterFault::DepthRefused => "DepthRefused",
         }
     }
 }

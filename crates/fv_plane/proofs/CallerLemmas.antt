@@ -5,7 +5,7 @@ use Rattle.fv_plane.specs.declared.format.TheConstants.Shape.{MAX_SIDE, MAX_BYTE
 use Rattle.fv_plane.specs.declared.format.PixelType.{PixelType}
 use Rattle.fv_plane.specs.declared.format.PixelType.TheVariants.{Y8, YV12, YV16, YV24, YV411}
 use Rattle.fv_plane.specs.declared.format.Shape.{Shape}
-use Rattle.fv_plane.specs.Format.{IsLegal, has_depth, has_whole_sides, largest_sample, scale, planes, plane_width, plane_height, sub_w, sub_h, frame_bytes}
+use Rattle.fv_plane.specs.Format.{IsLegal, has_depth, has_whole_sides, largest_sample, scale, sample_bytes, planes, plane_width, plane_height, sub_w, sub_h, frame_bytes}
 use Rattle.fv_plane.specs.Picture.{Picture, IsPicture, row_of}
 use Rattle.fv_plane.specs.Bytes.{bytes_of, bytes_of_row, picture_of, row_of_bytes, in_range, wide_bytes, wide_samples, FitsRow, FitBytes}
 use Rattle.fv_plane.proofs.BytesLemmas.{row-bytes_of_row}
@@ -126,6 +126,10 @@ pub narrow_of_bytes : (shape : Shape) (bytes : List ℕ) → shape.bits ≡ 8 �
 unfolding row_of_bytes
 narrow_of_bytes shape bytes narrow = rw narrow refl
 
+-- the bytes of a sample
+abbrev size_by : Bool → ℕ
+size_by b = if b then 1 else 2
+
 wide_row_by : (b : Bool) (row : List ℕ) → b ≡ false → (if b then row else wide_bytes row) ≡ wide_bytes row
 wide_row_by true row wide = cc
 wide_row_by false row wide = refl
@@ -159,6 +163,22 @@ row_again shape row = row-bytes_of_row shape row
 -- a part of a colour of eight bits is a sample, scaled
 pub scaled : (shape : Shape) (n : ℕ) → has_depth shape.kind shape.bits ≡ true → n ≤ 255 → n * scale shape ≤ largest_sample shape
 scaled shape n is small = picture.scaled shape n is small
+
+two_bytes_by : (b : Bool) → size_by b ≡ 2 → b ≡ false
+two_bytes_by true is = absurd (omega arith)
+two_bytes_by false is = refl
+
+-- samples of two bytes have more than eight bits
+pub is_wide : (shape : Shape) → sample_bytes shape ≡ 2 → (shape.bits == 8) ≡ false
+is_wide shape is = two_bytes_by (shape.bits == 8) is
+
+two_by : (b : Bool) → b ≡ false → size_by b ≡ 2
+two_by true is = cc
+two_by false is = refl
+
+-- and samples of more have two bytes
+pub two_bytes : (shape : Shape) → (shape.bits == 8) ≡ false → sample_bytes shape ≡ 2
+two_bytes shape is = two_by (shape.bits == 8) is
 
 -- a sample has more than eight bits, or eight
 pub depth_cases : (shape : Shape) → (shape.bits ≡ 8) ⊎ ((shape.bits == 8) ≡ false)

@@ -1,9 +1,13 @@
 -- The formats by their names, computed.
-use Rattle.std.proofs.Common.{◌≡◌, ℕ, Some, refl, sym, subst, true, inl, inr}
+use Rattle.std.proofs.Common.{◌≡◌, ℕ, Some, refl, sym, subst, Bool, true, false, if◌then◌else◌, List, [], ◌∷◌, inl, inr}
 use Rattle.fv_plane.specs.declared.format.PixelType.{PixelType}
 use Rattle.fv_plane.specs.declared.format.PixelType.TheVariants.{Y8, YV12, YV16, YV24, YV411}
 use Rattle.fv_plane.specs.Format.{has_depth}
-use Rattle.fv_plane.specs.FormatNames.{FormatsAreNamed, format_named, name_of}
+use Rattle.fv_plane.specs.FormatNames.{FormatsAreNamed, format_named, name_of, has_name, all_formats}
+use Rattle.fv_plane.specs.declared.format_names.Format.{Format}
+use Rattle.std.specs.List.{find, list_all}
+use Rattle.std.specs.Prelude.{IfSome, Option}
+use Rattle.std.proofs.lemmas.Bool.{and_parts}
 use Rattle.fv_plane.proofs.PictureLemmas.{five_depths}
 
 abbrev Found : PixelType → ℕ → Type 0
@@ -54,3 +58,18 @@ formats_are_named format is =
       | inr (inr (inr (inl e))) ↦ subst (λ n. Found kind n) (sym e) (of_14_bits kind (subst (λ n. has_depth kind n ≡ true) e is))
       | inr (inr (inr (inr e))) ↦ subst (λ n. Found kind n) (sym e) (of_16_bits kind (subst (λ n. has_depth kind n ≡ true) e is))
     ]
+
+picked : (b : Bool) (x : Format) (rest : Option Format) → has_depth x.kind x.bits ≡ true → IfSome rest (λ (f : Format). has_depth f.kind f.bits ≡ true)
+    → IfSome (if b then Some x else rest) (λ (f : Format). has_depth f.kind f.bits ≡ true)
+picked true x rest is later = is
+picked false x rest is later = later
+
+found_legal : (p : Format → Bool) (xs : List Format) → list_all (λ (f : Format). has_depth f.kind f.bits) xs ≡ true → IfSome (find p xs) (λ (f : Format). has_depth f.kind f.bits ≡ true)
+found_legal p [] all = tt
+found_legal p (x ∷ xs) all =
+    let two = and_parts (has_depth x.kind x.bits) (list_all (λ (f : Format). has_depth f.kind f.bits) xs) all in
+    picked (p x) x (find p xs) two.0 (found_legal p xs two.1)
+
+-- a format that is named has the bits of its kind
+pub named_legal : (text : List ℕ) → IfSome (format_named text) (λ (f : Format). has_depth f.kind f.bits ≡ true)
+named_legal text = found_legal (has_name text) all_formats refl

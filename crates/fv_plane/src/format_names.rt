@@ -1,5 +1,6 @@
 // The formats by their names.
-ghost use Rattle.std.specs.Prelude.{◌≡◌};
+ghost use Rattle.std.specs.Prelude.{◌≡◌, IfSome, true};
+ghost use Rattle.fv_plane.specs.Format.{has_depth};
 ghost use Rattle.fv_plane.specs.FormatNames.{format_named, has_name, kind_name, deep_name};
 
 use crate::{PixelType, Shape};
@@ -206,12 +207,19 @@ fn has_name(text: &str, format: Format) -> bool
     text.eq_ignore_ascii_case(format.name())
 }
 
-/// The format of a name, in any case of letters. `None` comes exactly where the text is no such name.
-pub fn format_named(text: &str) -> Option<Format>
+fn find_named(text: &str) -> Option<Format>
     ensures { result ≡ format_named text.now }
 {
     Format::ALL
         .iter()
         .copied()
         .find(|format| has_name(text, *format))
+}
+
+/// The format of a name, in any case of letters. `None` comes exactly where the text is no such name.
+pub fn format_named(text: &str) -> Option<Format>
+    ensures found { result ≡ format_named text.now }
+    ensures legal { IfSome result (λ format. has_depth format.kind format.bits ≡ true) }
+{
+    find_named(text)
 }
