@@ -14,6 +14,7 @@ pub record Tells (s : Summary) (infos : List Info) : Type 0 where
   pub second : s.second ≡ info_at infos 1
   pub third : s.third ≡ info_at infos 2
   pub formats : s.same_formats ≡ list_all (λ (d : Info). same_format d.shape (info_at infos 0).shape) infos
+  pub bits : s.same_bits ≡ list_all (λ (d : Info). d.shape.bits == (info_at infos 0).shape.bits) infos
   pub sizes : s.same_sizes ≡ list_all (λ (d : Info). same_size d.shape (info_at infos 0).shape) infos
   pub widths : s.same_widths ≡ list_all (λ (d : Info). d.shape.width == (info_at infos 0).shape.width) infos
   pub heights : s.same_heights ≡ list_all (λ (d : Info). d.shape.height == (info_at infos 0).shape.height) infos

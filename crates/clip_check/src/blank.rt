@@ -1,5 +1,6 @@
 // The check of a clip of one colour.
-ghost use Rattle.std.specs.Prelude.{◌≡◌, IfOk};
+ghost use Rattle.std.specs.Prelude.{◌≡◌, IfOk, true};
+ghost use Rattle.fv_plane.specs.Format.{has_depth};
 ghost use Rattle.fv_plane.specs.Info.{IsLawful, IsPar};
 ghost use Rattle.fv_plane.specs.Refusals.{first_fault};
 ghost use Rattle.clip_term.specs.Blank.{has_zero, plain_refusals, check_plain};
@@ -35,7 +36,8 @@ fn plain_fault(info: Info) -> Option<FilterFault>
 /// The info of a clip of one colour, in lowest terms, or the first refusal.
 pub fn check_blank_info(info: Info) -> Result<Info, FilterFault>
     ensures exact { result ≡ check_plain info }
-    ensures lawful { IsPar info.par → IfOk result (λ made. IsLawful made) }
+    ensures lawful { IsPar info.par → has_depth info.shape.kind info.shape.bits ≡ true
+        → IfOk result (λ made. IsLawful made) }
 {
     match plain_fault(info) {
         Some(fault) => Err(fault),

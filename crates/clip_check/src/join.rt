@@ -1,11 +1,11 @@
 // The checks of the group Join.
-ghost use Rattle.std.specs.Prelude.{◌≡◌, ◌∷◌, [], ◌||◌, not, is_none, List, length, IfOk};
+ghost use Rattle.std.specs.Prelude.{◌≡◌, ◌∷◌, [], List, length, IfOk};
 ghost use Rattle.fv_plane.specs.declared.format.Info.{Info};
 ghost use Rattle.fv_plane.specs.Info.{IsLawful};
 ghost use Rattle.fv_plane.specs.Refusals.{first_fault};
-ghost use Rattle.clip_term.specs.declared.fault.FilterFault.TheVariants.{FormatDiffers, SizeDiffers};
-ghost use Rattle.clip_term.specs.Refusals.{same_size};
-ghost use Rattle.clip_term.specs.Join.{has_sizes, kind_of, join_refusals, join_length, join_shape, check_join};
+ghost use Rattle.std.specs.Option.{unwrap_or};
+ghost use Rattle.fv_plane.specs.declared.format.PixelType.TheVariants.{Y8};
+ghost use Rattle.clip_term.specs.Join.{has_sizes, kind_of, chroma_refusals, join_refusals, join_length, join_shape, check_join};
 ghost use Rattle.clip_term.specs.ClipTerm.{joined};
 ghost use Rattle.clip_term.specs.Terms.{IsSound, AreLawful};
 ghost use Rattle.clip_check.specs.Numbers.{shape_in};
@@ -42,14 +42,27 @@ fn kind_of(u: Shape, y: Shape) -> Option<PixelType>
     }
 }
 
-fn chroma_fault(u: Shape, v: Shape, y: Shape) -> Option<FilterFault>
-    ensures { result ≡ first_fault ((SizeDiffers, not (same_size u v) || is_none (kind_of u y)) ∷ []) }
+fn chroma_fault(same_bits: bool, u: Shape, v: Shape, y: Shape) -> Option<FilterFault>
+    ensures { result ≡ first_fault (chroma_refusals same_bits u v y) }
 {
-    if !same_size(u, v) || kind_of(u, y).is_none() {
-        Some(FilterFault::SizeDiffers)
-    } else {
-        None
+    if !same_bits {
+        return Some(FilterFault::FormatDiffers);
     }
+    if !same_size(u, v) || kind_of(u, y).is_none() {
+        return Some(FilterFault::SizeDiffers);
+    }
+    if joined_kind(u, y).has_depth(u.bits) {
+        None
+    } else {
+        Some(FilterFault::DepthRefused)
+    }
+}
+
+// The format that chroma of the size of `u` makes with luma of the size of `y`.
+fn joined_kind(u: Shape, y: Shape) -> PixelType
+    ensures { result ≡ unwrap_or (kind_of u y) Y8 }
+{
+    kind_of(u, y).unwrap_or(PixelType::Y8)
 }
 
 // What the row refuses.
@@ -65,6 +78,7 @@ fn join_fault(op: &JoinOp, summary: &Summary) -> Option<FilterFault>
             summary.same_sizes,
         ),
         JoinOp::YToUV => chroma_fault(
+            summary.same_bits,
             summary.first.shape,
             summary.second.shape,
             summary.third.shape,
@@ -100,7 +114,8 @@ fn join_sides(op: &JoinOp, summary: &Summary) -> Sides
         JoinOp::YToUV => {
             let y = summary.third.shape;
             Sides {
-                kind: kind_of(first, y).unwrap_or(PixelType::Y8),
+                kind: joined_kind(first, y),
+                bits: first.bits,
                 ..sides_of(y)
             }
         }

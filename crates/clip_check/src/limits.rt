@@ -11,6 +11,7 @@ use fv_plane::{Info, PixelType, Shape, lowest};
 #[derive(Clone, Copy)]
 pub struct Sides {
     pub kind: PixelType,
+    pub bits: u8,
     pub width: u128,
     pub height: u128,
 }
@@ -28,6 +29,7 @@ pub fn sides_of(shape: Shape) -> Sides
 {
     Sides {
         kind: shape.kind,
+        bits: shape.bits,
         width: shape.width as u128,
         height: shape.height as u128,
     }
@@ -73,6 +75,7 @@ pub fn limits(c: Info, frames: u128, rate: FrameRate, sides: Sides) -> Result<In
     }
     let shape = Shape {
         kind: sides.kind,
+        bits: sides.bits,
         width: sides.width as u32,
         height: sides.height as u32,
     };

@@ -14,6 +14,7 @@ pub fn no_info() -> Info
     Info {
         shape: Shape {
             kind: PixelType::Y8,
+            bits: 8,
             width: 0,
             height: 0,
         },
@@ -37,7 +38,7 @@ pub fn at_place(index: usize, place: usize, info: Info, before: Info) -> Info
 pub fn same_format(a: Shape, b: Shape) -> bool
     ensures { result ≡ same_format a b }
 {
-    a.kind == b.kind
+    a.kind == b.kind && a.bits == b.bits
 }
 
 /// Whether two shapes have one size.

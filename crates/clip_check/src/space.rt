@@ -1,13 +1,13 @@
 // The checks of the group Space.
-ghost use Rattle.std.specs.Prelude.{◌≡◌, ◌-ℤ◌, pos, List, length, IfOk, ◌∷◌, [], ◌||◌};
+ghost use Rattle.std.specs.Prelude.{◌≡◌, ◌-ℤ◌, pos, List, length, IfOk, ◌∷◌, [], ◌||◌, ◌==◌, not};
 ghost use Rattle.fv_plane.specs.declared.format.Info.{Info};
 ghost use Rattle.fv_plane.specs.Info.{IsLawful};
 ghost use Rattle.fv_plane.specs.Refusals.{first_fault};
 ghost use Rattle.fv_plane.specs.declared.format.PixelType.TheVariants.{Y8, YV16, YV411};
-ghost use Rattle.clip_term.specs.declared.fault.FilterFault.TheVariants.{BadRange, TurnFormat, NeedsChroma};
+ghost use Rattle.clip_term.specs.declared.fault.FilterFault.TheVariants.{BadRange, TurnFormat, NeedsChroma, DepthRefused};
 ghost use Rattle.clip_term.specs.declared.op.SpaceOp.TheVariants as op;
-ghost use Rattle.clip_term.specs.Refusals.{beyond, is_whole, are_whole, same_kind};
-ghost use Rattle.clip_term.specs.Space.{size_from, cut_refusals, bad_bounds, is_no_part, is_outside, cover_more, bad_borders, space_refusals, space_shape, check_space};
+ghost use Rattle.clip_term.specs.Refusals.{beyond, is_whole, are_whole, same_kind, sized};
+ghost use Rattle.clip_term.specs.Space.{size_from, cut_refusals, bad_bounds, is_no_part, is_outside, cover_more, bad_borders, luma_of, space_refusals, space_shape, check_space};
 ghost use Rattle.clip_term.specs.ClipTerm.{space};
 ghost use Rattle.clip_term.specs.Terms.{IsSound, AreLawful};
 ghost use Rattle.clip_check.specs.Numbers.{shape_in};
@@ -176,12 +176,23 @@ fn turn_fault(kind: PixelType) -> Option<FilterFault>
     }
 }
 
-fn chroma_fault(kind: PixelType) -> Option<FilterFault>
-    ensures { result ≡ first_fault ((NeedsChroma, same_kind kind Y8) ∷ []) }
+fn depth_fault(shape: Shape) -> Option<FilterFault>
+    ensures { result ≡ first_fault ((DepthRefused, not (shape.bits == 8)) ∷ []) }
 {
-    match kind {
+    if shape.bits == 8 {
+        None
+    } else {
+        Some(FilterFault::DepthRefused)
+    }
+}
+
+fn chroma_fault(shape: Shape) -> Option<FilterFault>
+    ensures { result
+        ≡ first_fault ((NeedsChroma, same_kind shape.kind Y8) ∷ (DepthRefused, not (shape.bits == 8)) ∷ []) }
+{
+    match shape.kind {
         PixelType::Y8 => Some(FilterFault::NeedsChroma),
-        _ => None,
+        _ => depth_fault(shape),
     }
 }
 
@@ -239,9 +250,9 @@ fn space_fault(op: &SpaceOp, shape: Shape) -> Option<FilterFault>
             min_chroma,
             max_chroma,
         } => limiter_fault(*min_luma, *max_luma, *min_chroma, *max_chroma),
-        SpaceOp::UToY8 | SpaceOp::VToY8 => chroma_fault(shape.kind),
-        SpaceOp::ConvertToY8
-        | SpaceOp::FlipHorizontal
+        SpaceOp::UToY8 | SpaceOp::VToY8 => chroma_fault(shape),
+        SpaceOp::ConvertToY8 => depth_fault(shape),
+        SpaceOp::FlipHorizontal
         | SpaceOp::FlipVertical
         | SpaceOp::Turn180
         | SpaceOp::Greyscale
@@ -250,13 +261,27 @@ fn space_fault(op: &SpaceOp, shape: Shape) -> Option<FilterFault>
     }
 }
 
-fn of_size(kind: PixelType, width: u64, height: u64) -> Sides
-    ensures { shape_in result ≡ record { kind = kind; width = width; height = height } }
+fn of_size(shape: Shape, width: u64, height: u64) -> Sides
+    ensures { shape_in result ≡ sized shape width height }
 {
     Sides {
-        kind,
         width: width as u128,
         height: height as u128,
+        ..sides_of(shape)
+    }
+}
+
+// Luma alone, of the size of a plane.
+fn luma_of(shape: Shape, plane: u32) -> Sides
+    ensures { shape_in result ≡ luma_of shape plane }
+{
+    Sides {
+        kind: PixelType::Y8,
+        ..of_size(
+            shape,
+            shape.plane_width(plane) as u64,
+            shape.plane_height(plane) as u64,
+        )
     }
 }
 
@@ -273,12 +298,12 @@ fn space_sides(op: &SpaceOp, shape: Shape) -> Sides
             width,
             height,
         } => of_size(
-            shape.kind,
+            shape,
             size_from(*left, *width, shape.width).unsigned_abs(),
             size_from(*top, *height, shape.height).unsigned_abs(),
         ),
         SpaceOp::CropBottom { n } => of_size(
-            shape.kind,
+            shape,
             whole_width,
             whole_height.saturating_sub(n.unsigned_abs() as u64),
         ),
@@ -289,22 +314,14 @@ fn space_sides(op: &SpaceOp, shape: Shape) -> Sides
             bottom,
             ..
         } => of_size(
-            shape.kind,
+            shape,
             whole_width + left.unsigned_abs() as u64 + right.unsigned_abs() as u64,
             whole_height + top.unsigned_abs() as u64 + bottom.unsigned_abs() as u64,
         ),
-        SpaceOp::TurnLeft | SpaceOp::TurnRight => of_size(shape.kind, whole_height, whole_width),
-        SpaceOp::UToY8 => of_size(
-            PixelType::Y8,
-            shape.plane_width(1) as u64,
-            shape.plane_height(1) as u64,
-        ),
-        SpaceOp::VToY8 => of_size(
-            PixelType::Y8,
-            shape.plane_width(2) as u64,
-            shape.plane_height(2) as u64,
-        ),
-        SpaceOp::ConvertToY8 => of_size(PixelType::Y8, whole_width, whole_height),
+        SpaceOp::TurnLeft | SpaceOp::TurnRight => of_size(shape, whole_height, whole_width),
+        SpaceOp::UToY8 => luma_of(shape, 1),
+        SpaceOp::VToY8 => luma_of(shape, 2),
+        SpaceOp::ConvertToY8 => luma_of(shape, 0),
         _ => sides_of(shape),
     }
 }

@@ -13,8 +13,9 @@ pub struct Summary {
     pub first: Info,
     pub second: Info,
     pub third: Info,
-    /// Whether all formats, sizes, widths or heights are those of the first.
+    /// Whether all formats, bits of a sample, sizes, widths or heights are those of the first.
     pub same_formats: bool,
+    pub same_bits: bool,
     pub same_sizes: bool,
     pub same_widths: bool,
     pub same_heights: bool,
@@ -48,6 +49,7 @@ impl Summary {
             second: none,
             third: none,
             same_formats: true,
+            same_bits: true,
             same_sizes: true,
             same_widths: true,
             same_heights: true,
@@ -73,6 +75,7 @@ impl Summary {
             second: at_place(self.count, 1, info, self.second),
             third: at_place(self.count, 2, info, self.third),
             same_formats: self.same_formats & same_format(info.shape, first.shape),
+            same_bits: self.same_bits & (info.shape.bits == first.shape.bits),
             same_sizes: self.same_sizes & same_size(info.shape, first.shape),
             same_widths: self.same_widths & (info.shape.width == first.shape.width),
             same_heights: self.same_heights & (info.shape.height == first.shape.height),

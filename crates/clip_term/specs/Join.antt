@@ -41,6 +41,14 @@ has_sizes u y kind = y.width == u.width * sub_w kind && y.height == u.height * s
 abbrev pub kind_of : Shape → Shape → Option PixelType
 kind_of u y = find (has_sizes u y) (YV24 ∷ YV16 ∷ YV12 ∷ YV411 ∷ [])
 
+-- 4:1:1 has eight bits alone
+abbrev pub chroma_refusals : Bool → Shape → Shape → Shape → Refusals FilterFault
+chroma_refusals same_bits u v y =
+    (FormatDiffers, not same_bits)
+    ∷ (SizeDiffers, not (same_size u v) || is_none (kind_of u y))
+    ∷ (DepthRefused, not (has_depth (unwrap_or (kind_of u y) Y8) u.bits))
+    ∷ []
+
 -- Refusals.
 
 abbrev pub join_refusals : JoinOp → Info → List Info → Refusals FilterFault
@@ -56,10 +64,8 @@ join_refusals op.Merge c infos = disagreements infos
 join_refusals op.MergeLuma c infos = disagreements infos
 join_refusals op.MergeChroma c infos = disagreements infos
 join_refusals op.YToUV c infos =
-    (FormatDiffers, not (list_all (λ (d : Info). d.shape.bits == c.shape.bits) infos))
-    ∷ (SizeDiffers, not (same_size c.shape (info_at infos 1).shape) || is_none (kind_of c.shape (info_at infos 2).shape))
-    ∷ (DepthRefused, not (has_depth (unwrap_or (kind_of c.shape (info_at infos 2).shape) Y8) c.shape.bits))
-    ∷ []
+    let same_bits = list_all (λ (d : Info). d.shape.bits == c.shape.bits) infos in
+    chroma_refusals same_bits c.shape (info_at infos 1).shape (info_at infos 2).shape
 
 -- Length.
 

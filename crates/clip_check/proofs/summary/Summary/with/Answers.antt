@@ -17,6 +17,7 @@ returns-clause-told c = λ infos t.
       second = placed infos info s.second _ s.count 1 c.at_place.ensures t.count t.second;
       third = placed infos info s.third _ s.count 2 c.at_place-2.ensures t.count t.third;
       formats = tested (λ (d o : Info). same_format d.shape o.shape) infos info c' s.same_formats _ first t.formats c.same_format.ensures;
+      bits = tested (λ (d o : Info). d.shape.bits == o.shape.bits) infos info c' s.same_bits _ first t.bits refl;
       sizes = tested (λ (d o : Info). same_size d.shape o.shape) infos info c' s.same_sizes _ first t.sizes c.same_size.ensures;
       widths = tested (λ (d o : Info). d.shape.width == o.shape.width) infos info c' s.same_widths _ first t.widths refl;
       heights = tested (λ (d o : Info). d.shape.height == o.shape.height) infos info c' s.same_heights _ first t.heights refl;
