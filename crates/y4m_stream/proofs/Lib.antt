@@ -1,4 +1,5 @@
 pub mod CallerLemmas
+pub mod ColourLemmas
 pub mod ReadAheadLemmas
 pub mod FrameLemmas
 pub mod GcdLemmas

@@ -9,25 +9,15 @@ use Rattle.std.proofs.lemmas.Bool.{and_parts, and_from}
 use Rattle.std.specs.List.{All, AllByRecursion, list_all, slice_split, join_with_byte, position_or_len}
 use Rattle.std.specs.Char.{is_ascii_digit}
 use Rattle.std.specs.Fmt.{decimal}
-use Rattle.fv_plane.specs.declared.format.PixelType.{PixelType}
-use Rattle.fv_plane.specs.declared.format.PixelType.TheVariants.{Y8, YV12, YV16, YV24, YV411}
-use Rattle.fv_plane.specs.declared.format.Tag.{Tag}
-use Rattle.fv_plane.specs.declared.format.Tag.TheVariants.{Jpeg, Mpeg2, Paldv, Plain}
 use Rattle.fv_plane.specs.declared.format.Field.{Field}
 use Rattle.fv_plane.specs.declared.format.Field.TheVariants.{Progressive, Top, Bottom, Unknown}
 use Rattle.fv_plane.specs.declared.format.Info.{Info}
 use Rattle.fv_plane.specs.Info.{IsLawful}
-use Rattle.y4m_stream.specs.Colourspace.{colourspace_name}
+use Rattle.fv_plane.specs.FormatNames.{format_of}
+use Rattle.y4m_stream.proofs.ColourLemmas.{IsWord, stays, colour_stays}
 use Rattle.y4m_stream.specs.Head.{magic, field_name, ratio, written, head_line}
 use Rattle.y4m_stream.specs.Stream.{is_space, is_newline}
 use Rattle.y4m_stream.proofs.NumberLemmas.{decimal_digits}
-
--- neither a space nor a newline
-abbrev stays : ℕ → Bool
-stays byte = not (is_space byte) && not (is_newline byte)
-
-abbrev pub IsWord : List ℕ → Type 0
-IsWord word = list_all stays word ≡ true
 
 digit_stays : (byte : ℕ) → is_ascii_digit byte ≡ true → stays byte ≡ true
 digit_stays byte is = search rules
@@ -54,16 +44,6 @@ field_stays Top = refl
 field_stays Bottom = refl
 field_stays Unknown = refl
 
-colour_stays : (kind : PixelType) (tag : Tag) → IsWord (colourspace_name kind tag)
-colour_stays Y8 tag = refl
-colour_stays YV12 Jpeg = refl
-colour_stays YV12 Mpeg2 = refl
-colour_stays YV12 Paldv = refl
-colour_stays YV12 Plain = refl
-colour_stays YV16 tag = refl
-colour_stays YV24 tag = refl
-colour_stays YV411 tag = refl
-
 -- no word of a head that is written has a space or a newline
 pub written_words : (info : Info) → IsLawful info → AllByRecursion IsWord (written info)
 written_words info lawful =
@@ -71,7 +51,7 @@ written_words info lawful =
     let height = decimal_stays info.shape.height (omega (arith, lawful.shape.most_height)) in
     let rate = ratio_stays info.num info.den lawful.rate.most_num lawful.rate.most_den in
     let par = ratio_stays info.par.num info.par.den lawful.par.num lawful.par.den in
-    (width, (height, (rate, (field_stays info.field, (par, (colour_stays info.shape.kind info.tag, tt))))))
+    (width, (height, (rate, (field_stays info.field, (par, (colour_stays (format_of info.shape) info.tag lawful.shape.depth, tt))))))
 
 -- a word has no space
 no_space : (word : List ℕ) → IsWord word → All (λ byte. is_space byte ≡ false) word

@@ -11,14 +11,16 @@ use Rattle.fv_plane.specs.declared.format.Field.{Field}
 use Rattle.fv_plane.specs.declared.format.Field.TheVariants.{Progressive, Top, Bottom, Unknown}
 use Rattle.fv_plane.specs.declared.format.Info.{Info}
 use Rattle.fv_plane.specs.Info.{IsLawful}
+use Rattle.fv_plane.specs.FormatNames.{format_of}
 use Rattle.y4m_stream.specs.Colourspace.{colourspace_name}
+use Rattle.y4m_stream.proofs.ColourLemmas.{short_colour}
 use Rattle.y4m_stream.specs.Head.{field_name, head_line}
 
 -- the head without its newline, and then a rest
 unfoldable pub words_then : Info → List ℕ → List ℕ
 words_then info rest =
     codes "YUV4MPEG2 W" ++ (decimal info.shape.width ++ (codes " H" ++ (decimal info.shape.height ++ (codes " F" ++ (decimal info.num ++ (codes ":" ++ (decimal info.den
-    ++ (codes " I" ++ (field_name info.field ++ (codes " A" ++ (decimal info.par.num ++ (codes ":" ++ (decimal info.par.den ++ (codes " C" ++ (colourspace_name info.shape.kind info.tag ++ rest)))))))))))))))
+    ++ (codes " I" ++ (field_name info.field ++ (codes " A" ++ (decimal info.par.num ++ (codes ":" ++ (decimal info.par.den ++ (codes " C" ++ (colourspace_name (format_of info.shape) info.tag ++ rest)))))))))))))))
 
 -- words joined at spaces, from their front
 module _ (width height num den field par_num par_den colour rest : List ℕ) where
@@ -57,7 +59,7 @@ module _ (width height num den field par_num par_den colour rest : List ℕ) whe
 -- a line that begins with the written words, from its front
 pub words_then_is : (info : Info) (rest : List ℕ) → head_line info ++ rest ≡ words_then info rest
 unfolding words_then head_line
-words_then_is info rest = words_joined (decimal info.shape.width) (decimal info.shape.height) (decimal info.num) (decimal info.den) (field_name info.field) (decimal info.par.num) (decimal info.par.den) (colourspace_name info.shape.kind info.tag) rest
+words_then_is info rest = words_joined (decimal info.shape.width) (decimal info.shape.height) (decimal info.num) (decimal info.den) (field_name info.field) (decimal info.par.num) (decimal info.par.den) (colourspace_name (format_of info.shape) info.tag) rest
 
 -- how long the name of a field is
 short_field : (field : Field) → length (field_name field) ≤ 1
@@ -66,23 +68,12 @@ short_field Top = omega arith
 short_field Bottom = omega arith
 short_field Unknown = omega arith
 
--- how long the name of a format is
-short_colour : (kind : PixelType) (tag : Tag) → length (colourspace_name kind tag) ≤ 8
-short_colour Y8 tag = omega arith
-short_colour YV12 Jpeg = omega arith
-short_colour YV12 Mpeg2 = omega arith
-short_colour YV12 Paldv = omega arith
-short_colour YV12 Plain = omega arith
-short_colour YV16 tag = omega arith
-short_colour YV24 tag = omega arith
-short_colour YV411 tag = omega arith
-
 -- a head that is written is short enough
 pub short_line : (info : Info) → IsLawful info → length (head_line info) < 4096
 unfolding words_then
 short_line info lawful =
     let whole : length (head_line info) ≡ length (words_then info []) = ap length (sym (append-nil (head_line info)) ∙ words_then_is info []) in
-    let colour = short_colour info.shape.kind info.tag in
+    let colour = short_colour (format_of info.shape) info.tag lawful.shape.depth in
     let width = length-decimal-le 10 info.shape.width (omega arith) (omega (arith, lawful.shape.most_width)) (omega (arith, lawful.shape.most_width)) in
     let height = length-decimal-le 10 info.shape.height (omega arith) (omega (arith, lawful.shape.most_height)) (omega (arith, lawful.shape.most_height)) in
     let num = length-decimal-le 10 info.num (omega arith) (omega (arith, lawful.rate.most_num)) (omega (arith, lawful.rate.most_num)) in

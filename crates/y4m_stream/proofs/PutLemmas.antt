@@ -1,12 +1,13 @@
 -- Another piece is put.
-use Rattle.std.proofs.Common.{◌≡◌, ℕ, ◌+◌, ◌<◌, List, ◌++◌, length, take, drop, get_or, ◌*◌, ◌≤◌, arith, Option, Result, Ok, Err, OnErr, sym, ◌∙◌, ap}
+use Rattle.std.proofs.Common.{◌≡◌, ℕ, ◌+◌, ◌<◌, List, ◌++◌, length, take, drop, get_or, ◌*◌, ◌≤◌, arith, Option, Result, Ok, Err, OnErr, sym, ◌∙◌, ap, Bool, true, false, if◌then◌else◌, ◌==◌}
 use Rattle.std.proofs.lemmas.List.{drop_more, take-append-drop, append-nil}
 use Rattle.std.proofs.Math.Seq.{take-add}
 use Rattle.std.specs.List.{flat_map}
 use Rattle.std.proofs.lemmas.List.Concat.{flat_map-append}
 use Rattle.std.proofs.lemmas.Bool.Decides.{nat_tests}
 use Rattle.fv_plane.specs.declared.format.Shape.{Shape}
-use Rattle.fv_plane.specs.Format.{IsLegal, row_bytes, frame_bytes}
+use Rattle.std.proofs.lemmas.Nat.{mul-le}
+use Rattle.fv_plane.specs.Format.{IsLegal, plane_width, sample_bytes, row_bytes, frame_samples, frame_bytes}
 use Rattle.fv_io.specs.Told.{with_piece, GetsPrefix}
 use Rattle.fv_io.proofs.CallerLemmas.{with_piece_twice, gets_after, gets_more}
 
@@ -36,18 +37,28 @@ text_more {X = X} text xs i d within =
     ap (λ (l : List X). flat_map text l) (take-add i 1 xs) ∙ flat_map-append text (take i xs) (take 1 (drop i xs)) ∙ ap (λ (l : List ℕ). flat_map text (take i xs) ++ l) (one_more text xs i d within)
 
 -- a row is no longer than the frame is wide
-row_width : (shape : Shape) (p : ℕ) → row_bytes shape p ≤ shape.width
+row_width : (shape : Shape) (p : ℕ) → plane_width shape p ≤ shape.width
 row_width shape p = grind (arith, nat_tests)
+
+size_by : (b : Bool) → (if b then 1 else 2) ≤ 2
+size_by true = omega arith
+size_by false = omega arith
 
 wide : (w h : ℕ) → 0 < h → w ≤ w * h
 wide w h some = grind arith
 
--- a row of a legal frame is no longer than 64 KiB, nor than the frame
-pub row_room : (shape : Shape) (p : ℕ) → IsLegal shape → row_bytes shape p ≤ 65536
-row_room shape p legal = let row = row_width shape p in let width = legal.most_width in omega arith
+-- a row of a legal frame is no longer than 128 KiB, nor than the frame
+pub row_room : (shape : Shape) (p : ℕ) → IsLegal shape → row_bytes shape p ≤ 131072
+row_room shape p legal =
+    let width = legal.most_width in
+    let row : plane_width shape p ≤ 65536 = omega (arith, row_width shape p) in
+    omega (arith, mul-le (plane_width shape p) (sample_bytes shape) 65536 2 row (size_by (shape.bits == 8)))
 
 pub row_inside : (shape : Shape) (p : ℕ) → IsLegal shape → row_bytes shape p ≤ frame_bytes shape
-row_inside shape p legal = let row = row_width shape p in let luma = wide shape.width shape.height legal.some_height in omega arith
+row_inside shape p legal =
+    let row = row_width shape p in
+    let luma = wide shape.width shape.height legal.some_height in
+    omega (arith, mul-le (plane_width shape p) (sample_bytes shape) (frame_samples shape) (sample_bytes shape) (omega arith) (omega arith))
 
 -- what holds of an answer that is no success
 pub on_err : {T E P : Type 0} (r : Result T E) → P → OnErr r P

@@ -1,11 +1,11 @@
 -- What the parameters say, and their first fault.
 use Rattle.std.proofs.Common.{◌≡◌, ℕ, ◌<◌, ◌≤◌, List, Some, None, true, false, inl, inr, refl}
 use Rattle.std.proofs.lemmas.Bool.{lt-ltb, le-ltb, cases_lt}
-use Rattle.fv_plane.specs.declared.format.PixelType.{PixelType}
+use Rattle.fv_plane.specs.declared.format_names.Format.{Format}
 use Rattle.fv_plane.specs.declared.format.Tag.{Tag}
 use Rattle.fv_plane.specs.declared.format.Shape.{Shape}
 use Rattle.fv_plane.specs.declared.format.Info.{Info}
-use Rattle.fv_plane.specs.Format.{IsLegal, frame_bytes, has_whole_sides}
+use Rattle.fv_plane.specs.Format.{IsLegal, frame_bytes, has_depth, has_whole_sides}
 use Rattle.y4m_stream.specs.declared.fault.Y4mFault.TheVariants.{NoSize, BadNumber, UnknownColour, BadSize, TooLarge}
 use Rattle.fv_plane.proofs.CallerLemmas.{legal_by}
 use Rattle.y4m_stream.specs.Parameters.{value, number, rate, par, colour, field_of, info_of, parameter_fault}
@@ -44,9 +44,9 @@ module _ (ps : List (List ℕ)) where
             unfolding parameter_fault
             bad_colour is = rw (has_w, has_h, is_x, is_y, is_r, is_p, is) refl
 
-            module _ (k : PixelType × Tag) (is_k : colour ps ≡ Some k) where
+            module _ (k : Format × Tag) (is_k : colour ps ≡ Some k) where
               abbrev pub said : Info
-              said = record { shape = record { kind = k.0; width = x; height = y }; frames = 0; num = r.0; den = r.1; field = field_of (value 73 ps); par = record { num = p.0; den = p.1 }; tag = k.1 }
+              said = record { shape = record { kind = k.0.kind; bits = k.0.bits; width = x; height = y }; frames = 0; num = r.0; den = r.1; field = field_of (value 73 ps); par = record { num = p.0; den = p.1 }; tag = k.1 }
 
               pub info_is : info_of ps ≡ said
               unfolding info_of
@@ -65,8 +65,8 @@ module _ (ps : List (List ℕ)) where
               no_fault good small = rw (info_is, has_w, has_h, is_x, is_y, is_r, is_p, is_k, good, le-ltb 16777216 (frame_bytes said.shape) small) refl
 
 -- sides that are good and no legal shape: a frame is too large
-pub large_by : (shape : Shape) → has_whole_sides shape ≡ true → (IsLegal shape → ⊥) → 16777216 < frame_bytes shape
-large_by shape good illegal = elim (cases_lt 16777216 (frame_bytes shape)) [
+pub large_by : (shape : Shape) → has_depth shape.kind shape.bits ≡ true → has_whole_sides shape ≡ true → (IsLegal shape → ⊥) → 16777216 < frame_bytes shape
+large_by shape depth good illegal = elim (cases_lt 16777216 (frame_bytes shape)) [
   | inl large ↦ large
-  | inr small ↦ absurd (illegal (legal_by shape good small))
+  | inr small ↦ absurd (illegal (legal_by shape depth good small))
 ]

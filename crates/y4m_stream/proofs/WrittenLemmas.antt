@@ -18,7 +18,8 @@ use Rattle.fv_plane.specs.declared.format.Field.TheVariants.{Progressive, Top, B
 use Rattle.fv_plane.specs.declared.format.Info.{Info}
 use Rattle.fv_plane.specs.Format.{frame_bytes}
 use Rattle.fv_plane.specs.Info.{IsRate, IsLawful}
-use Rattle.y4m_stream.specs.Colourspace.{colourspace_name, colourspace_named}
+use Rattle.fv_plane.specs.FormatNames.{format_of}
+use Rattle.y4m_stream.proofs.ColourLemmas.{OwnName, colour_read}
 use Rattle.y4m_stream.specs.Head.{field_name, ratio, written, head_line, head}
 use Rattle.fv_plane.specs.Picture.{Picture}
 use Rattle.fv_plane.specs.Bytes.{bytes_of, picture_of}
@@ -72,21 +73,6 @@ field_read Top = refl
 field_read Bottom = refl
 field_read Unknown = refl
 
--- a format that has a name of its own
-named : (kind : PixelType) (tag : Tag) → colourspace_named (colourspace_name kind tag) ≡ Some (kind, Jpeg) → (tag ≡ Jpeg) ⊎ (kind ≡ YV12) → (kind ≡ YV12 → ⊥) → colourspace_named (colourspace_name kind tag) ≡ Some (kind, tag)
-named kind tag is (inl jpeg) other = is ∙ ap (λ (t : Tag). Some (kind, t)) (sym jpeg)
-named kind tag is (inr yv12) other = absurd (other yv12)
-
-colour_read : (kind : PixelType) (tag : Tag) → (tag ≡ Jpeg) ⊎ (kind ≡ YV12) → colourspace_named (colourspace_name kind tag) ≡ Some (kind, tag)
-colour_read Y8 tag own = named Y8 tag refl own (λ is. let no : ⊥ = cc in no)
-colour_read YV12 Jpeg own = refl
-colour_read YV12 Mpeg2 own = refl
-colour_read YV12 Paldv own = refl
-colour_read YV12 Plain own = refl
-colour_read YV16 tag own = named YV16 tag refl own (λ is. let no : ⊥ = cc in no)
-colour_read YV24 tag own = named YV24 tag refl own (λ is. let no : ⊥ = cc in no)
-colour_read YV411 tag own = named YV411 tag refl own (λ is. let no : ⊥ = cc in no)
-
 -- a line that is short enough is found
 line_early : (bytes : List ℕ) → position_or_len is_newline bytes < 4096 → position_or_len is_newline bytes < length bytes → has_line bytes ≡ true
 line_early bytes short inside =
@@ -97,7 +83,7 @@ line_early bytes short inside =
 found : (bytes : List ℕ) → position_or_len is_newline bytes < length bytes → is_none (position is_newline bytes) ≡ false
 found bytes inside = rw (lt-ltb (position_or_len is_newline bytes) (length bytes) inside) refl
 
-module _ (info : Info) (rest : List ℕ) (lawful : IsLawful info) (own : (info.tag ≡ Jpeg) ⊎ (info.shape.kind ≡ YV12)) where
+module _ (info : Info) (rest : List ℕ) (lawful : IsLawful info) (own : OwnName info.shape.kind info.shape.bits info.tag) where
   abbrev bytes : List ℕ
   bytes = head info ++ rest
 
@@ -149,12 +135,12 @@ module _ (info : Info) (rest : List ℕ) (lawful : IsLawful info) (own : (info.t
 
   says : info_of ps ≡ record info { frames = 0 }
   says =
-      info_is ps (decimal info.shape.width) (decimal info.shape.height) has_w has_h info.shape.width wide info.shape.height high (info.num, info.den) rate_is (info.par.num, info.par.den) par_is (info.shape.kind, info.tag) (colour_read info.shape.kind info.tag own)
+      info_is ps (decimal info.shape.width) (decimal info.shape.height) has_w has_h info.shape.width wide info.shape.height high (info.num, info.den) rate_is (info.par.num, info.par.den) par_is (format_of info.shape, info.tag) (colour_read (format_of info.shape) info.tag lawful.shape.depth own)
       ∙ ap (λ (f : Field). record info { frames = 0; field = f }) (field_read info.field)
 
   no_fault_said : parameter_fault ps ≡ None
   no_fault_said =
-      no_fault ps (decimal info.shape.width) (decimal info.shape.height) has_w has_h info.shape.width wide info.shape.height high (info.num, info.den) rate_is (info.par.num, info.par.den) par_is (info.shape.kind, info.tag) (colour_read info.shape.kind info.tag own)
+      no_fault ps (decimal info.shape.width) (decimal info.shape.height) has_w has_h info.shape.width wide info.shape.height high (info.num, info.den) rate_is (info.par.num, info.par.den) par_is (format_of info.shape, info.tag) (colour_read (format_of info.shape) info.tag lawful.shape.depth own)
       (whole_sides info.shape lawful.shape) lawful.shape.most_bytes
 
   pub sound : head_fault bytes ≡ None
@@ -203,7 +189,7 @@ are_frames size [] sizes = refl
 are_frames size (content ∷ frames) sizes =
     (frames_text frames, rw (append_assoc (codes "FRAME\n") content (frames_text frames)) (is_frame size content (frames_text frames) sizes.0), are_frames size frames sizes.1)
 
-written_consists : (info : Info) (frames : List (List ℕ)) → IsLawful info → (info.tag ≡ Jpeg) ⊎ (info.shape.kind ≡ YV12) → length frames ≡ info.frames → AllByRecursion (λ frame. length frame ≡ frame_bytes info.shape) frames
+written_consists : (info : Info) (frames : List (List ℕ)) → IsLawful info → OwnName info.shape.kind info.shape.bits info.tag → length frames ≡ info.frames → AllByRecursion (λ frame. length frame ≡ frame_bytes info.shape) frames
     → ConsistsOf (head info ++ frames_text frames) info frames
 written_consists info frames lawful own count sizes =
     let rest : List ℕ = frames_text frames in

@@ -5,6 +5,7 @@ use Rattle.std.specs.Fmt.{decimal}
 use Rattle.fv_plane.specs.declared.format.Field.{Field}
 use Rattle.fv_plane.specs.declared.format.Field.TheVariants.{Progressive, Top, Bottom, Unknown}
 use Rattle.fv_plane.specs.declared.format.Info.{Info}
+use Rattle.fv_plane.specs.FormatNames.{format_of}
 use Rattle.y4m_stream.specs.Colourspace.{colourspace_name}
 
 abbrev pub magic : List ℕ
@@ -24,7 +25,7 @@ ratio num den = decimal num ++ (codes ":" ++ decimal den)
 abbrev pub written : Info → List (List ℕ)
 written info =
     (codes "W" ++ decimal info.shape.width) ∷ (codes "H" ++ decimal info.shape.height) ∷ (codes "F" ++ ratio info.num info.den)
-    ∷ (codes "I" ++ field_name info.field) ∷ (codes "A" ++ ratio info.par.num info.par.den) ∷ (codes "C" ++ colourspace_name info.shape.kind info.tag) ∷ []
+    ∷ (codes "I" ++ field_name info.field) ∷ (codes "A" ++ ratio info.par.num info.par.den) ∷ (codes "C" ++ colourspace_name (format_of info.shape) info.tag) ∷ []
 
 -- the head without its newline
 unfoldable pub head_line : Info → List ℕ

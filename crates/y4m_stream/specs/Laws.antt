@@ -15,4 +15,4 @@ pub record ReadsOneWay : Type 0 where
 
 -- what is written for a clip is a stream of it, where the clip's format has a name of its own
 abbrev pub WrittenIsStream : Type 0
-WrittenIsStream = (clip : Clip) → IsClip clip → (clip.info.tag ≡ Jpeg) ⊎ (clip.info.shape.kind ≡ YV12) → Stream (stream clip) clip
+WrittenIsStream = (clip : Clip) → IsClip clip → (clip.info.tag ≡ Jpeg) ⊎ ((clip.info.shape.kind ≡ YV12) × (clip.info.shape.bits ≡ 8)) → Stream (stream clip) clip

@@ -13,7 +13,7 @@ use Rattle.fv_plane.specs.Format.{has_whole_sides, frame_bytes}
 use Rattle.fv_plane.specs.Rate.{gcd}
 use Rattle.fv_plane.specs.Refusals.{Refusals, first_fault}
 use Rattle.fv_plane.specs.declared.format.TheConstants.Shape.{MAX_BYTES}
-use Rattle.y4m_stream.specs.Colourspace.{Colourspace, colourspace_named}
+use Rattle.y4m_stream.specs.Colourspace.{Colourspace, colourspace_named, narrow}
 use Rattle.y4m_stream.specs.declared.fault.Y4mFault.{Y4mFault}
 use Rattle.y4m_stream.specs.declared.fault.Y4mFault.TheVariants.{NoSize, BadNumber, UnknownColour, BadSize, TooLarge}
 
@@ -70,8 +70,12 @@ field_of (Some text) =
     else (if bytes_eq text (codes "b") then Bottom
     else Unknown))
 
+-- 4:2:0 of eight bits
+abbrev pub default_colour : Colourspace
+default_colour = (narrow YV12, Jpeg)
+
 abbrev pub colour_of : Option (List ℕ) → Option Colourspace
-colour_of None = Some (YV12, Jpeg)
+colour_of None = Some default_colour
 colour_of (Some name) = colourspace_named name
 
 module _ (parameters : List (List ℕ)) where
@@ -93,13 +97,18 @@ module _ (parameters : List (List ℕ)) where
   -- what they say, where they have no fault; no frames are counted
   unfoldable pub info_of : Info
   info_of = record {
-    shape = record { kind = (unwrap_or colour (YV12, Jpeg)).0; width = unwrap_or width 0; height = unwrap_or height 0 };
+    shape = record {
+      kind = (unwrap_or colour default_colour).0.kind;
+      bits = (unwrap_or colour default_colour).0.bits;
+      width = unwrap_or width 0;
+      height = unwrap_or height 0;
+    };
     frames = 0;
     num = (unwrap_or rate (25, 1)).0;
     den = (unwrap_or rate (25, 1)).1;
     field = field_of (value (byte "I") parameters);
     par = record { num = (unwrap_or par (0, 0)).0; den = (unwrap_or par (0, 0)).1 };
-    tag = (unwrap_or colour (YV12, Jpeg)).1;
+    tag = (unwrap_or colour default_colour).1;
   }
 
 -- what may be wrong with the parameters, in the order in which it is told

@@ -14,7 +14,7 @@ const HEAD: &[u8] = b"FRAME\n";
 /// A frame that has at most this number of bytes with its line is put in one piece.
 const SMALL: usize = 16_384;
 /// Rows with gaps between them are put in pieces of at most this number of bytes.
-const PIECE: usize = 65_536;
+const PIECE: usize = 131_072;
 
 // Makes room for `size` bytes in a buffer whose first `end` bytes are still to be put. If there is no room, they are
 // put now. Answers how many bytes are still to be put.
@@ -84,7 +84,7 @@ fn write_gathered<K: Sink>(out: &mut K, frame: &Frame) -> Result<(), Failed>
 // Puts a plane whose rows have gaps between them.
 fn write_rows<K: Sink>(out: &mut K, frame: &Frame, plane: u32) -> Result<(), Failed>
     requires plane { plane < planes frame.now.shape.kind }
-    requires room { row_bytes frame.now.shape plane ≤ 2 ^ 16 }
+    requires room { row_bytes frame.now.shape plane ≤ 2 ^ 17 }
     ensures put { OnOk result (Puts K.Sink out.old out.new (bytes_of_plane frame.now plane)) }
     ensures cut { OnErr result (PutsPrefix K.Sink out.old out.new (bytes_of_plane frame.now plane)) }
     ensures later { IsLater K.Sink out.old out.new }

@@ -28,7 +28,7 @@ pub fn print_head(alloc: Global, info: &Info) -> Result<Vec<u8>, AllocError>
     let field = field_name(info.field);
     let par_num = info.par.num;
     let par_den = info.par.den;
-    let colour = colourspace_name(info.shape.kind, info.tag);
+    let colour = colourspace_name(info.shape.format(), info.tag);
     let text = format!(in alloc;
         "YUV4MPEG2 W{width} H{height} F{num}:{den} I{field} A{par_num}:{par_den} C{colour}\n"
     )?;

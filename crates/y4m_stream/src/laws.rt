@@ -6,8 +6,8 @@ pub fn bytes_read_one_way()
     ensures { ReadsOneWay }
 {}
 
-/// What is written for a clip is a stream of it. This is of clips whose tag is `Jpeg` or whose format is YV12: with
-/// another format no tag is written.
+/// What is written for a clip is a stream of it. This is of clips whose tag is `Jpeg` or whose format is YV12 with eight
+/// bits: with another format no tag is written.
 pub fn what_is_written_is_a_stream()
     ensures { WrittenIsStream }
 {}

@@ -1,8 +1,8 @@
 // The parameters of a stream's head.
-ghost use Rattle.std.specs.Prelude.{◌≡◌, ◌<◌, ◌^◌, IfOk, IfErr, IfSome, None, Some};
+ghost use Rattle.std.specs.Prelude.{◌≡◌, ◌<◌, ◌^◌, IfOk, IfErr, IfSome, None, Some, true};
 ghost use Rattle.std.specs.List.{slice_split};
 ghost use Rattle.std.specs.Option.{option_copied};
-ghost use Rattle.fv_plane.specs.Format.{IsLegal};
+ghost use Rattle.fv_plane.specs.Format.{IsLegal, has_depth};
 ghost use Rattle.fv_plane.specs.Info.{IsRate, IsPar};
 ghost use Rattle.y4m_stream.specs.Parameters.{value_in, value, rate_of, par_of, field_of, colour_of, info_of, parameter_fault};
 ghost use Rattle.y4m_stream.specs.Stream.{is_space};
@@ -10,7 +10,13 @@ ghost use Rattle.y4m_stream.specs.Stream.{is_space};
 use crate::colourspace::colourspace_named;
 use crate::fault::Y4mFault;
 use crate::numbers::{lowest, number, ratio};
-use fv_plane::{Field, Info, Par, PixelType, Shape, Tag};
+use fv_plane::{Field, Format, Info, Par, PixelType, Shape, Tag};
+
+// What a stream has that names no format.
+const FOUR_TWO_ZERO: Format = Format {
+    kind: PixelType::YV12,
+    bits: 8,
+};
 
 // The value of a parameter, where it has this letter.
 fn value_in<'a>(parameter: &'a [u8], letter: u8) -> Option<&'a [u8]>
@@ -69,11 +75,12 @@ fn field(text: Option<&[u8]>) -> Field
     }
 }
 
-fn colour(name: Option<&[u8]>) -> Option<(PixelType, Tag)>
-    ensures { result ≡ colour_of (option_copied name.entry) }
+fn colour(name: Option<&[u8]>) -> Option<(Format, Tag)>
+    ensures colour { result ≡ colour_of (option_copied name.entry) }
+    ensures legal { IfSome result (λ found. has_depth found.0.kind found.0.bits ≡ true) }
 {
     match name {
-        None => Some((PixelType::YV12, Tag::Jpeg)),
+        None => Some((FOUR_TWO_ZERO, Tag::Jpeg)),
         Some(name) => colourspace_named(name),
     }
 }
@@ -102,11 +109,12 @@ pub(crate) fn read_parameters(line: &[u8]) -> Result<Info, Y4mFault>
     let Some((par_num, par_den)) = par(value(line, b'A')) else {
         return Err(Y4mFault::BadNumber('A'));
     };
-    let Some((kind, tag)) = colour(value(line, b'C')) else {
+    let Some((format, tag)) = colour(value(line, b'C')) else {
         return Err(Y4mFault::UnknownColour);
     };
     let shape = Shape {
-        kind,
+        kind: format.kind,
+        bits: format.bits,
         width,
         height,
     };

@@ -1,4 +1,4 @@
--- The bytes of a frame that was cut from bytes are these bytes.
+-- The bytes of a frame that was cut from bytes are these bytes in range.
 use Rattle.std.proofs.Common.{◌≡◌, ap, ◌∙◌}
 use Rattle.std.proofs.lemmas.Result.{IfOk-weaker}
 use Rattle.fv_plane.specs.Picture.{Picture}

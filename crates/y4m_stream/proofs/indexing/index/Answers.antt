@@ -7,6 +7,7 @@ use Rattle.y4m_stream.specs.Index.{HasIndexFault}
 use Rattle.y4m_stream.specs.declared.fault.IndexFault.TheVariants.{Y4m}
 use Rattle.y4m_stream.specs.Stream.{is_newline, head_fault, head_info}
 use Rattle.y4m_stream.proofs.IndexLemmas.{is_index, left_is, indexes, explains}
+use Rattle.fv_plane.proofs.CallerLemmas.{some_bytes}
 use Rattle.y4m_stream.proofs.WindowLemmas.{same_fault}
 use Rattle.y4m_stream.proofs.indexing.index.Goals as goal
 use Rattle.y4m_stream.proofs.indexing.index.Given.{Over}
@@ -74,3 +75,6 @@ returns-clause-found g c told is =
       indexes told c.fill.new.self _ (front g at.In_ok-fill told is) (c.in_ok-fill.ensures.ended told is) c.in_ok-head.head.info c.in_ok-head.head.len (sound g head) (says g head) (len_is g head) (inside g head) c.in_ok-offsets.offsets.items
           c.len-frames.result (search rules) (rw c.bytes-size.ensures at found.offsets) (rw c.bytes-size.ensures at (found.found told (c.in_ok-fill.ensures.keeps.told ∙ is))),
     )
+
+pub find_frames-requires-clause-some : goal.find_frames-requires-clause-some
+find_frames-requires-clause-some g c = rw c.bytes-size.ensures (some_bytes c.in_ok-head.head.info.shape c.in_ok-head.ensures.legal)

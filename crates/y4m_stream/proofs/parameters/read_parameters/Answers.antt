@@ -31,14 +31,14 @@ pub returns-in_default-colour-clause-fault : goal.returns-in_default-colour-clau
 returns-in_default-colour-clause-fault c =
     bad_colour _ _ _ (sym c.in-Some-Some.ensures) (sym c.in-Some-Some.ensures') c.in-Some.width (sym c.in-Some.ensures.number) c.in-Some-number.height (sym c.in-Some-number.ensures.number)
     (c.in-Some-rate.num, c.in-Some-rate.den) (ap rate_of (sym c.value-3.ensures) ∙ sym c.in-Some-rate.ensures.rate)
-    (c.in-Some-par.par_num, c.in-Some-par.par_den) (ap par_of (sym c.value-4.ensures) ∙ sym c.in-Some-par.ensures.par) (ap colour_of (sym c.value-5.ensures) ∙ sym c.in_default-colour.ensures)
+    (c.in-Some-par.par_num, c.in-Some-par.par_den) (ap par_of (sym c.value-4.ensures) ∙ sym c.in-Some-par.ensures.par) (ap colour_of (sym c.value-5.ensures) ∙ sym c.in_default-colour.ensures.colour)
 
 pub returns-then-not-has_whole_sides-clause-fault : goal.returns-then-not-has_whole_sides-clause-fault
 returns-then-not-has_whole_sides-clause-fault c =
     bad_sides _ _ _ (sym c.in-Some-Some.ensures) (sym c.in-Some-Some.ensures') c.in-Some.width (sym c.in-Some.ensures.number) c.in-Some-number.height (sym c.in-Some-number.ensures.number)
     (c.in-Some-rate.num, c.in-Some-rate.den) (ap rate_of (sym c.value-3.ensures) ∙ sym c.in-Some-rate.ensures.rate)
     (c.in-Some-par.par_num, c.in-Some-par.par_den) (ap par_of (sym c.value-4.ensures) ∙ sym c.in-Some-par.ensures.par)
-    (c.in-Some-colour.kind, c.in-Some-colour.tag) (ap colour_of (sym c.value-5.ensures) ∙ sym c.in-Some-colour.ensures) (sym c.has_whole_sides.ensures ∙ c.if-not-has_whole_sides.true)
+    (c.in-Some-colour.format, c.in-Some-colour.tag) (ap colour_of (sym c.value-5.ensures) ∙ sym c.in-Some-colour.ensures.colour) (sym c.has_whole_sides.ensures ∙ c.if-not-has_whole_sides.true)
 
 pub returns-then-not-is_legal-clause-fault : goal.returns-then-not-is_legal-clause-fault
 returns-then-not-is_legal-clause-fault c =
@@ -46,8 +46,8 @@ returns-then-not-is_legal-clause-fault c =
     too_large _ _ _ (sym c.in-Some-Some.ensures) (sym c.in-Some-Some.ensures') c.in-Some.width (sym c.in-Some.ensures.number) c.in-Some-number.height (sym c.in-Some-number.ensures.number)
     (c.in-Some-rate.num, c.in-Some-rate.den) (ap rate_of (sym c.value-3.ensures) ∙ sym c.in-Some-rate.ensures.rate)
     (c.in-Some-par.par_num, c.in-Some-par.par_den) (ap par_of (sym c.value-4.ensures) ∙ sym c.in-Some-par.ensures.par)
-    (c.in-Some-colour.kind, c.in-Some-colour.tag) (ap colour_of (sym c.value-5.ensures) ∙ sym c.in-Some-colour.ensures) good
-    (large_by _ good (λ legal. both_ways c.is_legal.result c.if-not-is_legal.true (c.is_legal.ensures.1 legal)))
+    (c.in-Some-colour.format, c.in-Some-colour.tag) (ap colour_of (sym c.value-5.ensures) ∙ sym c.in-Some-colour.ensures.colour) good
+    (large_by _ c.in-Some-colour.ensures.legal good (λ legal. both_ways c.is_legal.result c.if-not-is_legal.true (c.is_legal.ensures.1 legal)))
 
 pub returns-clause-sound : goal.returns-clause-sound
 returns-clause-sound c =
@@ -55,12 +55,12 @@ returns-clause-sound c =
     no_fault _ _ _ (sym c.in-Some-Some.ensures) (sym c.in-Some-Some.ensures') c.in-Some.width (sym c.in-Some.ensures.number) c.in-Some-number.height (sym c.in-Some-number.ensures.number)
     (c.in-Some-rate.num, c.in-Some-rate.den) (ap rate_of (sym c.value-3.ensures) ∙ sym c.in-Some-rate.ensures.rate)
     (c.in-Some-par.par_num, c.in-Some-par.par_den) (ap par_of (sym c.value-4.ensures) ∙ sym c.in-Some-par.ensures.par)
-    (c.in-Some-colour.kind, c.in-Some-colour.tag) (ap colour_of (sym c.value-5.ensures) ∙ sym c.in-Some-colour.ensures) good (let legal = c.is_legal.ensures.0 (search rules) in legal.most_bytes)
+    (c.in-Some-colour.format, c.in-Some-colour.tag) (ap colour_of (sym c.value-5.ensures) ∙ sym c.in-Some-colour.ensures.colour) good (let legal = c.is_legal.ensures.0 (search rules) in legal.most_bytes)
 
 pub returns-clause-info : goal.returns-clause-info
 returns-clause-info c =
     ap (λ (f : Field). record {
-      shape = record { kind = c.in-Some-colour.kind; width = c.in-Some.width; height = c.in-Some-number.height };
+      shape = record { kind = c.in-Some-colour.format.kind; bits = c.in-Some-colour.format.bits; width = c.in-Some.width; height = c.in-Some-number.height };
       frames = 0;
       num = c.in-Some-rate.num;
       den = c.in-Some-rate.den;
@@ -71,4 +71,4 @@ returns-clause-info c =
     ∙ sym (info_is _ _ _ (sym c.in-Some-Some.ensures) (sym c.in-Some-Some.ensures') c.in-Some.width (sym c.in-Some.ensures.number) c.in-Some-number.height (sym c.in-Some-number.ensures.number)
     (c.in-Some-rate.num, c.in-Some-rate.den) (ap rate_of (sym c.value-3.ensures) ∙ sym c.in-Some-rate.ensures.rate)
     (c.in-Some-par.par_num, c.in-Some-par.par_den) (ap par_of (sym c.value-4.ensures) ∙ sym c.in-Some-par.ensures.par)
-    (c.in-Some-colour.kind, c.in-Some-colour.tag) (ap colour_of (sym c.value-5.ensures) ∙ sym c.in-Some-colour.ensures))
+    (c.in-Some-colour.format, c.in-Some-colour.tag) (ap colour_of (sym c.value-5.ensures) ∙ sym c.in-Some-colour.ensures.colour))
