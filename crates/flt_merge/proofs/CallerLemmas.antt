@@ -17,7 +17,7 @@ use Rattle.clip_term.specs.declared.fault.FilterFault.TheVariants.{FormatDiffers
 use Rattle.clip_term.specs.declared.op.JoinOp.{JoinOp}
 use Rattle.clip_term.specs.declared.op.JoinOp.TheVariants as op
 use Rattle.clip_term.specs.Refusals.{info_at, no_info, rate_of, sized, same_format, same_size, unless, limits}
-use Rattle.clip_term.specs.Join.{beside, beneath, kind_of, join_refusals, join_length, join_shape, join_at, check_join}
+use Rattle.clip_term.specs.Join.{beside, beneath, kind_of, join_refusals, join_length, join_shape, join_at, check_join, chroma_refusals}
 use Rattle.clip_term.specs.ClipTerm.{joined}
 use Rattle.clip_term.specs.Terms.{make, join_inputs}
 use Rattle.clip_term.proofs.PassedLemmas.{passed, limits_shape}
@@ -67,9 +67,13 @@ plain_refusals op.Merge infos = plain_tests same_format same_size infos
 plain_refusals op.MergeLuma infos = plain_tests same_format same_size infos
 plain_refusals op.MergeChroma infos = plain_tests same_format same_size infos
 plain_refusals op.YToUV infos =
-    let row : Shape → Shape → Shape → Refusals FilterFault = λ u v y. (SizeDiffers, not (same_size u v) || is_none (kind_of u y)) ∷ [] in
     let plains = map plain infos in
-    ap (λ s. row s (info_at plains 1).shape (info_at plains 2).shape) (plain_at infos 0) ∙ ap (λ s. row (info_at infos 0).shape s (info_at plains 2).shape) (plain_at infos 1)
+    let first = (info_at infos 0).shape in
+    let bits : list_all (λ (d : Info). d.shape.bits == (info_at plains 0).shape.bits) plains ≡ list_all (λ (d : Info). d.shape.bits == first.bits) infos
+    = ap (λ (s : Shape). list_all (λ (d : Info). d.shape.bits == s.bits) plains) (plain_at infos 0) ∙ plain_all (λ s. s.bits == first.bits) infos in
+    let row : Shape → Shape → Shape → Refusals FilterFault = λ u v y. chroma_refusals (list_all (λ (d : Info). d.shape.bits == first.bits) infos) u v y in
+    ap (λ b. chroma_refusals b (info_at plains 0).shape (info_at plains 1).shape (info_at plains 2).shape) bits
+    ∙ ap (λ s. row s (info_at plains 1).shape (info_at plains 2).shape) (plain_at infos 0) ∙ ap (λ s. row (info_at infos 0).shape s (info_at plains 2).shape) (plain_at infos 1)
     ∙ ap (λ s. row (info_at infos 0).shape (info_at infos 1).shape s) (plain_at infos 2)
 
 plain_shape : (op : JoinOp) (infos : List Info) → join_shape op (info_at (map plain infos) 0) (map plain infos) ≡ join_shape op (info_at infos 0) infos
@@ -83,7 +87,7 @@ plain_shape op.Merge infos = plain_at infos 0
 plain_shape op.MergeLuma infos = plain_at infos 0
 plain_shape op.MergeChroma infos = plain_at infos 0
 plain_shape op.YToUV infos =
-    let made : Shape → Shape → Shape = λ u y. record { kind = unwrap_or (kind_of u y) Y8; width = y.width; height = y.height } in
+    let made : Shape → Shape → Shape = λ u y. record { kind = unwrap_or (kind_of u y) Y8; bits = u.bits; width = y.width; height = y.height } in
     ap (λ s. made s (info_at (map plain infos) 2).shape) (plain_at infos 0) ∙ ap (made (info_at infos 0).shape) (plain_at infos 2)
 
 plain_beside : (infos : List Info) (looks : List Look) (p x y : ℕ) → beside (map plain infos) looks p x y ≡ beside infos looks p x y

@@ -16,7 +16,7 @@ use Rattle.clip_term.specs.declared.op.JoinOp.{JoinOp}
 use Rattle.clip_term.specs.declared.op.JoinOp.TheVariants as op
 use Rattle.clip_term.specs.Refusals.{info_at, no_info, unless, same_format, same_size}
 use Rattle.clip_term.specs.Join.{has_sizes, kind_of, join_refusals, join_at}
-use Rattle.clip_term.proofs.PassedLemmas.{Passed, passed, agreed, or_false, both, not_false, same_number, same_kind_is, all_at}
+use Rattle.clip_term.proofs.PassedLemmas.{Passed, passed, agreed, or_false, both, not_false, same_number, same_format_is, all_at}
 use Rattle.clip_term.proofs.JoinLocal.{found, some_kind}
 use Rattle.flt_merge.specs.Joined.{infos_in, shape_joined, join_picture, CanJoin}
 use Rattle.flt_merge.specs.Rows.{look_of_two, look_of_luma, HaveWidth, HaveHeight}
@@ -96,7 +96,7 @@ exact_height YV411 n = omega arith
 
 -- the shape whose luma is that of y and whose chroma has the size of u
 abbrev pub shape_of_three : Shape → Shape → Shape
-shape_of_three u y = record { kind = unwrap_or (kind_of u y) Y8; width = y.width; height = y.height }
+shape_of_three u y = record { kind = unwrap_or (kind_of u y) Y8; bits = u.bits; width = y.width; height = y.height }
 
 -- chroma of it has the size of u
 pub chroma_same : (u y : Shape) → is_none (kind_of u y) ≡ false → HasSamePlane (shape_of_three u y) 1 u 0
@@ -107,16 +107,15 @@ chroma_same u y some =
     record {
       width = ap (λ n. n / sub_w kind) (same_number y.width (u.width * sub_w kind) each.0) ∙ exact_width kind u.width;
       height = ap (λ n. n / sub_h kind) (same_number y.height (u.height * sub_h kind) each.1) ∙ exact_height kind u.height;
-      largest = refl;
-      bytes = refl;
+      bits = refl;
     }
 
 -- and of v, which has the size of u
-pub chroma_second : (u v y : Shape) → same_size u v ≡ true → is_none (kind_of u y) ≡ false → HasSamePlane (shape_of_three u y) 2 v 0
-chroma_second u v y size some =
+pub chroma_second : (u v y : Shape) → v.bits ≡ u.bits → same_size u v ≡ true → is_none (kind_of u y) ≡ false → HasSamePlane (shape_of_three u y) 2 v 0
+chroma_second u v y bits size some =
     let first = chroma_same u y some in
     let each = both (u.width == v.width) (u.height == v.height) size in
-    record { width = first.width ∙ same_number u.width v.width each.0; height = first.height ∙ same_number u.height v.height each.1; largest = refl; bytes = refl }
+    record { width = first.width ∙ same_number u.width v.width each.0; height = first.height ∙ same_number u.height v.height each.1; bits = sym bits }
 
 three_looks : (first second : Bool) (u v y : Picture) (p x z : ℕ) → look_in (if first then y else if second then u else v) p x z
     ≡ look_at (look_in u ∷ look_in v ∷ look_in y ∷ []) (if first then 2 else if second then 0 else 1) p x z
@@ -129,18 +128,21 @@ y_to_uv_is u v y =
     picture_same (shape_of_three u.shape y.shape) (look_of_luma y u v) (join_at op.YToUV (infos_in (u ∷ v ∷ y ∷ [])) (look_in u ∷ look_in v ∷ look_in y ∷ []))
     (record { same = λ p x z i. three_looks (p == 0) (p == 1) u v y 0 x z })
 
--- u and v have one size, and y has a format
-pub chroma_fits : (u v y : Picture) → CanJoin op.YToUV (u ∷ v ∷ y ∷ []) → (same_size u.shape v.shape ≡ true) × (is_none (kind_of u.shape y.shape) ≡ false)
-chroma_fits u v y can =
-    let tests = or_false (not (same_size u.shape v.shape)) (is_none (kind_of u.shape y.shape)) (passes op.YToUV (u ∷ v ∷ y ∷ []) can).0 in
-    (not_false (same_size u.shape v.shape) tests.0, tests.1)
-
--- STACKS
-
 all_infos : (test : Info → Bool) (pictures : List Picture) → list_all test (infos_in pictures) ≡ true → All (λ one. test (record no_info { shape = one.shape }) ≡ true) pictures
 all_infos test [] all k d h = absurd (omega arith)
 all_infos test (one ∷ more) all zero d h = (all_at test (record no_info { shape = one.shape }) (infos_in more) all).0
 all_infos test (one ∷ more) all (suc k) d h = all_infos test more (all_at test (record no_info { shape = one.shape }) (infos_in more) all).1 k d (omega arith)
+
+-- u and v have one size, y has a format, and all have as many bits
+pub chroma_fits : (u v y : Picture) → CanJoin op.YToUV (u ∷ v ∷ y ∷ [])
+    → (same_size u.shape v.shape ≡ true) × (is_none (kind_of u.shape y.shape) ≡ false) × ((v.shape.bits ≡ u.shape.bits) × (y.shape.bits ≡ u.shape.bits))
+chroma_fits u v y can =
+    let tests = or_false (not (same_size u.shape v.shape)) (is_none (kind_of u.shape y.shape)) (passes op.YToUV (u ∷ v ∷ y ∷ []) can).1.0 in
+    let pictures : List Picture = u ∷ v ∷ y ∷ [] in
+    let bits = all_infos (λ (o : Info). o.shape.bits == u.shape.bits) pictures (not_false _ (passes op.YToUV pictures can).0) in
+    (not_false (same_size u.shape v.shape) tests.0, tests.1, (same_number v.shape.bits u.shape.bits (bits 1 v (omega arith)), same_number y.shape.bits u.shape.bits (bits 2 y (omega arith))))
+
+-- STACKS
 
 pub have_width : (pictures : List Picture) → CanJoin op.StackVertical pictures → HaveWidth (shape_joined op.StackVertical pictures) pictures
 have_width pictures can k d h =
@@ -148,7 +150,8 @@ have_width pictures can k d h =
     let pass = passes op.StackVertical pictures can in
     let kinds = all_infos (λ (o : Info). same_format o.shape shape) pictures (not_false _ pass.0) k d h in
     let widths = all_infos (λ (o : Info). o.shape.width == shape.width) pictures (not_false _ pass.1.0) k d h in
-    (same_kind_is (get_or pictures k d).shape.kind shape.kind kinds, same_number (get_or pictures k d).shape.width shape.width widths)
+    let same = same_format_is (get_or pictures k d).shape shape kinds in
+    (same.0, same_number (get_or pictures k d).shape.width shape.width widths, same.1)
 
 pub have_height : (pictures : List Picture) → CanJoin op.StackHorizontal pictures → HaveHeight (shape_joined op.StackHorizontal pictures) pictures
 have_height pictures can k d h =
@@ -156,4 +159,5 @@ have_height pictures can k d h =
     let pass = passes op.StackHorizontal pictures can in
     let kinds = all_infos (λ (o : Info). same_format o.shape shape) pictures (not_false _ pass.0) k d h in
     let heights = all_infos (λ (o : Info). o.shape.height == shape.height) pictures (not_false _ pass.1.0) k d h in
-    (same_kind_is (get_or pictures k d).shape.kind shape.kind kinds, same_number (get_or pictures k d).shape.height shape.height heights)
+    let same = same_format_is (get_or pictures k d).shape shape kinds in
+    (same.0, same_number (get_or pictures k d).shape.height shape.height heights, same.1)

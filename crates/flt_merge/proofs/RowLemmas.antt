@@ -24,7 +24,7 @@ some_planes YV411 = omega arith
 
 -- a picture of the same shape has the same planes
 pub same_plane : (a b : Shape) (p : ℕ) → b ≡ a → HasSamePlane a p b p
-same_plane a b p same = rw same (record { width = refl; height = refl; largest = refl; bytes = refl })
+same_plane a b p same = rw same (record { width = refl; height = refl; bits = refl })
 
 -- what is true of two pictures is true of the one that is chosen
 pub chosen : (P : Picture → Type 0) (first : Bool) (a b : Picture) → P a → P b → P (if first then a else b)
@@ -43,14 +43,18 @@ three_sizes size true second y u v luma chroma a b d = a
 three_sizes size false true y u v luma chroma a b d = b
 three_sizes size false false y u v luma chroma a b d = d
 
+three_bits : (first second : Bool) (y u v : Picture) (bits : ℕ) → bits ≡ y.shape.bits → bits ≡ u.shape.bits → bits ≡ v.shape.bits → bits ≡ (if first then y else if second then u else v).shape.bits
+three_bits true second y u v bits a b d = a
+three_bits false true y u v bits a b d = b
+three_bits false false y u v bits a b d = d
+
 -- each plane has the size of the luma that it is
 pub three_same : (shape : Shape) (y u v : Picture) → HasSamePlane shape 0 y.shape 0 → HasSamePlane shape 1 u.shape 0 → HasSamePlane shape 2 v.shape 0 → (p : ℕ)
     → HasSamePlane shape p (one_of_three y u v p).shape 0
 three_same shape y u v a b d p = record {
   width = three_sizes (λ one. one.shape.width) (p == 0) (p == 1) y u v shape.width (shape.width / sub_w shape.kind) a.width b.width d.width;
   height = three_sizes (λ one. one.shape.height) (p == 0) (p == 1) y u v shape.height (shape.height / sub_h shape.kind) a.height b.height d.height;
-  largest = refl;
-  bytes = refl;
+  bits = three_bits (p == 0) (p == 1) y u v shape.bits a.bits b.bits d.bits;
 }
 
 three_pictures : (y u v : Picture) → IsPicture y → IsPicture u → IsPicture v → (p : ℕ) → IsPicture (one_of_three y u v p)

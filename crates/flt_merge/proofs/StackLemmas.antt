@@ -1,7 +1,7 @@
 -- Pictures one after the other: the sizes of their planes together, and the samples in them.
-use Rattle.std.proofs.Common.{◌≡◌, ℕ, suc, ◌+◌, ◌-◌, ◌*◌, ◌/◌, ◌%◌, ◌<◌, ◌≤◌, List, [], ◌∷◌, ◌++◌, length, get_or, take, map, refl, sym, ◌∙◌, ap, arith, inl, inr, Bool, true, false, if◌then◌else◌, ◌==◌, nat_lt, sum_by, All, flat_map, add-mul, mul-div_cancel, subst, append-nil, drop, get_or-take, get_or-drop, length-take-le, length-drop}
+use Rattle.std.proofs.Common.{◌≡◌, ℕ, zero, suc, ◌^◌, ◌+◌, ◌-◌, ◌*◌, ◌/◌, ◌%◌, ◌<◌, ◌≤◌, List, [], ◌∷◌, ◌++◌, length, get_or, take, map, refl, sym, ◌∙◌, ap, arith, inl, inr, Bool, true, false, if◌then◌else◌, ◌==◌, nat_lt, sum_by, All, flat_map, add-mul, mul-div_cancel, subst, append-nil, drop, get_or-take, get_or-drop, length-take-le, length-drop}
 use borrow.Rule.Slice.PartMut.{put_mid}
-use Rattle.std.proofs.lemmas.List.{get_or_append_left, get_or-append_right, length-append, take_more, get_or_read_under}
+use Rattle.std.proofs.lemmas.List.{get_or_append_left, get_or-append_right, length-append, take_more, get_or_read_under, get_or_past, length-take}
 use Rattle.std.proofs.lemmas.List.Concat.{length-flat_map, get_or-flat_map, flat_map-append}
 use Rattle.std.proofs.lemmas.List.Sums.{sum_by-cons, sum_by_more, sum_by_more_le}
 use Rattle.std.proofs.lemmas.Bool.{cases_eq, cases_lt}
@@ -10,10 +10,13 @@ use Rattle.fv_plane.specs.declared.format.Info.{Info}
 use Rattle.fv_plane.specs.declared.format.PixelType.{PixelType}
 use Rattle.fv_plane.specs.declared.format.PixelType.TheVariants.{Y8, YV12, YV16, YV24, YV411}
 use Rattle.fv_plane.specs.declared.format.Shape.{Shape}
-use Rattle.fv_plane.specs.Format.{planes, sub_w, sub_h, plane_width, plane_height, sample_bytes}
+use Rattle.fv_plane.specs.Format.{planes, sub_w, sub_h, plane_width, plane_height, largest_sample}
 use Rattle.fv_plane.specs.Picture.{Picture, IsPicture, row_of}
 use Rattle.fv_plane.specs.Look.{look_in}
-use Rattle.fv_plane.proofs.CallerLemmas.{bytes_of_narrow, length-plane, length-row}
+use Rattle.fv_plane.specs.Rows.{flat_rows}
+use Rattle.fv_plane.specs.Bytes.{bytes_of_row, bytes_of_rows, FitsRow, FitBytes}
+use Rattle.fv_plane.proofs.CallerLemmas.{fit_row, length-plane, length-row}
+use Rattle.fv_plane.proofs.BytesLemmas.{bytes_of_row-nil, bytes_of_row-same, bytes_of_row-append, bytes_of_rows-flat}
 use Rattle.fv_plane.proofs.FillLemmas.{Lists, row_listed}
 use Rattle.clip_term.specs.Refusals.{no_info}
 use Rattle.clip_term.specs.Join.{beside, beneath, join_at}
@@ -264,11 +267,50 @@ beside_listed shape pictures make p y there inside =
     (row_of_all shape pictures make p y there inside)
     (λ x within. sample_beside pictures p x y (widths_beside shape pictures make p y there inside))
 
--- where a sample is one byte, the bytes side by side are the samples
-pub bytes_beside_are : (pictures : List Picture) (p y : ℕ) → ((one : Picture) → sample_bytes one.shape ≡ 1) → bytes_beside pictures p y ≡ rows_beside pictures p y
-bytes_beside_are [] p y narrow = refl
-bytes_beside_are (one ∷ more) p y narrow =
-    ap (λ l. l ++ bytes_beside more p y) (bytes_of_narrow one.shape (row_of one.planes p y) (narrow one)) ∙ ap (λ l. row_of one.planes p y ++ l) (bytes_beside_are more p y narrow)
+-- the bytes side by side are those of the samples side by side
+pub bytes_beside_are : (shape : Shape) (pictures : List Picture) (p y : ℕ) → All (λ (one : Picture). one.shape.bits ≡ shape.bits) pictures → bytes_beside pictures p y ≡ bytes_of_row shape (rows_beside pictures p y)
+bytes_beside_are shape [] p y same = sym (bytes_of_row-nil shape)
+bytes_beside_are shape (one ∷ more) p y same =
+    let now = all_rest (λ (q : Picture). q.shape.bits ≡ shape.bits) one more same in
+    let row : List ℕ = row_of one.planes p y in
+    ap (λ (l : List ℕ). l ++ bytes_beside more p y) (bytes_of_row-same one.shape shape row now.0)
+    ∙ ap (λ (l : List ℕ). bytes_of_row shape row ++ l) (bytes_beside_are shape more p y now.1) ∙ sym (bytes_of_row-append shape row (rows_beside more p y))
+
+bounded-append : (most : ℕ) (front rest : List ℕ) → ((x : ℕ) → get_or front x 0 ≤ most) → ((x : ℕ) → get_or rest x 0 ≤ most) → (x : ℕ) → get_or (front ++ rest) x 0 ≤ most
+bounded-append most [] rest few more x = more x
+bounded-append most (s ∷ front) rest few more zero = few 0
+bounded-append most (s ∷ front) rest few more (suc x) = bounded-append most front rest (λ k. few (suc k)) more x
+
+-- samples of pictures fit in a shape of their bits
+fits_shape : (picture : Picture) (shape : Shape) (p y : ℕ) → IsPicture picture → picture.shape.bits ≡ shape.bits → FitsRow shape (row_of picture.planes p y)
+fits_shape picture shape p y is same x = subst (λ n. get_or (row_of picture.planes p y) x 0 ≤ 2 ^ n - 1) same (is.bounded p x y)
+
+-- also side by side
+pub fits_beside : (shape : Shape) (pictures : List Picture) (p y : ℕ) → All IsPicture pictures → All (λ (one : Picture). one.shape.bits ≡ shape.bits) pictures → FitsRow shape (rows_beside pictures p y)
+fits_beside shape [] p y all same x = omega arith
+fits_beside shape (one ∷ more) p y all same x =
+    let is = all_rest (λ (q : Picture). IsPicture q) one more all in
+    let now = all_rest (λ (q : Picture). q.shape.bits ≡ shape.bits) one more same in
+    bounded-append (largest_sample shape) (row_of one.planes p y) (rows_beside more p y) (fits_shape one shape p y is.0 now.0) (fits_beside shape more p y is.1 now.1) x
+
+fits_rows : (most : ℕ) (rows : List (List ℕ)) → ((x y : ℕ) → get_or (get_or rows y []) x 0 ≤ most) → (x : ℕ) → get_or (flat_rows rows) x 0 ≤ most
+fits_rows most [] few x = omega arith
+fits_rows most (row ∷ rows) few x = bounded-append most row (flat_rows rows) (λ k. few k 0) (fits_rows most rows (λ k y. few k (suc y))) x
+
+part_few : (most : ℕ) (rows : List (List ℕ)) (y n : ℕ) → ((x z : ℕ) → get_or (get_or rows z []) x 0 ≤ most) → (x z : ℕ) → get_or (get_or (take n (drop y rows)) z []) x 0 ≤ most
+part_few most rows y n few x z = elim (cases_lt z n) [
+  | inl within ↦ rw (get_or-take n (drop y rows) z [] within, get_or-drop y rows z []) (few x (y + z))
+  | inr past ↦ rw (get_or_past (take n (drop y rows)) z [] (omega (arith, length-take n (drop y rows)))) (omega arith)
+]
+
+-- the bytes of rows of a picture fit in a shape of its bits
+pub fit_rows : (picture : Picture) (shape : Shape) (p y n : ℕ) (bytes : List ℕ) → IsPicture picture → picture.shape.bits ≡ shape.bits → bytes ≡ bytes_of_rows picture.shape (take n (drop y (get_or picture.planes p []))) → FitBytes shape bytes
+fit_rows picture shape p y n bytes is same told =
+    let rows : List (List ℕ) = take n (drop y (get_or picture.planes p [])) in
+    let flat : bytes ≡ bytes_of_row shape (flat_rows rows) = told ∙ bytes_of_rows-flat picture.shape rows ∙ bytes_of_row-same picture.shape shape (flat_rows rows) same in
+    let fits : FitsRow shape (flat_rows rows)
+    = fits_rows (largest_sample shape) rows (part_few (largest_sample shape) (get_or picture.planes p []) y n (λ x z. subst (λ k. get_or (get_or (get_or picture.planes p []) z []) x 0 ≤ 2 ^ k - 1) same (is.bounded p x z))) in
+    subst (λ (l : List ℕ). FitBytes shape l) (sym flat) (fit_row shape (flat_rows rows) fits)
 
 -- STACKS
 
@@ -294,6 +336,9 @@ module _ (shape : Shape) (pictures : List Picture) (make : Beneath shape picture
       ap (λ (q : Picture). plane_width q.shape p) is
       ∙ ap (λ kind. if p == 0 then (get_or pictures i one).shape.width else (get_or pictures i one).shape.width / sub_w kind) (make.alike i one h).0
       ∙ ap (λ w. if p == 0 then w else w / sub_w shape.kind) (make.alike i one h).1
+
+  pub next_bits : one.shape.bits ≡ shape.bits
+  next_bits = ap (λ (q : Picture). q.shape.bits) is ∙ (make.alike i one h).2
 
   next_height : plane_height (get_or pictures i one).shape p ≡ plane_height one.shape p
   next_height = ap (λ (q : Picture). plane_height q.shape p) (sym is)

@@ -52,15 +52,17 @@ rows_beside pictures p z = flat_map (λ (picture : Picture). row_of picture.plan
 abbrev pub bytes_beside : List Picture → ℕ → ℕ → List ℕ
 bytes_beside pictures p z = flat_map (λ (picture : Picture). bytes_of_row picture.shape (row_of picture.planes p z)) pictures
 
--- of the format and width of this shape
+-- of the kind, the width and the bits of this shape
 abbrev pub HaveWidth : Shape → List Picture → Type 0
 HaveWidth shape pictures =
-    All (λ (picture : Picture). (picture.shape.kind ≡ shape.kind) × (picture.shape.width ≡ shape.width)) pictures
+    All (λ (picture : Picture).
+    (picture.shape.kind ≡ shape.kind) × (picture.shape.width ≡ shape.width) × (picture.shape.bits ≡ shape.bits)) pictures
 
--- of the format and height of this shape
+-- of the kind, the height and the bits of this shape
 abbrev pub HaveHeight : Shape → List Picture → Type 0
 HaveHeight shape pictures =
-    All (λ (picture : Picture). (picture.shape.kind ≡ shape.kind) × (picture.shape.height ≡ shape.height)) pictures
+    All (λ (picture : Picture).
+    (picture.shape.kind ≡ shape.kind) × (picture.shape.height ≡ shape.height) × (picture.shape.bits ≡ shape.bits)) pictures
 
 abbrev pub width_of_all : List Picture → ℕ
 width_of_all pictures = sum_by (λ (picture : Picture). picture.shape.width) pictures

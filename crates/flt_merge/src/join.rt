@@ -44,12 +44,15 @@ fn kind_of(u: Shape, y: Shape) -> PixelType
 fn y_to_uv(alloc: Global, u: &Frame, v: &Frame, y: &Frame) -> Result<Frame, AllocError>
     requires legal { IsLegal (shape_joined YToUV (u.now ∷ v.now ∷ y.now ∷ [])) }
     requires size { same_size u.now.shape v.now.shape ≡ true }
+    requires bits { (v.now.shape.bits ≡ u.now.shape.bits) × (y.now.shape.bits ≡ u.now.shape.bits) }
     requires kind { is_none (kind_of u.now.shape y.now.shape) ≡ false }
     ensures { IfOk result (λ made. made ≡ join_picture YToUV (u.now ∷ v.now ∷ y.now ∷ [])) }
 {
+    let chroma = u.shape();
     let luma = y.shape();
     let shape = Shape {
-        kind: kind_of(u.shape(), luma),
+        kind: kind_of(chroma, luma),
+        bits: chroma.bits,
         width: luma.width,
         height: luma.height,
     };

@@ -33,6 +33,9 @@ y_to_uv-requires-clause-size c = (chroma_fits c.index-inputs-0-in-YToUV.result c
 pub y_to_uv-requires-clause-kind : goal.y_to_uv-requires-clause-kind
 y_to_uv-requires-clause-kind c = (chroma_fits c.index-inputs-0-in-YToUV.result c.index-inputs-1-in-YToUV.result c.index-inputs-2.result (can_three c)).1
 
+pub y_to_uv-requires-clause-bits : goal.y_to_uv-requires-clause-bits
+y_to_uv-requires-clause-bits c = (chroma_fits c.index-inputs-0-in-YToUV.result c.index-inputs-1-in-YToUV.result c.index-inputs-2.result (can_three c)).2
+
 pub returns-in-MergeLuma : goal.returns-in-MergeLuma
 returns-in-MergeLuma c =
     let inputs : List Picture = c.args.inputs.now in

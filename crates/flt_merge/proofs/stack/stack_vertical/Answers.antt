@@ -12,7 +12,7 @@ use Rattle.clip_term.specs.Join.{join_at}
 use Rattle.flt_merge.specs.Joined.{infos_in, shape_joined}
 use Rattle.flt_merge.specs.Rows.{plane_of_all, rows_beneath}
 use Rattle.fv_plane.proofs.WholePlaneLemmas.{filled_rows, row_bytes_are}
-use Rattle.flt_merge.proofs.StackLemmas.{beneath_by, all_rows, beneath_listed, next_is, next_planes, next_width, next_ends, next_after, next_wanted}
+use Rattle.flt_merge.proofs.StackLemmas.{beneath_by, all_rows, beneath_listed, next_is, next_planes, next_width, next_bits, fit_rows, next_ends, next_after, next_wanted}
 use Rattle.flt_merge.proofs.stack.stack_vertical.Goals as goal
 
 pub loop-plane-init : goal.loop-plane-init
@@ -101,8 +101,31 @@ put_rows-requires-clause-whole c =
     let same : made.shape ≡ shape = c.loop-y.invariant.filled.same in
     let bytes = row_bytes_are other made.shape p y n c.rows_from-count.result.0.now (next_is shape inputs make p i other there c.loop-i-test.true c.index-inputs-i-in-loop-y.is)
     (next_planes shape inputs make p i other there c.loop-i-test.true c.index-inputs-i-in-loop-y.is) c.rows_from-count.ensures.inside
-    (next_width shape inputs make p i other there c.loop-i-test.true c.index-inputs-i-in-loop-y.is ∙ ap (λ (s : Shape). plane_width s p) (sym same)) c.rows_from-count.ensures.rows in
+    (next_width shape inputs make p i other there c.loop-i-test.true c.index-inputs-i-in-loop-y.is ∙ ap (λ (s : Shape). plane_width s p) (sym same))
+    (next_bits shape inputs make p i other there c.loop-i-test.true c.index-inputs-i-in-loop-y.is ∙ ap (λ (s : Shape). s.bits) (sym same)) c.rows_from-count.ensures.rows in
     bytes.long
+
+pub put_rows-requires-clause-fits : goal.put_rows-requires-clause-fits
+put_rows-requires-clause-fits c =
+    let inputs : List Picture = c.args.inputs.now in
+    let shape : Shape = shape_joined StackVertical inputs in
+    let is_shape : c.shape_beneath-shape.result ≡ shape = c.shape_beneath-shape.ensures.shape in
+    let make = beneath_by shape inputs refl c.shape_beneath-shape.ensures.sizes c.requires.alike in
+    let p : ℕ = c.loop-plane.plane in
+    let there : p < planes shape.kind = omega (arith, c.loop-plane-test.true, c.planes-plane-end.ensures, ap (λ (s : Shape). planes s.kind) is_shape) in
+    let one : Picture = c.index-inputs-i.result in
+    let i : ℕ = c.loop-i.i in
+    let top : ℕ = c.loop-i.top in
+    let height : c.plane_height-height.result ≡ plane_height one.shape p = c.plane_height-height.ensures ∙ ap (λ (s : Shape). plane_height s p) c.shape.ensures.shape in
+    let ends : top + plane_height one.shape p ≤ plane_height shape p = next_ends shape inputs make p i one there c.loop-i-test.true c.index-inputs-i.is top c.loop-i.invariant.top in
+    let other : Picture = c.index-inputs-i-in-loop-y.result in
+    let more : top + plane_height other.shape p ≤ plane_height shape p = next_ends shape inputs make p i other there c.loop-i-test.true c.index-inputs-i-in-loop-y.is top c.loop-i.invariant.top in
+    let y : ℕ = c.loop-y.y in
+    let n : ℕ = c.rows_from-count.result.1 in
+    let made : Picture = c.loop-y.made in
+    let same : made.shape ≡ shape = c.loop-y.invariant.filled.same in
+    fit_rows other made.shape p y n c.rows_from-count.result.0.now (next_is shape inputs make p i other there c.loop-i-test.true c.index-inputs-i-in-loop-y.is)
+    (next_bits shape inputs make p i other there c.loop-i-test.true c.index-inputs-i-in-loop-y.is ∙ ap (λ (s : Shape). s.bits) (sym same)) c.rows_from-count.ensures.rows
 
 pub loop-y-preserved : goal.loop-y-preserved
 loop-y-preserved c =
@@ -125,7 +148,8 @@ loop-y-preserved c =
     let same : made.shape ≡ shape = c.loop-y.invariant.filled.same in
     let bytes = row_bytes_are other made.shape p y n c.rows_from-count.result.0.now (next_is shape inputs make p i other there c.loop-i-test.true c.index-inputs-i-in-loop-y.is)
     (next_planes shape inputs make p i other there c.loop-i-test.true c.index-inputs-i-in-loop-y.is) c.rows_from-count.ensures.inside
-    (next_width shape inputs make p i other there c.loop-i-test.true c.index-inputs-i-in-loop-y.is ∙ ap (λ (s : Shape). plane_width s p) (sym same)) c.rows_from-count.ensures.rows in
+    (next_width shape inputs make p i other there c.loop-i-test.true c.index-inputs-i-in-loop-y.is ∙ ap (λ (s : Shape). plane_width s p) (sym same))
+    (next_bits shape inputs make p i other there c.loop-i-test.true c.index-inputs-i-in-loop-y.is ∙ ap (λ (s : Shape). s.bits) (sym same)) c.rows_from-count.ensures.rows in
     let rows : List (List ℕ) = rows_of_bytes made.shape p n c.rows_from-count.result.0.now in
     let place : top + y + n ≡ top + (y + n) = omega arith in
     let alike : plane_height other.shape p ≡ plane_height one.shape p =
