@@ -1,5 +1,6 @@
 // `BlankClip`: its arguments, their refusals, and the clip that they make.
-ghost use Rattle.std.specs.Prelude.{◌≡◌, ◌≤◌, IsTrue, option_map, OnOk};
+ghost use Rattle.std.specs.Prelude.{◌≡◌, ◌≤◌, IsTrue, true, option_map, OnOk};
+ghost use Rattle.fv_plane.specs.Format.{has_depth};
 ghost use Rattle.fv_plane.specs.Refusals.{first_fault};
 ghost use Rattle.fv_plane.specs.Info.{IsPar};
 ghost use Rattle.clip_term.specs.Blank as b;
@@ -16,7 +17,7 @@ use avs_state::{Machine, fault_at};
 use avs_values::Value;
 use clip_term::{BLACK, Filter, FilterFault, Op, colour_of, no_colour};
 use fv_io::Text;
-use fv_plane::{Field, Info, Par, PixelType, Shape, Tag, format_named};
+use fv_plane::{Field, Format, Info, Par, PixelType, Shape, Tag, format_named};
 use std::alloc::Global;
 
 /// The arguments of `BlankClip` beside its clip. `None` is one that isn't given.
@@ -102,15 +103,17 @@ fn refusal(base: &Info, args: &BlankArgs<'_>) -> Option<FilterFault>
     None
 }
 
-fn format_or(kind: PixelType, name: Option<&str>) -> PixelType
-    ensures { result ≡ b.format_or kind (text_given name.entry) }
+fn format_or(format: Format, name: Option<&str>) -> Format
+    requires { has_depth format.kind format.bits ≡ true }
+    ensures format { result ≡ b.format_or format (text_given name.entry) }
+    ensures depth { has_depth result.kind result.bits ≡ true }
 {
     let Some(text) = name else {
-        return kind;
+        return format;
     };
     match format_named(text) {
-        Some(format) => format.kind,
-        None => kind,
+        Some(named) => named,
+        None => format,
     }
 }
 
@@ -125,12 +128,16 @@ fn number_or(default: u32, value: Option<i32>) -> u32
 
 // The info that the arguments ask for. What isn't given is that of the base.
 fn blank_info(base: &Info, args: &BlankArgs<'_>) -> Info
-    ensures { result ≡ b.blank_info base.now (args_view args.now) }
+    requires { has_depth base.now.shape.kind base.now.shape.bits ≡ true }
+    ensures info { result ≡ b.blank_info base.now (args_view args.now) }
+    ensures depth { has_depth result.shape.kind result.shape.bits ≡ true }
 {
+    let format = format_or(base.shape.format(), args.pixel_type);
     let den = if args.fps.is_some() { 1 } else { base.den };
     Info {
         shape: Shape {
-            kind: format_or(base.shape.kind, args.pixel_type),
+            kind: format.kind,
+            bits: format.bits,
             width: number_or(base.shape.width, args.width),
             height: number_or(base.shape.height, args.height),
         },
@@ -148,6 +155,7 @@ fn default_clip() -> Info
     Info {
         shape: Shape {
             kind: PixelType::YV12,
+            bits: 8,
             width: 640,
             height: 480,
         },
@@ -170,6 +178,7 @@ fn blank_like(
     line: u32,
 ) -> Result<Value, ScriptStop>
     requires par { IsPar base.now.par }
+    requires depth { has_depth base.now.shape.kind base.now.shape.bits ≡ true }
     ensures gives { Gives (λ x. x) (f.blank_like script_name.now base.now (args_view args.now) line (state_of
         machine.old))
         result (state_of machine.new) }

@@ -1,5 +1,5 @@
 -- What the functions on clips tell of a clip's info (AviSynth+ wiki, 'Script functions': "Clip properties").
-use Rattle.std.specs.Prelude.{pos, Ok}
+use Rattle.std.specs.Prelude.{pos, Ok, ◌&&◌, ◌==◌}
 use Rattle.fv_plane.specs.declared.format.Info.{Info}
 use Rattle.fv_plane.specs.declared.format.PixelType.{PixelType}
 use Rattle.fv_plane.specs.declared.format.PixelType.TheVariants.{Y8, YV12, YV16, YV24, YV411}
@@ -10,8 +10,9 @@ use Rattle.clip_term.specs.Refusals.{same_kind}
 use Rattle.avs_meaning.specs.declared.builtin.ClipFn.{ClipFn}
 use Rattle.avs_meaning.specs.declared.builtin.ClipFn.TheVariants as c
 
+-- of eight bits
 abbrev pub has_format : PixelType → Info → Outcome
-has_format kind info = Ok (v.Bool (same_kind info.shape.kind kind))
+has_format kind info = Ok (v.Bool (same_kind info.shape.kind kind && info.shape.bits == 8))
 
 abbrev pub clip_value : ClipFn → Info → Outcome
 clip_value c.Width info = number (pos info.shape.width)

@@ -17,7 +17,7 @@ use Rattle.clip_term.specs.Refusals.{info_at, rate_of, nat_of, unless, limits}
 use Rattle.clip_term.specs.Time.{from_input, in_range}
 use Rattle.clip_term.specs.Space.{space_refusals, space_shape}
 use Rattle.clip_term.specs.ClipTerm.{Act, source, plain, time, space, joined, soft, act_of}
-use Rattle.clip_term.specs.Terms.{sample, make, check, asked, IsSound}
+use Rattle.clip_term.specs.Terms.{sample, make, check, asked, IsSound, AreLawful}
 use Rattle.clip_term.proofs.PassedLemmas.{both}
 use Rattle.clip_reference.specs.Ready.{IsReady, IsFilter}
 
@@ -39,23 +39,24 @@ small_matrix : (k : ℕ) → k == 9 || k == 25 ≡ true → k ≤ 25
 small_matrix k e = grind (arith, nat_tests)
 
 -- a filter that is accepted is ready for the frames that it asks
-pub ready : (inner : Act) (infos : List Info) (info : Info) (n k : ℕ) → IsFilter inner → IsSound inner (length infos) → check inner infos ≡ Ok info → k ≡ length (asked inner infos n)
+pub ready : (inner : Act) (infos : List Info) (info : Info) (n k : ℕ) → IsFilter inner → IsSound inner (length infos) → AreLawful infos → check inner infos ≡ Ok info → k ≡ length (asked inner infos n)
     → IsReady inner infos k
-ready (source name number told) infos info n k filter sound e long = absurd filter
-ready (plain told colour) infos info n k filter sound e long = absurd filter
-ready (time inner) infos info n k filter sound e long = omega arith
-ready (space inner) infos info n k filter sound e long =
+ready (source name number told) infos info n k filter sound lawful e long = absurd filter
+ready (plain told colour) infos info n k filter sound lawful e long = absurd filter
+ready (time inner) infos info n k filter sound lawful e long = omega arith
+ready (space inner) infos info n k filter sound lawful e long =
     let c = info_at infos 0 in
-    (omega arith, omega arith, no_fault (first_fault (space_refusals inner c.shape)) (limits c c.frames (rate_of c) (space_shape inner c.shape)) info e)
-ready (joined inner) infos info n k filter sound e long = long ∙ length-map-range_with_len (λ i. in_range infos (from_input i n)) 0 (length infos)
-ready (soft (op.TemporalSoften radius luma chroma)) infos info n k filter sound e long = (
+    (omega arith, omega arith, no_fault (first_fault (space_refusals inner c.shape)) (limits c c.frames (rate_of c) (space_shape inner c.shape)) info e, (lawful 0 (omega arith)).shape)
+ready (joined inner) infos info n k filter sound lawful e long = long ∙ length-map-range_with_len (λ i. in_range infos (from_input i n)) 0 (length infos)
+ready (soft (op.TemporalSoften radius luma chroma)) infos info n k filter sound lawful e long = (
   let one = sound.0 in omega arith,
   long ∙ length-map-range_with_len (λ i. in_range infos (from_input 0 (n + i - nat_of radius))) 0 (2 * nat_of radius + 1),
+  (let one = sound.0 in (lawful 0 (omega arith)).shape),
 )
-ready (soft (op.GeneralConvolution bias matrix)) infos info n k filter sound e long =
+ready (soft (op.GeneralConvolution bias matrix)) infos info n k filter sound lawful e long =
     let one = sound.0 in
     let tests = both (length matrix.entries == 9 || length matrix.entries == 25) _ sound.1 in
-    (omega arith, (omega arith, small_matrix (length matrix.entries) tests.0))
+    (omega arith, (omega arith, small_matrix (length matrix.entries) tests.0), (lawful 0 (omega arith)).shape)
 
 -- an op that is neither a source nor a clip of one colour
 pub filter_is : (code : Op) → ((name : Text) (number : ℕ) (told : Info) → code ≡ code_op.Source name number told → ⊥)

@@ -1,6 +1,6 @@
 // Samples by their places, and offsets and colours on a plane.
 ghost use Rattle.std.specs.Prelude.{◌≡◌, map};
-ghost use Rattle.fv_plane.specs.Format.{largest_sample, scale, plane_width, plane_height};
+ghost use Rattle.fv_plane.specs.Format.{IsLegal, largest_sample, scale, plane_width, plane_height};
 ghost use Rattle.fv_plane.specs.Look.{look_in, look_at, across, down};
 
 use fv_plane::{Frame, Shape};
@@ -13,7 +13,7 @@ pub fn look(frame: &Frame, plane: u32, x: u64, y: u64) -> u8
     if plane >= shape.kind.planes() || x >= width(shape, plane) || y >= height(shape, plane) {
         return 0;
     }
-    frame.sample(plane, x as u32, y as u32)
+    frame.sample(plane, x as u32, y as u32) as u8
 }
 
 /// The sample at a place of frame `i`, and 0 where there is no such frame.
@@ -64,6 +64,7 @@ pub fn down(shape: Shape, plane: u32, n: u32) -> u64
 
 /// The largest value of a sample.
 pub fn largest_sample(shape: Shape) -> u8
+    requires { IsLegal shape }
     ensures { result ≡ largest_sample shape }
 {
     255
@@ -71,6 +72,7 @@ pub fn largest_sample(shape: Shape) -> u8
 
 /// The factor from a value of eight bits to a sample.
 pub fn scale(shape: Shape) -> u8
+    requires { IsLegal shape }
     ensures { result ≡ scale shape }
 {
     1

@@ -1,6 +1,6 @@
 // The samples of what a frame becomes.
 ghost use Rattle.std.specs.Prelude.{◌≡◌, ◌+◌, ◌-◌, ◌*◌, ◌≤◌, ◌&&◌, None, pos, if◌then◌else◌, ◌==◌};
-ghost use Rattle.fv_plane.specs.Format.{largest_sample, scale, plane_width, plane_height};
+ghost use Rattle.fv_plane.specs.Format.{IsLegal, largest_sample, scale, plane_width, plane_height};
 ghost use Rattle.fv_plane.specs.Look.{look_in, across, down};
 ghost use Rattle.fv_plane.specs.Refusals.{first_fault};
 ghost use Rattle.clip_term.specs.Refusals.{nat_of, paint};
@@ -13,6 +13,7 @@ use fv_plane::{Frame, Shape};
 /// A sample of what the op makes of a frame of this shape.
 pub fn space_sample(op: &SpaceOp, shape: Shape, input: &Frame, plane: u32, x: u32, y: u32) -> u8
     requires accepted { first_fault (space_refusals op.now shape) ≡ None }
+    requires legal { IsLegal shape }
     ensures { result ≡ space_at op.now shape (look_in input.now) plane x y }
 {
     let column = x as u64;
@@ -83,6 +84,7 @@ fn bordered(
     x: u32,
     y: u32,
 ) -> u8
+    requires { IsLegal shape }
     ensures { result
         ≡ space_at (SpaceOp.AddBorders left top (pos 0) (pos 0) colour) shape (look_in input.now) plane x y }
 {
@@ -108,6 +110,7 @@ fn upside_down(shape: Shape, input: &Frame, plane: u32, x: u64, y: u64) -> u8
 
 // The sample, or the colour where the picture is covered.
 fn painted(uncovered: bool, sample: u8, colour: i32, shape: Shape, plane: u32) -> u8
+    requires { IsLegal shape }
     ensures { result ≡ (if uncovered then sample else paint colour shape plane) }
 {
     if uncovered {
@@ -131,6 +134,7 @@ fn is_within(start: u64, end: u64, at: u64) -> bool
 }
 
 fn paint(colour: i32, shape: Shape, plane: u32) -> u8
+    requires { IsLegal shape }
     ensures { result ≡ paint colour shape plane }
 {
     part_of(colour.unsigned_abs(), plane) * scale(shape)
@@ -183,6 +187,7 @@ fn is_open(
 }
 
 fn grey(shape: Shape, plane: u32, sample: u8) -> u8
+    requires { IsLegal shape }
     ensures { result ≡ (if plane == 0 then sample else 128 * scale shape) }
 {
     if plane == 0 {
@@ -205,6 +210,7 @@ fn is_among(channels: Channels, plane: u32) -> bool
 }
 
 fn inverted(channels: Channels, shape: Shape, plane: u32, sample: u8) -> u8
+    requires { IsLegal shape }
     ensures { result ≡ (if is_among channels plane then largest_sample shape - sample else sample) }
 {
     if is_among(channels, plane) {
@@ -215,7 +221,8 @@ fn inverted(channels: Channels, shape: Shape, plane: u32, sample: u8) -> u8
 }
 
 fn limited(shape: Shape, low: i32, high: i32, sample: u8) -> u8
-    requires { nat_of high ≤ 255 }
+    requires high { nat_of high ≤ 255 }
+    requires legal { IsLegal shape }
     ensures { result ≡ limited (nat_of low * scale shape) (nat_of high * scale shape) sample }
 {
     let low = low.unsigned_abs() as u64 * scale(shape) as u64;

@@ -15,6 +15,7 @@ const THIRD: Key = Key { node: 0, n: 3 };
 fn dot(alloc: Global) -> Result<Frame, AllocError> {
     let shape = Shape {
         kind: PixelType::Y8,
+        bits: 8,
         width: 1,
         height: 1,
     };

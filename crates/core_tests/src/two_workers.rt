@@ -19,6 +19,7 @@ use std::test::Fail;
 const DOTS: Info = Info {
     shape: Shape {
         kind: PixelType::Y8,
+        bits: 8,
         width: 1,
         height: 1,
     },

@@ -9,6 +9,7 @@ use std::test::Fail;
 const CLIP: Info = Info {
     shape: Shape {
         kind: PixelType::YV12,
+        bits: 8,
         width: 4,
         height: 2,
     },

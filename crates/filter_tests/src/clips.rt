@@ -15,6 +15,7 @@ pub fn info_of(rt: &impl Abort, kind: PixelType, width: u32, height: u32) -> Inf
 {
     let shape = Shape {
         kind,
+        bits: 8,
         width,
         height,
     };

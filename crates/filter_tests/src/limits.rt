@@ -9,6 +9,7 @@ use std::alloc::Global;
 const DOT: Info = Info {
     shape: Shape {
         kind: PixelType::Y8,
+        bits: 8,
         width: 1,
         height: 1,
     },

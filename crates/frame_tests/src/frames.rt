@@ -8,6 +8,7 @@ fn shares_frames(rt: HostRuntime) -> Result<(), Fail> {
     let alloc = rt.alloc();
     let shape = Shape {
         kind: PixelType::Y8,
+        bits: 8,
         width: 4096,
         height: 4096,
     };
@@ -27,6 +28,7 @@ fn gives_back_what_it_was_made_of(rt: HostRuntime) -> Result<(), Fail> {
     let alloc = rt.alloc();
     let shape = Shape {
         kind: PixelType::YV12,
+        bits: 8,
         width: 2,
         height: 2,
     };
@@ -45,6 +47,7 @@ fn shows_its_bytes_upside_down(rt: HostRuntime) -> Result<(), Fail> {
     let alloc = rt.alloc();
     let shape = Shape {
         kind: PixelType::YV12,
+        bits: 8,
         width: 2,
         height: 4,
     };

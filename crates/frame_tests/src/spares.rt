@@ -14,6 +14,7 @@ const GREY: Colour = Colour {
 fn grey(alloc: Global) -> Result<Frame, AllocError> {
     let shape = Shape {
         kind: PixelType::Y8,
+        bits: 8,
         width: 4,
         height: 4,
     };
@@ -24,6 +25,7 @@ fn grey(alloc: Global) -> Result<Frame, AllocError> {
 fn coloured(alloc: Global) -> Result<Frame, AllocError> {
     let shape = Shape {
         kind: PixelType::YV12,
+        bits: 8,
         width: 4,
         height: 4,
     };

@@ -1,4 +1,4 @@
-use Rattle.std.proofs.Common.{rules, ◌≡◌, ◌∙◌, ℕ, List, [], length, map, ap, refl}
+use Rattle.std.proofs.Common.{rules, arith, ◌≡◌, ◌∙◌, ℕ, List, [], length, map, ap, refl}
 use Rattle.std.proofs.lemmas.Result.{IfOk-weaker}
 use Rattle.fv_plane.specs.Format.{plane_width}
 use Rattle.fv_plane.specs.Picture.{Picture}
@@ -6,21 +6,32 @@ use Rattle.fv_plane.specs.Bytes.{row_of_bytes}
 use Rattle.fv_plane.specs.Look.{Look, look_in, row_from, picture_from}
 use Rattle.clip_term.specs.ClipTerm.{act_of}
 use Rattle.clip_term.specs.Terms.{sample, make}
+use Rattle.fv_plane.specs.declared.format.Shape.{Shape}
+use Rattle.fv_plane.specs.Format.{row_bytes}
+use Rattle.fv_plane.proofs.CallerLemmas.{eight_bits, fit_narrow, narrow_of_bytes}
 use Rattle.fv_plane.proofs.FillLemmas.{filled_put, filled_plane, filled_done}
 use Rattle.clip_reference.proofs.ReadyLemmas.{made_same}
 use Rattle.clip_reference.proofs.make.made.Goals as goal
 
+-- a row of samples of eight bits has as many bytes
+narrow_row : (shape : Shape) (p : ℕ) → shape.bits ≡ 8 → row_bytes shape p ≡ plane_width shape p
+narrow_row shape p eight = rw eight (omega arith)
+
+pub put_row-requires-clause-fits : goal.put_row-requires-clause-fits
+put_row-requires-clause-fits c = fit_narrow c.loop-y.made.shape c.fill_row.new.row (eight_bits c.loop-y.made.shape c.loop-y.invariant.filled.sizes.legal)
+
+-- a row of the plane has as many samples as bytes
 pub loop-y-preserved : goal.loop-y-preserved
-unfolding row_of_bytes
 loop-y-preserved c =
     let shape = c.args.info.shape in
     let at : Look = sample [] (act_of c.args.op.now) c.args.infos.now 0 (map look_in c.args.frames.now) in
     let p = c.loop-plane.plane in
     record {
       long = c.fill_row.auto.row ∙ c.loop-y.invariant.long;
-      filled = filled_put (λ q z. row_from at q (plane_width shape q) z) shape c.loop-y.made c.put_row.new.self p c.loop-y.y c.fill_row.new.row c.loop-y.invariant.filled
+      filled = filled_put (λ q z. row_from at q (plane_width shape q) z) shape c.loop-y.made c.put_row.new.self p c.loop-y.y (row_of_bytes c.loop-y.made.shape c.fill_row.new.row) c.loop-y.invariant.filled
           c.put_row.ensures.sizes c.put_row.ensures.shape c.put_row.ensures.rows
-          (c.fill_row.ensures ∙ ap (λ width. row_from at p width c.loop-y.y) c.loop-y.invariant.long) (search rules) (search rules);
+          (narrow_of_bytes c.loop-y.made.shape c.fill_row.new.row (eight_bits c.loop-y.made.shape c.loop-y.invariant.filled.sizes.legal) ∙ c.fill_row.ensures
+          ∙ ap (λ width. row_from at p width c.loop-y.y) (c.loop-y.invariant.long ∙ narrow_row shape p (eight_bits shape c.requires.legal))) (search rules) (search rules);
     }
 
 pub loop-plane-preserved : goal.loop-plane-preserved

@@ -116,7 +116,7 @@ made-requires t c =
     let long : length c.loop-origin.frames.items ≡ length (asked op infos c.args.n) = ap length all ∙ length-map origins f ∙ ap length same in
     rw (c.deref-in-Ok.ensures.value, c.deref-in-Ok-2.ensures.value) (record {
       legal = (checks_lawful op infos c.in-Ok.info k.sound k.lawful checked).shape;
-      ready = ready op infos c.in-Ok.info c.args.n (length c.loop-origin.frames.items) (filter_is (out-Term c.args.term.now).op c.in_default.not-Source c.in_default-op.not-Blank) k.sound checked long;
+      ready = ready op infos c.in-Ok.info c.args.n (length c.loop-origin.frames.items) (filter_is (out-Term c.args.term.now).op c.in_default.not-Source c.in_default-op.not-Blank) k.sound k.lawful checked long;
     })
 
 pub unreachable-requires : goal.unreachable-requires
