@@ -1,13 +1,13 @@
 -- Parts of pictures.
-use Rattle.std.proofs.Common.{◌≡◌, ℕ, ◌+◌, ◌<◌, ◌≤◌, [], ◌∷◌, true, false, None, refl, arith}
-use Rattle.std.specs.Prelude.{ℤ, ◌+ℤ◌, ◌&&◌, ◌==◌, ◌%◌}
+use Rattle.std.proofs.Common.{◌≡◌, ℕ, ◌+◌, ◌-◌, ◌<◌, ◌≤◌, [], ◌∷◌, true, false, None, refl, arith}
+use Rattle.std.specs.Prelude.{ℤ, pos, ◌+ℤ◌, ◌-ℤ◌, ◌&&◌, ◌==◌, ◌%◌}
 use Rattle.std.proofs.lemmas.Bool.Decides.{nat_tests}
 use Rattle.std.proofs.lemmas.Int.{ints}
 use Rattle.fv_plane.specs.declared.format.Shape.{Shape}
 use Rattle.fv_plane.specs.Format.{IsWindow, sub_w, sub_h}
 use Rattle.fv_plane.specs.Refusals.{Refusals, first_fault}
 use Rattle.clip_term.specs.declared.fault.FilterFault.{FilterFault}
-use Rattle.clip_term.specs.declared.op.SpaceOp.TheVariants.{Crop}
+use Rattle.clip_term.specs.declared.op.SpaceOp.TheVariants.{Crop, CropBottom}
 use Rattle.clip_term.specs.Refusals.{nat_of, below, above, is_whole}
 use Rattle.clip_term.specs.Space.{space_refusals, size_from, is_no_part, cut_refusals}
 use Rattle.clip_term.proofs.PassedLemmas.{Passed, or_false, both, not_false, same_number}
@@ -63,3 +63,14 @@ crop_cuts shape left top width height e =
     let start = or_false (below left 0) (below top 0) told.0 in
     let parts = or_false (is_no_part shape.width left w) (is_no_part shape.height top h) told.1.0 in
     record { from_left = start.0; from_top = start.1; wide = parts.0; high = parts.1; window = cut_window shape left top w h start.0 start.1 told.1 }
+
+rest_of : (whole : ℕ) (n : ℤ) → below n 0 ≡ false → below (pos whole -ℤ n) 1 ≡ false → nat_of (pos whole -ℤ n) ≡ whole - nat_of n
+rest_of whole n e f = grind (arith, ints, nat_tests)
+
+-- what `CropBottom` that is accepted leaves
+pub bottom_cut : (shape : Shape) (n : ℤ) → first_fault (space_refusals (CropBottom n) shape) ≡ None → IsWindow shape (record { x = 0; y = 0; width = shape.width; height = shape.height - nat_of n })
+bottom_cut shape n e =
+    let told = accepted (space_refusals (CropBottom n) shape) e in
+    let parts = or_false (is_no_part shape.width (pos 0) (pos shape.width)) (is_no_part shape.height (pos 0) (pos shape.height -ℤ n)) told.1.0 in
+    let high = or_false (below (pos shape.height -ℤ n) 1) (above (pos 0 +ℤ (pos shape.height -ℤ n)) shape.height) parts.1 in
+    rw (← rest_of shape.height n told.0 high.0) (cut_window shape (pos 0) (pos 0) (pos shape.width) (pos shape.height -ℤ n) refl refl told.1)

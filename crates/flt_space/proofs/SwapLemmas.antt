@@ -22,9 +22,9 @@ swapped_there YV24 p h = among_three p h
 swapped_there YV411 p h = among_three p h
 
 same_among : (shape : Shape) (p : ℕ) → p < 3 → HasSamePlane shape p shape (swapped p)
-same_among shape zero h = record { width = refl; height = refl; largest = refl; bytes = refl }
-same_among shape (suc zero) h = record { width = refl; height = refl; largest = refl; bytes = refl }
-same_among shape (suc (suc zero)) h = record { width = refl; height = refl; largest = refl; bytes = refl }
+same_among shape zero h = record { width = refl; height = refl; bits = refl }
+same_among shape (suc zero) h = record { width = refl; height = refl; bits = refl }
+same_among shape (suc (suc zero)) h = record { width = refl; height = refl; bits = refl }
 same_among shape (suc (suc (suc p))) h = absurd (omega arith)
 
 few : (kind : PixelType) (p : ℕ) → p < planes kind → p < 3

@@ -7,32 +7,33 @@ use Rattle.std.proofs.lemmas.Bool.{cases_lt}
 use Rattle.fv_plane.specs.declared.format.PixelType.{PixelType}
 use Rattle.fv_plane.specs.declared.format.PixelType.TheVariants.{Y8, YV12, YV16, YV24, YV411}
 use Rattle.fv_plane.specs.Format.{plane_width, plane_height}
-use Rattle.fv_plane.specs.Bytes.{row_of_bytes}
+use Rattle.fv_plane.specs.Bytes.{row_of_bytes, rows_of_bytes}
 use Rattle.fv_plane.specs.declared.format.Shape.{Shape}
 use Rattle.fv_plane.specs.Look.{Look, row_from}
 use Rattle.fv_plane.specs.Refusals.{first_fault}
 use Rattle.fv_plane.specs.Rows.{rows_of}
+use Rattle.fv_plane.proofs.BytesLemmas.{decoded-rows_of}
 use Rattle.fv_plane.proofs.FillLemmas.{row_listed}
 use Rattle.clip_term.specs.declared.op.SpaceOp.TheVariants.{TurnLeft}
 use Rattle.clip_term.specs.Space.{space_refusals}
 use Rattle.flt_space.specs.Rows.{HasRows}
 
 -- the planes of a picture that may be turned have the same sides, exchanged
-pub turned_width : (kind : PixelType) (w h p : ℕ) → first_fault (space_refusals TurnLeft (record { kind = kind; width = w; height = h })) ≡ None
-    → plane_width (record { kind = kind; width = h; height = w }) p ≡ plane_height (record { kind = kind; width = w; height = h }) p
-turned_width Y8 w h p told = refl
-turned_width YV12 w h p told = refl
-turned_width YV24 w h p told = refl
-turned_width YV16 w h p told = cc
-turned_width YV411 w h p told = cc
+pub turned_width : (kind : PixelType) (bits w h p : ℕ) → first_fault (space_refusals TurnLeft (record { kind = kind; bits = bits; width = w; height = h })) ≡ None
+    → plane_width (record { kind = kind; bits = bits; width = h; height = w }) p ≡ plane_height (record { kind = kind; bits = bits; width = w; height = h }) p
+turned_width Y8 bits w h p told = refl
+turned_width YV12 bits w h p told = refl
+turned_width YV24 bits w h p told = refl
+turned_width YV16 bits w h p told = cc
+turned_width YV411 bits w h p told = cc
 
-pub turned_height : (kind : PixelType) (w h p : ℕ) → first_fault (space_refusals TurnLeft (record { kind = kind; width = w; height = h })) ≡ None
-    → plane_height (record { kind = kind; width = h; height = w }) p ≡ plane_width (record { kind = kind; width = w; height = h }) p
-turned_height Y8 w h p told = refl
-turned_height YV12 w h p told = refl
-turned_height YV24 w h p told = refl
-turned_height YV16 w h p told = cc
-turned_height YV411 w h p told = cc
+pub turned_height : (kind : PixelType) (bits w h p : ℕ) → first_fault (space_refusals TurnLeft (record { kind = kind; bits = bits; width = w; height = h })) ≡ None
+    → plane_height (record { kind = kind; bits = bits; width = h; height = w }) p ≡ plane_width (record { kind = kind; bits = bits; width = w; height = h }) p
+turned_height Y8 bits w h p told = refl
+turned_height YV12 bits w h p told = refl
+turned_height YV24 bits w h p told = refl
+turned_height YV16 bits w h p told = cc
+turned_height YV411 bits w h p told = cc
 
 -- ---- places of columns in rows that lie side by side
 
@@ -68,13 +69,12 @@ turn_step out want count h x y p v size long ly lx is inside value before here =
 )
 
 -- a row of those that lie side by side
-decoded_at : (shape : Shape) (bytes : List ℕ) (w n k : ℕ) → k < n → get_or (map (row_of_bytes shape) (rows_of bytes w w n)) k [] ≡ take w (drop (k * w) bytes)
-unfolding row_of_bytes
-decoded_at shape bytes w zero k less = absurd (omega arith)
-decoded_at shape bytes w (suc n) zero less = let none : 0 ≡ 0 * w = omega arith in ap (λ m. take w (drop m bytes)) none
-decoded_at shape bytes w (suc n) (suc k) less =
+part_at : (samples : List ℕ) (w n k : ℕ) → k < n → get_or (rows_of samples w w n) k [] ≡ take w (drop (k * w) samples)
+part_at samples w zero k less = absurd (omega arith)
+part_at samples w (suc n) zero less = let none : 0 ≡ 0 * w = omega arith in ap (λ m. take w (drop m samples)) none
+part_at samples w (suc n) (suc k) less =
     let next : w + k * w ≡ suc k * w = omega (arith, suc-mul k w) in
-    decoded_at shape (drop w bytes) w n k (omega (arith, less)) ∙ ap (take w) (drop-drop (k * w) w bytes ∙ ap (λ m. drop m bytes) next)
+    part_at (drop w samples) w n k (omega (arith, less)) ∙ ap (take w) (drop-drop (k * w) w samples ∙ ap (λ m. drop m samples) next)
 
 fits_in : (w n k x : ℕ) → k < n → x < w → k * w + x < n * w
 fits_in w zero k x less within = absurd (omega (arith, less))
@@ -89,12 +89,13 @@ row_length bytes (suc w) n k long less =
     length-take-le (suc w) (drop (k * suc w) bytes) (omega (arith, last, long, length-drop (k * suc w) bytes))
 
 -- the rows that were made are those that are listed
-pub rows_are : (shape : Shape) (at : Look) (p y n w h k : ℕ) (bytes : List ℕ) → w ≡ h → length bytes ≡ n * h → HasRows at p y n h bytes → k < n
-    → get_or (map (row_of_bytes shape) (rows_of bytes w w n)) k [] ≡ row_from at p h (y + k)
-rows_are shape at p y n w h k bytes same long has less =
-    ap (λ v. get_or (map (row_of_bytes shape) (rows_of bytes v v n)) k []) same ∙ decoded_at shape bytes h n k less
-    ∙ row_listed (take h (drop (k * h) bytes)) at p h (y + k) (row_length bytes h n k long less)
-    (λ x within. get_or-take h (drop (k * h) bytes) x 0 within ∙ get_or-drop (k * h) bytes x 0 ∙ has k x less within)
+pub rows_are : (shape : Shape) (at : Look) (p plane y n h k : ℕ) (bytes samples : List ℕ) → plane_width shape plane ≡ h → row_of_bytes shape bytes ≡ samples → length samples ≡ n * h → HasRows at p y n h samples → k < n
+    → get_or (rows_of_bytes shape plane n bytes) k [] ≡ row_from at p h (y + k)
+rows_are shape at p plane y n h k bytes samples same read long has less =
+    ap (λ (l : List (List ℕ)). get_or l k []) (decoded-rows_of shape bytes (plane_width shape plane) n ∙ ap (λ v. rows_of (row_of_bytes shape bytes) v v n) same ∙ ap (λ l. rows_of l h h n) read)
+    ∙ part_at samples h n k less
+    ∙ row_listed (take h (drop (k * h) samples)) at p h (y + k) (row_length samples h n k long less)
+    (λ x within. get_or-take h (drop (k * h) samples) x 0 within ∙ get_or-drop (k * h) samples x 0 ∙ has k x less within)
 
 pub rows_count : (shape : Shape) (w n : ℕ) (bytes : List ℕ) → length (map (row_of_bytes shape) (rows_of bytes w w n)) ≡ n
 rows_count shape w zero bytes = refl

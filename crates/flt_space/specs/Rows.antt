@@ -1,17 +1,14 @@
 -- The rows that makers put.
 use Rattle.std.specs.Prelude.{◌≡◌, ℕ, ◌+◌, ◌*◌, ◌-◌, ◌<◌, List, ◌++◌, length, replicate, take, drop, slice_index}
 use Rattle.fv_plane.specs.Format.{plane_width, plane_height}
-use Rattle.fv_plane.specs.Bytes.{bytes_of_row}
 use Rattle.fv_plane.specs.Look.{Look, look_in, row_from}
 use Rattle.fv_plane.specs.Picture.{Picture, sample_of}
 use Rattle.clip_term.specs.declared.op.SpaceOp.{SpaceOp}
 use Rattle.clip_term.specs.Space.{space_at, space_shape}
 
--- the bytes of a row that a filter makes
-abbrev pub bytes_made : SpaceOp → Picture → ℕ → ℕ → List ℕ
-bytes_made op input p y =
-    let shape = space_shape op input.shape in
-    bytes_of_row shape (row_from (space_at op input.shape (look_in input)) p (plane_width shape p) y)
+-- the samples of a row that a filter makes
+abbrev pub row_made : SpaceOp → Picture → ℕ → ℕ → List ℕ
+row_made op input p y = row_from (space_at op input.shape (look_in input)) p (plane_width (space_shape op input.shape) p) y
 
 -- a row of this width that is another row between samples of one value
 abbrev pub padded : ℕ → ℕ → List ℕ → ℕ → List ℕ

@@ -42,6 +42,7 @@ fn is_within(start: u64, end: u64, at: u64) -> bool
 }
 
 fn paint(colour: i32, shape: Shape, plane: u32) -> u8
+    requires { shape.bits ≡ 8 }
     ensures { result ≡ paint colour shape plane }
 {
     part_of(colour.unsigned_abs(), plane)
@@ -93,9 +94,9 @@ pub fn add_borders(
 {
     let shape = input.shape();
     let bordered = Shape {
-        kind: shape.kind,
         width: shape.width + left.unsigned_abs() + right.unsigned_abs(),
         height: shape.height + top.unsigned_abs() + bottom.unsigned_abs(),
+        ..shape
     };
     let filter = BorderRows {
         left,

@@ -1,12 +1,12 @@
 // Filters that make each row of a picture by itself.
 ghost use Rattle.std.specs.Prelude.{◌≡◌, ◌<◌, IfOk, OnOk, None, false, length};
-ghost use Rattle.fv_plane.specs.Format.{IsLegal, planes, plane_height, row_bytes};
+ghost use Rattle.fv_plane.specs.Format.{IsLegal, planes, plane_width, plane_height};
 ghost use Rattle.fv_plane.specs.Picture.{IsPicture};
 ghost use Rattle.fv_plane.specs.Refusals.{first_fault};
 ghost use Rattle.clip_term.specs.declared.op.SpaceOp.{SpaceOp};
 ghost use Rattle.clip_term.specs.Space.{space_shape, space_picture, space_refusals};
 ghost use Rattle.flt_space.specs.Kept.{keeps_plane};
-ghost use Rattle.flt_space.specs.Rows.{bytes_made};
+ghost use Rattle.flt_space.specs.Rows.{row_made};
 
 use fv_plane::{Frame, FrameBuilder, Shape};
 use std::alloc::{AllocError, Global};
@@ -20,14 +20,15 @@ pub trait RowFilter {
     fn keeps_plane(&self, plane: u32) -> bool
         ensures { result ≡ keeps_plane (op self.now) plane };
 
-    /// Writes the bytes of a row of a plane that isn't kept.
+    /// Writes a row of a plane that isn't kept, where a sample is a byte.
     fn fill_row(&self, input: &Frame, plane: u32, y: u32, out: &mut [u8])
         requires accepted { first_fault (space_refusals (op self.now) input.now.shape) ≡ None }
         requires changed { keeps_plane (op self.now) plane ≡ false }
         requires plane { plane < planes (space_shape (op self.now) input.now.shape).kind }
         requires inside { y < plane_height (space_shape (op self.now) input.now.shape) plane }
-        requires whole { length out.old ≡ row_bytes (space_shape (op self.now) input.now.shape) plane }
-        ensures { out.new ≡ bytes_made (op self.now) input.now plane y };
+        requires narrow { input.now.shape.bits ≡ 8 }
+        requires whole { length out.old ≡ plane_width (space_shape (op self.now) input.now.shape) plane }
+        ensures { out.new ≡ row_made (op self.now) input.now plane y };
 }
 
 // Makes the planes of the picture, in a builder of its shape.

@@ -31,9 +31,9 @@ fn on_side(shape: Shape) -> Shape
     ensures { result ≡ space_shape TurnLeft shape }
 {
     Shape {
-        kind: shape.kind,
         width: shape.height,
         height: shape.width,
+        ..shape
     }
 }
 
@@ -111,6 +111,7 @@ impl Turn for ToRight {
 
 // Reads 16 samples, from a column on, of each of the rows that 16 columns of the turned plane are.
 fn read_block<T: Turn>(input: &Frame, plane: u32, column: u32, x: u32, block: &mut [u8; 256])
+    requires narrow { input.now.shape.bits ≡ 8 }
     requires plane { plane < planes input.now.shape.kind }
     requires across { column + 16 ≤ plane_width input.now.shape plane }
     requires down { x + 16 ≤ plane_height input.now.shape plane }
@@ -136,6 +137,7 @@ fn turn_block<T: Turn>(
     x: u32,
     out: &mut [u8],
 )
+    requires narrow { input.now.shape.bits ≡ 8 }
     requires plane { plane < planes input.now.shape.kind }
     requires across { y + count ≤ plane_width input.now.shape plane }
     requires down { x + 16 ≤ plane_height input.now.shape plane }
@@ -164,6 +166,7 @@ fn turn_block<T: Turn>(
 
 // Makes the columns, from x on, of rows of the turned plane.
 fn turn_columns<T: Turn>(input: &Frame, plane: u32, y: u32, count: u32, x: u32, out: &mut [u8])
+    requires narrow { input.now.shape.bits ≡ 8 }
     requires plane { plane < planes input.now.shape.kind }
     requires inside { y + count ≤ plane_width input.now.shape plane }
     requires few { count ≤ 64 }
@@ -186,6 +189,7 @@ fn turn_columns<T: Turn>(input: &Frame, plane: u32, y: u32, count: u32, x: u32, 
 
 // Makes 16 columns, from x on, of rows of the turned plane.
 fn turn_across<T: Turn>(input: &Frame, plane: u32, y: u32, count: u32, x: u32, out: &mut [u8])
+    requires narrow { input.now.shape.bits ≡ 8 }
     requires plane { plane < planes input.now.shape.kind }
     requires across { y + count ≤ plane_width input.now.shape plane }
     requires down { x + 16 ≤ plane_height input.now.shape plane }
@@ -204,6 +208,7 @@ fn turn_across<T: Turn>(input: &Frame, plane: u32, y: u32, count: u32, x: u32, o
 
 // Makes rows of the turned plane, but for its last columns, and answers at which column these begin.
 fn turn_blocks<T: Turn>(input: &Frame, plane: u32, y: u32, count: u32, out: &mut [u8]) -> u32
+    requires narrow { input.now.shape.bits ≡ 8 }
     requires plane { plane < planes input.now.shape.kind }
     requires inside { y + count ≤ plane_width input.now.shape plane }
     requires blocks { count % 16 ≡ 0 }
@@ -223,6 +228,7 @@ fn turn_blocks<T: Turn>(input: &Frame, plane: u32, y: u32, count: u32, out: &mut
 
 // Makes rows of the turned plane from row `y` on, which lie side by side.
 fn turn_rows<T: Turn>(input: &Frame, plane: u32, y: u32, count: u32, out: &mut [u8])
+    requires narrow { input.now.shape.bits ≡ 8 }
     requires plane { plane < planes input.now.shape.kind }
     requires inside { y + count ≤ plane_width input.now.shape plane }
     requires few { count ≤ 64 }
@@ -256,6 +262,7 @@ fn turned_rows<T: Turn>(
     y: u32,
     count: u32,
 ) -> Result<Vec<u8>, AllocError>
+    requires narrow { input.now.shape.bits ≡ 8 }
     requires plane { plane < planes input.now.shape.kind }
     requires inside { y + count ≤ plane_width input.now.shape plane }
     requires few { count ≤ 64 }

@@ -3,12 +3,13 @@ use Rattle.fv_plane.specs.declared.format.Shape.{Shape}
 use Rattle.fv_plane.specs.Bytes.{row_of_bytes}
 use Rattle.fv_plane.specs.Format.{planes, plane_width, plane_height}
 use Rattle.fv_plane.specs.Look.{look_in}
+use Rattle.fv_plane.proofs.CallerLemmas.{eight_bits, fit_narrow}
 use Rattle.fv_plane.proofs.FillLemmas.{filled_put, filled_plane, filled_done}
 use Rattle.clip_term.specs.Space.{space_at}
 use Rattle.flt_space.specs.Kept.{keeps_plane}
 use Rattle.fv_plane.proofs.WholePlaneLemmas.{rows_listed, filled_whole, row_seen}
 use Rattle.flt_space.proofs.KeptLemmas.{kept_shape, kept_samples}
-use Rattle.flt_space.proofs.RowLemmas.{made_again}
+use Rattle.flt_space.proofs.RowLemmas.{narrow_bytes, narrow_again}
 use Rattle.flt_space.proofs.rows.fill_planes.Goals as goal
 
 pub loop-plane-init : goal.loop-plane-init
@@ -25,7 +26,7 @@ pub put_plane-requires-clause-same : goal.put_plane-requires-clause-same
 put_plane-requires-clause-same g c =
     let keeps : keeps_plane (g.F.RowFilter.op c.args.filter.now) c.loop-plane.plane ≡ true = search rules in
     let same : c.loop-plane.made.shape ≡ c.args.input.now.shape = c.loop-plane.invariant.same ∙ c.requires.shape ∙ kept_shape (g.F.RowFilter.op c.args.filter.now) c.args.input.now.shape c.loop-plane.plane keeps in
-    rw same (record { width = refl; height = refl; largest = refl; bytes = refl })
+    rw same (record { width = refl; height = refl; bits = refl })
 
 pub loop-plane-preserved-then-keeps_plane : goal.loop-plane-preserved-then-keeps_plane
 loop-plane-preserved-then-keeps_plane g c =
@@ -51,8 +52,19 @@ fill_row-requires-clause-inside g c =
     let inside : c.loop-y.y < plane_height c.args.shape c.loop-plane.plane = search rules in
     rw (← c.requires.shape) inside
 
+pub fill_row-requires-clause-narrow : goal.fill_row-requires-clause-narrow
+fill_row-requires-clause-narrow g c = eight_bits c.args.input.now.shape c.shape.ensures.sizes.legal
+
 pub fill_row-requires-clause-whole : goal.fill_row-requires-clause-whole
-fill_row-requires-clause-whole g c = rw (← c.requires.shape) c.loop-y.invariant.0
+fill_row-requires-clause-whole g c =
+    let eight : c.args.shape.bits ≡ 8 = eight_bits c.args.shape (rw c.loop-y.invariant.1.same at c.loop-y.invariant.1.sizes.legal) in
+    rw (← c.requires.shape) (c.loop-y.invariant.0 ∙ narrow_bytes c.args.shape c.loop-plane.plane eight)
+
+pub put_row-requires-clause-whole : goal.put_row-requires-clause-whole
+put_row-requires-clause-whole g c = rw c.loop-y.invariant.1.same (c.fill_row.auto.out ∙ c.loop-y.invariant.0)
+
+pub put_row-requires-clause-fits : goal.put_row-requires-clause-fits
+put_row-requires-clause-fits g c = fit_narrow c.loop-y.made.shape c.fill_row.new.out (eight_bits c.loop-y.made.shape c.loop-y.invariant.1.sizes.legal)
 
 pub put_row-requires-clause-plane : goal.put_row-requires-clause-plane
 put_row-requires-clause-plane g c =
@@ -68,8 +80,8 @@ pub loop-y-preserved : goal.loop-y-preserved
 loop-y-preserved g c =
     let filter = g.F.RowFilter.op c.args.filter.now in
     let at = space_at filter c.args.input.now.shape (look_in c.args.input.now) in
-    let row = made_again filter c.args.input.now c.args.shape c.loop-y.made.shape c.loop-plane.plane c.loop-y.y c.fill_row.new.out c.requires.shape c.loop-y.invariant.1.same
-    c.requires.accepted c.shape.ensures.sizes c.fill_row.ensures in (
+    let eight : c.args.shape.bits ≡ 8 = eight_bits c.args.shape (rw c.loop-y.invariant.1.same at c.loop-y.invariant.1.sizes.legal) in
+    let row = narrow_again filter c.args.input.now c.args.shape c.loop-y.made.shape c.loop-plane.plane c.loop-y.y c.fill_row.new.out c.requires.shape c.loop-y.invariant.1.same eight c.fill_row.ensures in (
       search rules,
       filled_put (rows_listed c.args.shape at) c.args.shape c.loop-y.made c.put_row.new.self c.loop-plane.plane c.loop-y.y (row_of_bytes c.loop-y.made.shape c.fill_row.new.out) c.loop-y.invariant.1
           c.put_row.ensures.sizes c.put_row.ensures.shape c.put_row.ensures.rows row (search rules) (search rules),

@@ -3,10 +3,12 @@ use Rattle.fv_plane.specs.declared.format.Shape.{Shape}
 use Rattle.fv_plane.specs.Bytes.{rows_of_bytes}
 use Rattle.fv_plane.specs.Format.{planes, plane_width, plane_height, row_bytes}
 use Rattle.fv_plane.specs.Look.{look_in, row_from}
+use Rattle.fv_plane.proofs.CallerLemmas.{eight_bits, fit_narrow, narrow_of_bytes}
 use Rattle.fv_plane.proofs.FillLemmas.{filled_plane, filled_done}
 use Rattle.fv_plane.proofs.WholePlaneLemmas.{rows_listed, filled_rows}
 use Rattle.clip_term.specs.declared.op.SpaceOp.TheVariants.{TurnLeft}
 use Rattle.clip_term.specs.Space.{space_at, space_shape}
+use Rattle.flt_space.proofs.RowLemmas.{narrow_bytes}
 use Rattle.flt_space.proofs.TurnLemmas.{turned_width, rows_are, rows_count}
 use Rattle.flt_space.proofs.turn.make_turned.Goals as goal
 
@@ -21,15 +23,16 @@ loop-y-preserved g c =
     let made = c.loop-y.made in
     let is : shape ≡ space_shape TurnLeft input.shape = c.on_side-shape.ensures ∙ ap (space_shape TurnLeft) c.shape.ensures.shape in
     let wide : plane_width shape plane ≡ high
-    = ap (λ (s : Shape). plane_width s plane) is ∙ turned_width input.shape.kind input.shape.width input.shape.height plane c.requires.accepted in
-    let stored : row_bytes made.shape plane ≡ high = omega (arith, wide, ap (λ (s : Shape). plane_width s plane) c.loop-y.invariant.1.same) in
+    = ap (λ (s : Shape). plane_width s plane) is ∙ turned_width input.shape.kind input.shape.bits input.shape.width input.shape.height plane c.requires.accepted in
+    let eight : made.shape.bits ≡ 8 = eight_bits made.shape c.loop-y.invariant.1.sizes.legal in
+    let across : plane_width made.shape plane ≡ high = ap (λ (s : Shape). plane_width s plane) c.loop-y.invariant.1.same ∙ wide in
     let long : length bytes ≡ c.min-count.result * high = ap length c.deref.ensures.value ∙ c.in_ok-rows.ensures.long in (
       search rules,
       filled_rows (rows_listed shape at) shape made c.put_rows.new.self plane c.loop-y.y c.min-count.result (rows_of_bytes made.shape plane c.min-count.result bytes)
           c.loop-y.invariant.1 c.put_rows.ensures.sizes c.put_rows.ensures.shape c.put_rows.ensures.rows
           (rows_count made.shape (row_bytes made.shape plane) c.min-count.result bytes)
           (λ z less.
-          rows_are made.shape at plane c.loop-y.y c.min-count.result (row_bytes made.shape plane) high z bytes stored long
+          rows_are made.shape at plane plane c.loop-y.y c.min-count.result high z bytes bytes across (narrow_of_bytes made.shape bytes eight) long
           (λ k x few within. ap (λ l. get_or l (k * high + x) 0) c.deref.ensures.value ∙ c.in_ok-rows.ensures.rows k x few within) less
           ∙ ap (λ w. row_from at plane w (c.loop-y.y + z)) (sym wide))
           (search rules) (search rules),
@@ -59,9 +62,16 @@ put_rows-requires-clause-whole g c =
     let high = plane_height input.shape plane in
     let is : shape ≡ space_shape TurnLeft input.shape = c.on_side-shape.ensures ∙ ap (space_shape TurnLeft) c.shape.ensures.shape in
     let wide : plane_width shape plane ≡ high
-    = ap (λ (s : Shape). plane_width s plane) is ∙ turned_width input.shape.kind input.shape.width input.shape.height plane c.requires.accepted in
-    let stored : row_bytes c.loop-y.made.shape plane ≡ high = omega (arith, wide, ap (λ (s : Shape). plane_width s plane) c.loop-y.invariant.1.same) in
+    = ap (λ (s : Shape). plane_width s plane) is ∙ turned_width input.shape.kind input.shape.bits input.shape.width input.shape.height plane c.requires.accepted in
+    let stored : row_bytes c.loop-y.made.shape plane ≡ high
+    = narrow_bytes c.loop-y.made.shape plane (eight_bits c.loop-y.made.shape c.loop-y.invariant.1.sizes.legal) ∙ ap (λ (s : Shape). plane_width s plane) c.loop-y.invariant.1.same ∙ wide in
     ap length c.deref.ensures.value ∙ c.in_ok-rows.ensures.long ∙ ap (λ b. c.min-count.result * b) (sym stored)
+
+pub put_rows-requires-clause-fits : goal.put_rows-requires-clause-fits
+put_rows-requires-clause-fits g c = fit_narrow c.loop-y.made.shape c.deref.result.now (eight_bits c.loop-y.made.shape c.loop-y.invariant.1.sizes.legal)
+
+pub turned_rows-requires-clause-narrow : goal.turned_rows-requires-clause-narrow
+turned_rows-requires-clause-narrow g c = eight_bits c.args.input.now.shape c.shape.ensures.sizes.legal
 
 pub loop-plane-preserved : goal.loop-plane-preserved
 loop-plane-preserved g c =

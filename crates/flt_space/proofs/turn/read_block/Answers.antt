@@ -1,14 +1,14 @@
 use Rattle.std.proofs.Common.{rules, ◌≡◌, ◌∙◌, ℕ, ◌+◌, ◌*◌, ◌-◌, ◌<◌, List, length, drop, get_or, ap, arith, refl}
 use Rattle.std.proofs.lemmas.List.{length-take-le, length-drop}
 use Rattle.std.proofs.lemmas.List.Edits.{get_or-between}
-use Rattle.fv_plane.specs.Bytes.{bytes_of_row}
 use Rattle.fv_plane.specs.Format.{plane_height}
-use Rattle.fv_plane.specs.Picture.{sample_of}
+use Rattle.fv_plane.specs.Picture.{row_of, sample_of}
+use Rattle.fv_plane.proofs.CallerLemmas.{bytes_of_narrow}
 use Rattle.flt_space.proofs.BlockLemmas.{block_more, length_part, length_written}
+use Rattle.flt_space.proofs.RowLemmas.{narrow_bytes}
 use Rattle.flt_space.proofs.turn.read_block.Goals as goal
 
 pub loop-i-preserved : goal.loop-i-preserved
-unfolding bytes_of_row
 loop-i-preserved g c =
     let input = c.args.input.now in
     let p = c.args.plane in
@@ -22,7 +22,7 @@ loop-i-preserved g c =
     = c.copy_from_slice.ensures.len ∙ length_part (16 * c.loop-i.i) (16 * c.loop-i.i + 16 - 16 * c.loop-i.i) c.loop-i.block (omega (arith, c.loop-i.invariant.0)) in
     let seen : (n : ℕ) → n < 16 → get_or part n 0 ≡ want n c.loop-i.i = λ n less.
     ap (λ l. get_or l n 0) c.copy_from_slice.ensures.after ∙ get_or-between row c.args.column (c.args.column + 16) n 0 (omega arith)
-    ∙ ap (λ l. get_or l (c.args.column + n) 0) c.row-row.ensures.row ∙ ap (λ z. sample_of input.planes p (c.args.column + n) z) line in (
+    ∙ ap (λ l. get_or l (c.args.column + n) 0) (c.row-row.ensures.row ∙ bytes_of_narrow input.shape (row_of input.planes p c.row.result) c.requires.narrow) ∙ ap (λ z. sample_of input.planes p (c.args.column + n) z) line in (
       length_written (16 * c.loop-i.i) (16 * c.loop-i.i + 16 - 16 * c.loop-i.i) c.loop-i.block part long (omega (arith, c.loop-i.invariant.0)) ∙ c.loop-i.invariant.0,
       block_more c.loop-i.block part want c.loop-i.i (16 * c.loop-i.i) (16 * c.loop-i.i + 16 - 16 * c.loop-i.i) c.loop-i.invariant.0 (omega arith) refl sixteen long seen c.loop-i.invariant.1,
     )
@@ -38,7 +38,7 @@ row-requires g c =
     omega (arith, high, c.requires.down, c.loop-i-test.true)
 
 pub slice_bounds-copy_from_slice-end-in-loop-i : goal.slice_bounds-copy_from_slice-end-in-loop-i
-slice_bounds-copy_from_slice-end-in-loop-i g c = omega (arith, c.row-row.ensures.whole, c.requires.across)
+slice_bounds-copy_from_slice-end-in-loop-i g c = omega (arith, c.row-row.ensures.whole, narrow_bytes c.args.input.now.shape c.args.plane c.requires.narrow, c.requires.across)
 
 pub returns : goal.returns
 returns g c = λ k i less few. c.loop-i.invariant.1 k i less (omega (arith, few, c.loop-i-test.false))
@@ -50,5 +50,5 @@ pub copy_from_slice-requires : goal.copy_from_slice-requires
 copy_from_slice-requires g c =
     let row : List ℕ = c.row-row.result.now in
     let part = length_part (16 * c.loop-i.i) (16 * c.loop-i.i + 16 - 16 * c.loop-i.i) c.loop-i.block (omega (arith, c.loop-i.invariant.0)) in
-    let taken = length-take-le (c.args.column + 16 - c.args.column) (drop c.args.column row) (omega (arith, length-drop c.args.column row, c.row-row.ensures.whole, c.requires.across)) in
+    let taken = length-take-le (c.args.column + 16 - c.args.column) (drop c.args.column row) (omega (arith, length-drop c.args.column row, c.row-row.ensures.whole, narrow_bytes c.args.input.now.shape c.args.plane c.requires.narrow, c.requires.across)) in
     omega (arith, part, taken)

@@ -1,13 +1,13 @@
 use Rattle.std.proofs.Common.{rules, ◌≡◌, ◌∙◌, ◌+◌, ◌*◌, ◌<◌, ◌≤◌, ap, arith, refl, sym, get_or, ⊎_elim}
 use Rattle.std.proofs.lemmas.Bool.{cases_lt}
-use Rattle.fv_plane.specs.Bytes.{bytes_of_row}
 use Rattle.fv_plane.specs.Format.{plane_width, plane_height}
+use Rattle.fv_plane.specs.Picture.{row_of}
+use Rattle.fv_plane.proofs.CallerLemmas.{bytes_of_narrow}
 use Rattle.flt_space.specs.Rows.{turned_at}
 use Rattle.flt_space.proofs.TurnLemmas.{turn_step}
 use Rattle.flt_space.proofs.turn.turn_columns.Goals as goal
 
 pub loop-k-preserved : goal.loop-k-preserved
-unfolding bytes_of_row
 loop-k-preserved g c =
     let input = c.args.input.now in
     let p = c.args.plane in
@@ -15,10 +15,11 @@ loop-k-preserved g c =
     let wide : c.plane_width-width.result ≡ plane_width input.shape p = search rules in
     let line : c.row.result ≡ g.T.Turn.row_of (plane_height input.shape p) c.loop-x.x = c.row.ensures.value ∙ ap (λ h. g.T.Turn.row_of h c.loop-x.x) high in
     let column : c.column.result ≡ g.T.Turn.column_of (plane_width input.shape p) (c.args.y + c.loop-k.k) = c.column.ensures.value ∙ ap (λ w. g.T.Turn.column_of w (c.args.y + c.loop-k.k)) wide in
+    let read = c.row-row.ensures.row ∙ bytes_of_narrow input.shape (row_of input.planes p c.row.result) c.requires.narrow in
     turn_step c.loop-k.out (λ k x. turned_at g.T.Turn.row_of g.T.Turn.column_of input p x (c.args.y + k))
     c.args.count (plane_height input.shape p) c.loop-x.x c.loop-k.k c.place-at.result _ _ c.loop-k.invariant.0
     (search rules) (search rules) (search rules) (search rules)
-    (rw (c.row-row.ensures.row, line, column) refl)
+    (rw (read, line, column) refl)
     c.loop-k.invariant.1 c.loop-k.invariant.2
 
 pub loop-x-preserved : goal.loop-x-preserved

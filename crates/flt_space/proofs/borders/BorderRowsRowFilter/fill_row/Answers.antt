@@ -1,15 +1,14 @@
-use Rattle.std.proofs.Common.{rules, ◌≡◌, ◌+◌, ◌-◌, ◌∙◌, true, false, sym, length, replicate, arith, refl}
+use Rattle.std.proofs.Common.{rules, ◌≡◌, ◌+◌, ◌-◌, ◌∙◌, true, false, sym, length, replicate, arith}
 use Rattle.std.proofs.lemmas.List.{get_or-replicate}
-use Rattle.fv_plane.specs.Bytes.{bytes_of_row}
 use Rattle.fv_plane.specs.Format.{plane_width, plane_height}
-use Rattle.fv_plane.specs.Look.{look_in, across, down}
+use Rattle.fv_plane.specs.Look.{across, down}
 use Rattle.fv_plane.specs.Picture.{row_of}
-use Rattle.fv_plane.proofs.FillLemmas.{row_listed}
+use Rattle.fv_plane.proofs.CallerLemmas.{bytes_of_narrow}
 use Rattle.clip_term.specs.declared.op.SpaceOp.TheVariants.{AddBorders}
 use Rattle.clip_term.specs.Refusals.{nat_of, paint}
-use Rattle.clip_term.specs.Space.{space_at, is_within}
+use Rattle.clip_term.specs.Space.{is_within}
 use Rattle.flt_space.proofs.BorderLemmas.{fits_between, inside_of, bordered_row, out_of_row}
-use Rattle.flt_space.proofs.RowLemmas.{narrow_made}
+use Rattle.flt_space.proofs.RowLemmas.{narrow_bytes, made_row}
 use Rattle.flt_space.proofs.borders.BorderRowsRowFilter.fill_row.Goals as goal
 
 pub row-requires-clause-inside : goal.row-requires-clause-inside
@@ -25,11 +24,10 @@ pad_row-requires c =
     let shape = c.args.input.now.shape in
     let borders = c.args.self.now in
     let left : c.across-left.result ≡ across shape c.args.plane (nat_of borders.left) = search rules in
-    let long : length c.row.result.now ≡ plane_width shape c.args.plane = search rules in
+    let long : length c.row.result.now ≡ plane_width shape c.args.plane = c.row.ensures.whole ∙ narrow_bytes shape c.args.plane c.requires.narrow in
     omega (arith, left, long, c.requires.whole, fits_between shape c.args.plane (nat_of borders.left) (nat_of borders.right) (shape.height + nat_of borders.top + nat_of borders.bottom))
 
 pub returns-then-is_within : goal.returns-then-is_within
-unfolding bytes_of_row
 returns-then-is_within c =
     let input = c.args.input.now in
     let borders = c.args.self.now in
@@ -38,14 +36,13 @@ returns-then-is_within c =
     let top : c.down-top.result ≡ down input.shape p (nat_of borders.top) = search rules in
     let value : c.paint-colour.result ≡ paint borders.color_yuv input.shape p = search rules in
     let high : c.plane_height.result ≡ plane_height input.shape p = search rules in
-    let row : c.row.result.now ≡ row_of input.planes p (c.args.y - down input.shape p (nat_of borders.top)) = rw top at c.row.ensures.row in
-    let long : length c.row.result.now ≡ plane_width input.shape p = search rules in
     let told : is_within c.down-top.result (c.down-top.result + c.plane_height.result) c.args.y ≡ true = sym c.is_within.ensures ∙ c.if-is_within.true in
-    let put = rw (left, value, row) at c.pad_row.ensures in
-    put ∙ bordered_row input borders.left borders.top borders.right borders.bottom borders.color_yuv p c.args.y (length c.args.out.now) (rw row at long)
-    (omega (arith, c.requires.whole, fits_between input.shape p (nat_of borders.left) (nat_of borders.right) (input.shape.height + nat_of borders.top + nat_of borders.bottom)))
+    let read = rw top at (c.row.ensures.row ∙ bytes_of_narrow input.shape (row_of input.planes p (c.args.y - c.down-top.result)) c.requires.narrow) in
+    let long : length c.row.result.now ≡ plane_width input.shape p = c.row.ensures.whole ∙ narrow_bytes input.shape p c.requires.narrow in
+    let put = rw (left, value, read, c.requires.whole) at c.pad_row.ensures in
+    put ∙ bordered_row input borders.left borders.top borders.right borders.bottom borders.color_yuv p c.args.y _ (rw read at long)
+    (fits_between input.shape p (nat_of borders.left) (nat_of borders.right) (input.shape.height + nat_of borders.top + nat_of borders.bottom))
     (rw (top, high) at told)
-    ∙ narrow_made (AddBorders borders.left borders.top borders.right borders.bottom borders.color_yuv) input p c.args.y (length c.args.out.now) refl c.requires.whole
 
 pub returns-else-is_within : goal.returns-else-is_within
 returns-else-is_within c =
@@ -57,7 +54,6 @@ returns-else-is_within c =
     let high : c.plane_height.result ≡ plane_height input.shape p = search rules in
     let told : is_within c.down-top.result (c.down-top.result + c.plane_height.result) c.args.y ≡ false = sym c.is_within.ensures ∙ c.if-is_within.false in
     let plain : c.fill.new.self ≡ replicate (length c.args.out.now) c.paint-colour.result = search rules in
-    row_listed c.fill.new.self (space_at (AddBorders borders.left borders.top borders.right borders.bottom borders.color_yuv) input.shape (look_in input)) p (length c.args.out.now) c.args.y (search rules)
-    (λ x within. rw plain (get_or-replicate (length c.args.out.now) x c.paint-colour.result 0 within) ∙ value
+    made_row (AddBorders borders.left borders.top borders.right borders.bottom borders.color_yuv) input p c.args.y c.fill.new.self (search rules)
+    (λ x within. rw plain (get_or-replicate (length c.args.out.now) x c.paint-colour.result 0 (search rules)) ∙ value
     ∙ out_of_row (is_within (across input.shape p (nat_of borders.left)) (across input.shape p (nat_of borders.left) + plane_width input.shape p) x) _ _ (paint borders.color_yuv input.shape p) (rw (top, high) at told))
-    ∙ narrow_made (AddBorders borders.left borders.top borders.right borders.bottom borders.color_yuv) input p c.args.y (length c.args.out.now) refl c.requires.whole
