@@ -1,12 +1,14 @@
 -- Pictures of one shape, and planes that stay.
-use Rattle.std.proofs.Common.{◌≡◌, ℕ, ◌+◌, ◌*◌, ◌/◌, ◌<◌, ◌≤◌, ◌∙◌, List, [], ◌∷◌, length, map, get_or, refl, sym, ap, arith, Bool, true, false, inl, inr, eqb-true, eq-eqb}
-use Rattle.std.specs.Prelude.{ℤ, ◌⊎◌, ◌||◌, if◌then◌else◌, ◌==◌, ◌&&◌, nat_le}
+use Rattle.std.proofs.Common.{◌≡◌, ℕ, ◌+◌, ◌*◌, ◌/◌, ◌%◌, ◌<◌, ◌≤◌, ◌∙◌, List, [], ◌∷◌, length, map, get_or, refl, sym, ap, arith, Bool, true, false, inl, inr, eqb-true, eq-eqb}
+use Rattle.std.specs.Prelude.{ℤ, pos, ◌+ℤ◌, ◌*ℤ◌, int_div, ◌⊎◌, ◌||◌, if◌then◌else◌, ◌==◌, ◌&&◌, nat_le}
 use Rattle.std.proofs.lemmas.List.{get_or_read}
+use Rattle.fv_plane.specs.declared.format.PixelType.{PixelType}
+use Rattle.fv_plane.specs.declared.format.PixelType.TheVariants.{Y8, YV12, YV16, YV24, YV411}
 use Rattle.fv_plane.specs.declared.format.Shape.{Shape}
 use Rattle.fv_plane.specs.Bytes.{row_of_bytes}
-use Rattle.fv_plane.specs.Format.{plane_width, row_bytes, sample_bytes, sub_w}
+use Rattle.fv_plane.specs.Format.{IsLegal, largest_sample, plane_width, row_bytes, scale, sub_w}
 use Rattle.fv_plane.specs.Picture.{Picture, IsPicture}
-use Rattle.fv_plane.specs.Look.{look_in, look_at, row_from}
+use Rattle.fv_plane.specs.Look.{Look, look_in, look_at, row_from}
 use Rattle.fv_plane.proofs.BytesLemmas.{row-bytes_of_row}
 use Rattle.fv_plane.proofs.CallerLemmas.{bytes_of_narrow}
 use Rattle.fv_plane.proofs.FillLemmas.{Filled, row_listed}
@@ -15,10 +17,11 @@ use Rattle.clip_term.specs.declared.op.Matrix.{Matrix}
 use Rattle.clip_term.specs.declared.op.SoftOp.{SoftOp}
 use Rattle.clip_term.specs.declared.op.SoftOp.TheVariants as op
 use Rattle.clip_term.specs.Refusals.{nat_of}
-use Rattle.clip_term.specs.Soft.{near, softened, samples_at, soft_at, convolved}
+use Rattle.clip_term.specs.Soft.{near, softened, samples_at, soft_at, convolved, side_of, weighed, divisor_of, sample_from}
 use Rattle.clip_term.specs.Terms.{no_picture}
 use Rattle.flt_soft.specs.Pictures.{CanSoften, HaveShape, asked_count, bytes_made, keeps_plane, shape_of}
 use Rattle.flt_soft.proofs.SoftenLemmas.{look_seen}
+use Rattle.flt_soft.proofs.WeightLemmas.{times_one}
 
 -- a filter asks a frame
 pub some_asked : (filter : SoftOp) → 0 < asked_count filter
@@ -44,16 +47,43 @@ at_most false n m less = less
 pub width_at_most : (shape : Shape) (p : ℕ) → plane_width shape p ≤ shape.width
 width_at_most shape p = at_most (p == 0) shape.width (shape.width / sub_w shape.kind) (omega arith)
 
+some_across : (kind : PixelType) (n : ℕ) → 0 < n → n % sub_w kind ≡ 0 → 0 < n / sub_w kind
+some_across Y8 n some whole = omega arith
+some_across YV12 n some whole = omega arith
+some_across YV16 n some whole = omega arith
+some_across YV24 n some whole = omega arith
+some_across YV411 n some whole = omega arith
+
+some_either : (test : Bool) (n m : ℕ) → 0 < n → 0 < m → 0 < (if test then n else m)
+some_either true n m first second = first
+some_either false n m first second = second
+
+-- a plane of a legal frame has a column
+pub some_columns : (shape : Shape) (p : ℕ) → IsLegal shape → 0 < plane_width shape p
+some_columns shape p legal = some_either (p == 0) shape.width (shape.width / sub_w shape.kind) legal.some_width (some_across shape.kind shape.width legal.some_width legal.whole_width)
+
+-- and at most as many as a side may have
+pub few_columns : (shape : Shape) (p : ℕ) → IsLegal shape → plane_width shape p ≤ 65535
+few_columns shape p legal = omega (arith, width_at_most shape p, legal.most_width)
+
 -- nothing is written yet in a picture of this shape
 pub none_filled : (want : ℕ → ℕ → List ℕ) (shape : Shape) (made : Picture) → IsPicture made → made.shape ≡ shape → Filled want shape made 0 0
 none_filled want shape made sizes same = record { same = same; sizes = sizes; below = λ p z before there. absurd (omega arith); here = λ z before. absurd (omega arith) }
 
+-- a row of samples of eight bits has as many bytes
+pub narrow_width : (shape : Shape) (p bytes : ℕ) → shape.bits ≡ 8 → bytes ≡ row_bytes shape p → bytes ≡ plane_width shape p
+narrow_width shape p bytes narrow long = (let same = rw narrow at long in omega arith)
+
+-- and no sample is over 255
+pub narrow_few : (picture : Picture) → IsPicture picture → picture.shape.bits ≡ 8 → (p x y : ℕ) → look_in picture p x y ≤ 255
+narrow_few picture is narrow p x y = rw narrow at (is.bounded p x y)
+
 -- where a sample is one byte, the bytes are the samples
-pub narrow_made : (filter : SoftOp) (pictures : List Picture) (p y bytes : ℕ) → sample_bytes (shape_of pictures) ≡ 1 → bytes ≡ row_bytes (shape_of pictures) p
+pub narrow_made : (filter : SoftOp) (pictures : List Picture) (p y bytes : ℕ) → (shape_of pictures).bits ≡ 8 → bytes ≡ row_bytes (shape_of pictures) p
     → row_from (soft_at filter (shape_of pictures) (map look_in pictures)) p bytes y ≡ bytes_made filter pictures p y
 narrow_made filter pictures p y bytes narrow long =
     let at = soft_at filter (shape_of pictures) (map look_in pictures) in
-    let width : bytes ≡ plane_width (shape_of pictures) p = omega (arith, long) in
+    let width = narrow_width (shape_of pictures) p bytes narrow long in
     ap (λ n. row_from at p n y) width ∙ sym (bytes_of_narrow (shape_of pictures) (row_from at p (plane_width (shape_of pictures) p) y) narrow)
 
 -- the samples of the bytes are the row
@@ -89,12 +119,12 @@ one_stays radius threshold (a ∷ []) p x y e h =
     ap (λ r. softened r threshold (look_at (look_in a ∷ []) r p x y) (look_in a p x y ∷ [])) e ∙ mean_of_one threshold (look_in a p x y)
 one_stays radius threshold (a ∷ b ∷ more) p x y e h = absurd (omega arith)
 
-middle_stays : (radius threshold : ℕ) (pictures : List Picture) (p x y : ℕ) → threshold ≡ 0 → length pictures ≡ 2 * radius + 1
-    → softened radius (threshold * 1) (look_at (map look_in pictures) radius p x y) (samples_at (map look_in pictures) p x y) ≡ look_in (get_or pictures (length pictures / 2) no_picture) p x y
-middle_stays radius threshold pictures p x y e h =
-    let none : threshold * 1 ≡ 0 = omega arith in
+middle_stays : (radius threshold s : ℕ) (pictures : List Picture) (p x y : ℕ) → threshold ≡ 0 → length pictures ≡ 2 * radius + 1
+    → softened radius (threshold * s) (look_at (map look_in pictures) radius p x y) (samples_at (map look_in pictures) p x y) ≡ look_in (get_or pictures (length pictures / 2) no_picture) p x y
+middle_stays radius threshold s pictures p x y e h =
+    let none : threshold * s ≡ 0 = rw e (omega arith) in
     let half : radius ≡ length pictures / 2 = omega arith in
-    first_of (threshold * 1 == 0) (look_at (map look_in pictures) radius p x y) _ (eq-eqb (threshold * 1) 0 none)
+    first_of (threshold * s == 0) (look_at (map look_in pictures) radius p x y) _ (eq-eqb (threshold * s) 0 none)
     ∙ look_seen pictures radius p x y (omega arith) ∙ ap (λ i. look_in (get_or pictures i no_picture) p x y) half
 
 -- a plane that is kept shows the samples of the middle picture
@@ -103,12 +133,22 @@ pub kept_samples : (filter : SoftOp) (shape : Shape) (pictures : List Picture) (
 kept_samples (op.TemporalSoften radius luma chroma) shape pictures p can keeps x y =
     let threshold : ℕ = nat_of (if p == 0 then luma else chroma) in
     elim (either (nat_of radius == 0) (threshold == 0) keeps) [
-      | inl none ↦ one_stays (nat_of radius) (threshold * 1) pictures p x y (eqb-true (nat_of radius) 0 none) can.asked
-      | inr none ↦ middle_stays (nat_of radius) threshold pictures p x y (eqb-true threshold 0 none) can.asked
+      | inl none ↦ one_stays (nat_of radius) (threshold * scale shape) pictures p x y (eqb-true (nat_of radius) 0 none) can.asked
+      | inr none ↦ middle_stays (nat_of radius) threshold (scale shape) pictures p x y (eqb-true threshold 0 none) can.asked
     ]
 kept_samples (op.GeneralConvolution bias matrix) shape pictures p can keeps x y = cc
 
 -- SUMS
+
+-- for samples of eight bits the bias counts as it is, and the largest sample is 255
+pub narrow_convolved : (bias : ℤ) (weights : List ℤ) (shape : Shape) (from : Look) (p x y : ℕ) → shape.bits ≡ 8
+    → sample_from 255 (int_div (weighed (side_of weights) 0 weights shape from p x y) (divisor_of weights) +ℤ bias) ≡ convolved bias weights shape from p x y
+narrow_convolved bias weights shape from p x y narrow =
+    let sum : ℤ = weighed (side_of weights) 0 weights shape from p x y in
+    let most : 255 ≡ largest_sample shape = rw narrow refl in
+    let one : 1 ≡ scale shape = rw narrow refl in
+    ap (λ b. sample_from 255 (int_div sum (divisor_of weights) +ℤ b)) (sym (times_one bias) ∙ ap (λ s. bias *ℤ pos s) one)
+    ∙ ap (λ m. sample_from m (int_div sum (divisor_of weights) +ℤ bias *ℤ pos (scale shape))) most
 
 -- a row whose samples are those of the sums around them is listed
 pub convolved_listed : (bias : ℤ) (matrix : Matrix) (pictures : List Picture) (one : Picture) (p y width : ℕ) (out : List ℕ) → length pictures ≡ 1 → one ≡ get_or pictures 0 one → length out ≡ width

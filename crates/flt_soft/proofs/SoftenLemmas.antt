@@ -6,6 +6,7 @@ use Rattle.std.proofs.lemmas.List.{get_or-map, length-map}
 use Rattle.std.proofs.lemmas.Bool.Decides.{nat_tests}
 use Rattle.std.proofs.lemmas.List.Sums.{sum_by_more}
 use Rattle.fv_plane.specs.declared.format.Shape.{Shape}
+use Rattle.fv_plane.specs.Format.{scale}
 use Rattle.fv_plane.specs.Picture.{Picture}
 use Rattle.fv_plane.specs.Look.{Look, look_in, look_at, nothing, row_from}
 use Rattle.fv_plane.proofs.FillLemmas.{row_listed}
@@ -54,18 +55,22 @@ mean_is radius threshold middle count total samples some odd is =
     ap (λ n. (n + count / 2) / count) is ∙ ap (λ n. (S + n) / count) half ∙ ap (λ n. (S + radius) / n) odd
     ∙ sym (second_of (threshold == 0) middle ((S + radius) / (2 * radius + 1)) (not_zero threshold some))
 
-threshold_is : (luma_only : Bool) (luma chroma : ℕ) → nat_of (if luma_only then pos luma else pos chroma) * 1 ≡ (if luma_only then luma else chroma)
-threshold_is true luma chroma = omega arith
-threshold_is false luma chroma = omega arith
+threshold_is : (luma_only : Bool) (luma chroma s : ℕ) → nat_of (if luma_only then pos luma else pos chroma) * s ≡ (if luma_only then luma else chroma) * s
+threshold_is true luma chroma s = refl
+threshold_is false luma chroma s = refl
+
+-- for samples of eight bits a threshold counts as it is
+pub narrow_threshold : (shape : Shape) (threshold n : ℕ) → shape.bits ≡ 8 → threshold ≡ n → threshold ≡ n * scale shape
+narrow_threshold shape threshold n narrow is = rw narrow (omega arith)
 
 -- the definition at these numbers
-soft_is : (radius luma chroma threshold : ℕ) (shape : Shape) (looks : List Look) (p x y : ℕ) → threshold ≡ (if p == 0 then luma else chroma)
+soft_is : (radius luma chroma threshold : ℕ) (shape : Shape) (looks : List Look) (p x y : ℕ) → threshold ≡ (if p == 0 then luma else chroma) * scale shape
     → soft_at (TemporalSoften (pos radius) (pos luma) (pos chroma)) shape looks p x y ≡ softened radius threshold (look_at looks radius p x y) (samples_at looks p x y)
 soft_is radius luma chroma threshold shape looks p x y is =
-    ap (λ t. softened radius t (look_at looks radius p x y) (samples_at looks p x y)) (threshold_is (p == 0) luma chroma ∙ sym is)
+    ap (λ t. softened radius t (look_at looks radius p x y) (samples_at looks p x y)) (threshold_is (p == 0) luma chroma (scale shape) ∙ sym is)
 
 -- a row whose samples are these means is listed
-pub softened_listed : (radius luma chroma threshold : ℕ) (pictures : List Picture) (p y width : ℕ) (out : List ℕ) → threshold ≡ (if p == 0 then luma else chroma) → length out ≡ width
+pub softened_listed : (radius luma chroma threshold : ℕ) (pictures : List Picture) (p y width : ℕ) (out : List ℕ) → threshold ≡ (if p == 0 then luma else chroma) * scale (shape_of pictures) → length out ≡ width
     → ((x : ℕ) → x < length out → get_or out x 0 ≡ softened radius threshold (look_at (map look_in pictures) radius p x y) (samples_at (map look_in pictures) p x y))
     → out ≡ row_from (soft_at (TemporalSoften (pos radius) (pos luma) (pos chroma)) (shape_of pictures) (map look_in pictures)) p width y
 softened_listed radius luma chroma threshold pictures p y width out is long each =

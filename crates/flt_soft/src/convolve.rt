@@ -11,7 +11,7 @@ ghost use Rattle.flt_soft.specs.Squares.{size_of_all, entries_of, IsEnding};
 use crate::kernels::{add_five, add_three, pad_row, show_row};
 use crate::narrow::{self, Ending, Square, Weights, narrow_reciprocal_of};
 use crate::reciprocal::reciprocal_of;
-use crate::rows::{RowFilter, make_by_rows};
+use crate::rows::{RowFilter, make_by_rows, narrow_row};
 use crate::scratch::Scratch;
 use clip_term::Matrix;
 use fv_plane::Frame;
@@ -39,6 +39,7 @@ fn weight(weights: &[i32], k: usize) -> i16
 
 // The sums of the nine samples around each place of a row.
 fn sum_nine(input: &Frame, plane: u32, y: u32, weights: &[i32], padded: &mut [u8], sums: &mut [i32])
+    requires narrow { input.now.shape.bits ≡ 8 }
     requires plane { plane < planes input.now.shape.kind }
     requires inside { y < plane_height input.now.shape plane }
     requires nine { length weights.now ≡ 9 }
@@ -52,7 +53,8 @@ fn sum_nine(input: &Frame, plane: u32, y: u32, weights: &[i32], padded: &mut [u8
     let height = input.shape().plane_height(plane);
     sums.fill(0);
     for i in 0..3 {
-        pad_row(input.row(plane, place(y, i, 1, height)), 1, padded);
+        let row = narrow_row(input, plane, place(y, i, 1, height));
+        pad_row(row, 1, padded);
         let k = 3 * i as usize;
         add_three(
             padded,
@@ -73,6 +75,7 @@ fn sum_of_25(
     padded: &mut [u8],
     sums: &mut [i32],
 )
+    requires narrow { input.now.shape.bits ≡ 8 }
     requires plane { plane < planes input.now.shape.kind }
     requires inside { y < plane_height input.now.shape plane }
     requires all { length weights.now ≡ 25 }
@@ -86,7 +89,8 @@ fn sum_of_25(
     let height = input.shape().plane_height(plane);
     sums.fill(0);
     for i in 0..5 {
-        pad_row(input.row(plane, place(y, i, 2, height)), 2, padded);
+        let row = narrow_row(input, plane, place(y, i, 2, height));
+        pad_row(row, 2, padded);
         let k = 5 * i as usize;
         add_five(
             padded,
@@ -136,6 +140,7 @@ fn sum_around(
     padded: &mut [u8],
     sums: &mut [i32],
 )
+    requires narrow { input.now.shape.bits ≡ 8 }
     requires plane { plane < planes input.now.shape.kind }
     requires inside { y < plane_height input.now.shape plane }
     requires square { (length weights.now ≡ 9) ⊎ (length weights.now ≡ 25) }
@@ -165,6 +170,7 @@ fn convolve_wide(
     sums: &mut [i32],
     out: &mut [u8],
 )
+    requires narrow { input.now.shape.bits ≡ 8 }
     requires plane { plane < planes input.now.shape.kind }
     requires inside { y < plane_height input.now.shape plane }
     requires square { (length weights.now ≡ 9) ⊎ (length weights.now ≡ 25) }
@@ -246,6 +252,7 @@ fn ending_of(divisor: i32, bias: i32) -> Ending
 
 // A row of the picture that is made, by sums of 16 bits.
 fn convolve_narrow(input: &Frame, plane: u32, y: u32, bias: i32, weights: &[i32], out: &mut [u8])
+    requires narrow { input.now.shape.bits ≡ 8 }
     requires plane { plane < planes input.now.shape.kind }
     requires inside { y < plane_height input.now.shape plane }
     requires nine { length weights.now ≡ 9 }
@@ -257,9 +264,9 @@ fn convolve_narrow(input: &Frame, plane: u32, y: u32, bias: i32, weights: &[i32]
         ≡ convolved bias weights.now input.now.shape (look_in input.now) plane x y) }
 {
     let height = input.shape().plane_height(plane);
-    let above = input.row(plane, place(y, 0, 1, height));
-    let row = input.row(plane, y);
-    let below = input.row(plane, place(y, 2, 1, height));
+    let above = narrow_row(input, plane, place(y, 0, 1, height));
+    let row = narrow_row(input, plane, y);
+    let below = narrow_row(input, plane, place(y, 2, 1, height));
     let ending = ending_of(divisor_of(weights), bias);
     narrow::convolve_row(square_of(weights), ending, above, row, below, out);
 }
@@ -275,6 +282,7 @@ fn convolve_row(
     sums: &mut [i32],
     out: &mut [u8],
 )
+    requires narrow { input.now.shape.bits ≡ 8 }
     requires plane { plane < planes input.now.shape.kind }
     requires inside { y < plane_height input.now.shape plane }
     requires square { (length weights.now ≡ 9) ⊎ (length weights.now ≡ 25) }
@@ -304,6 +312,7 @@ fn convolve_in(
     sums: &mut Vec<i32>,
     out: &mut [u8],
 )
+    requires narrow { input.now.shape.bits ≡ 8 }
     requires plane { plane < planes input.now.shape.kind }
     requires inside { y < plane_height input.now.shape plane }
     requires square { (length weights.now ≡ 9) ⊎ (length weights.now ≡ 25) }

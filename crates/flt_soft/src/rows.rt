@@ -1,7 +1,7 @@
 // Filters that make each row of a picture by itself.
 ghost use Rattle.std.specs.Prelude.{◌≡◌, ◌<◌, ◌≤◌, max, IfOk, OnOk, OnErr, false, length};
 ghost use Rattle.fv_plane.specs.Format.{planes, plane_width, plane_height, row_bytes};
-ghost use Rattle.fv_plane.specs.Picture.{IsPicture};
+ghost use Rattle.fv_plane.specs.Picture.{IsPicture, row_of};
 ghost use Rattle.clip_term.specs.declared.op.SoftOp.{SoftOp};
 ghost use Rattle.flt_soft.specs.Pictures.{CanSoften, HaveShape, bytes_made, keeps_plane, row_in, shape_of, soft_picture};
 
@@ -9,17 +9,29 @@ use crate::scratch::Scratch;
 use fv_plane::{Frame, FrameBuilder};
 use std::alloc::{AllocError, Global};
 
-/// A row of one of the inputs.
+/// A row of samples of eight bits.
+pub fn narrow_row(input: &Frame, plane: u32, y: u32) -> &[u8]
+    requires narrow { input.now.shape.bits ≡ 8 }
+    requires plane { plane < planes input.now.shape.kind }
+    requires inside { y < plane_height input.now.shape plane }
+    ensures row { result.now ≡ row_of input.now.planes plane y }
+    ensures whole { length result.now ≡ plane_width input.now.shape plane }
+{
+    input.row(plane, y)
+}
+
+/// A row of one of the inputs, of samples of eight bits.
 pub fn row_in(inputs: &[Frame], i: usize, plane: u32, y: u32) -> &[u8]
     requires input { i < length inputs.now }
     requires alike { HaveShape (shape_of inputs.now) inputs.now }
+    requires narrow { (shape_of inputs.now).bits ≡ 8 }
     requires plane { plane < planes (shape_of inputs.now).kind }
     requires inside { y < plane_height (shape_of inputs.now) plane }
     ensures row { result.now ≡ row_in inputs.now i plane y }
     ensures whole { length result.now ≡ plane_width (shape_of inputs.now) plane }
 {
     let input = &inputs[i];
-    input.row(plane, y)
+    narrow_row(input, plane, y)
 }
 
 /// A filter that makes a row from the rows of the inputs.
@@ -31,9 +43,10 @@ pub trait RowFilter {
     fn keeps_plane(&self, plane: u32) -> bool
         ensures { result ≡ keeps_plane (op self.now) plane };
 
-    /// Writes the bytes of a row of a plane that isn't kept.
+    /// Writes the bytes of a row of a plane that isn't kept, of samples of eight bits.
     fn fill_row(&self, inputs: &[Frame], plane: u32, y: u32, scratch: &mut Scratch, out: &mut [u8])
         requires able { CanSoften (op self.now) inputs.now }
+        requires narrow { (shape_of inputs.now).bits ≡ 8 }
         requires changed { keeps_plane (op self.now) plane ≡ false }
         requires plane { plane < planes (shape_of inputs.now).kind }
         requires inside { y < plane_height (shape_of inputs.now) plane }

@@ -26,6 +26,7 @@ fn soften_many(
     requires few { length inputs.now ≤ 15 }
     requires odd { length inputs.now ≡ 2 * (length inputs.now / 2) + 1 }
     requires alike { HaveShape (shape_of inputs.now) inputs.now }
+    requires narrow { (shape_of inputs.now).bits ≡ 8 }
     requires plane { plane < planes (shape_of inputs.now).kind }
     requires inside { y < plane_height (shape_of inputs.now) plane }
     requires whole { length out.old ≡ plane_width (shape_of inputs.now) plane }

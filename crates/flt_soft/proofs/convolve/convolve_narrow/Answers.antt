@@ -1,15 +1,14 @@
 -- The samples around a place lie in three rows of the picture.
-use Rattle.std.proofs.Common.{◌≡◌, ◌≤◌, ◌∙◌, ℕ, get_or, ap, sym, arith, w32, pos, ◌+ℤ◌, ◌*ℤ◌}
+use Rattle.std.proofs.Common.{◌≡◌, ◌≤◌, ◌∙◌, ℕ, get_or, ap, sym, arith, w32, pos, ◌+ℤ◌}
 use Rattle.std.specs.Prelude.{ℤ, int_div, ◌-ℤ◌, ◌==◌, if◌then◌else◌, unsigned_abs}
 use Rattle.std.proofs.lemmas.Int.{ints, to_z-of_z}
 use Rattle.fv_plane.specs.declared.format.Shape.{Shape}
-use Rattle.fv_plane.specs.Bytes.{bytes_of_row}
 use Rattle.fv_plane.specs.Format.{plane_height}
 use Rattle.fv_plane.specs.Look.{look_in}
 use Rattle.clip_term.specs.Soft.{place, side_of, weighed, divisor_of, sample_from}
 use Rattle.flt_soft.specs.Squares.{shown, weighed_around}
 use Rattle.flt_soft.proofs.NarrowLemmas.{divisor_size, square_is}
-use Rattle.flt_soft.proofs.WeightLemmas.{times_one}
+use Rattle.flt_soft.proofs.PictureLemmas.{few_columns, narrow_convolved, some_columns}
 use Rattle.flt_soft.proofs.convolve.convolve_narrow.Goals as goal
 use mir.Val.{to_z, of_z}
 
@@ -19,8 +18,13 @@ ending_of-ending-requires-clause-small c =
     let same : to_z w32 (of_z w32 c.divisor_of.result) ≡ divisor_of c.args.weights.now = omega (arith, ints, c.divisor_of.ensures.value) in
     rw same few
 
+pub convolve_row-requires-clause-some : goal.convolve_row-requires-clause-some
+convolve_row-requires-clause-some c = rw c.narrow_row-row.ensures.whole (some_columns c.args.input.now.shape c.args.plane c.shape.ensures.sizes.legal)
+
+pub convolve_row-requires-clause-wide : goal.convolve_row-requires-clause-wide
+convolve_row-requires-clause-wide c = rw c.narrow_row-row.ensures.whole (few_columns c.args.input.now.shape c.args.plane c.shape.ensures.sizes.legal)
+
 pub returns : goal.returns
-unfolding bytes_of_row
 returns c =
     let weights = c.args.weights.now in
     let input = c.args.input.now in
@@ -33,17 +37,18 @@ returns c =
     let middle : y ≡ place y 1 1 height = omega (arith, c.requires.inside) in
     let below : c.place-2.result ≡ place y 2 1 height = c.place-2.ensures.place ∙ ap (λ h. place y 2 1 h) high in
     let divisor : ending.divisor ≡ divisor_of weights = omega (arith, ints, c.ending_of-ending.ensures.divisor, c.divisor_of.ensures.value) in
-    let bias : pos ending.more -ℤ pos ending.less ≡ c.args.bias *ℤ pos 1 = c.ending_of-ending.ensures.bias ∙ to_z-of_z w32 c.args.bias c.ranges.bias ∙ sym (times_one c.args.bias) in
+    let bias : pos ending.more -ℤ pos ending.less ≡ c.args.bias = c.ending_of-ending.ensures.bias ∙ to_z-of_z w32 c.args.bias c.ranges.bias in
     let side : 3 ≡ side_of weights = sym (ap (λ n. if n == 9 then 3 else 5) c.requires.nine) in
     λ x h.
     let sum : ℤ = weighed (side_of weights) 0 weights input.shape (look_in input) p x y in
-    let is : weighed_around c.square_of.result c.row-above.result.now c.row-row.result.now c.row-below.result.now x ≡ sum
-    = square_is input.shape (look_in input) p x y c.square_of.result c.row-above.result.now c.row-row.result.now c.row-below.result.now (omega (arith, c.row-row.ensures.whole))
-    (λ z. ap (λ l. get_or l z 0) c.row-above.ensures.row ∙ ap (λ r. look_in input p z r) above)
-    (λ z. ap (λ l. get_or l z 0) c.row-row.ensures.row ∙ ap (λ r. look_in input p z r) middle)
-    (λ z. ap (λ l. get_or l z 0) c.row-below.ensures.row ∙ ap (λ r. look_in input p z r) below)
+    let is : weighed_around c.square_of.result c.narrow_row-above.result.now c.narrow_row-row.result.now c.narrow_row-below.result.now x ≡ sum
+    = square_is input.shape (look_in input) p x y c.square_of.result c.narrow_row-above.result.now c.narrow_row-row.result.now c.narrow_row-below.result.now c.narrow_row-row.ensures.whole
+    (λ z. ap (λ l. get_or l z 0) c.narrow_row-above.ensures.row ∙ ap (λ r. look_in input p z r) above)
+    (λ z. ap (λ l. get_or l z 0) c.narrow_row-row.ensures.row ∙ ap (λ r. look_in input p z r) middle)
+    (λ z. ap (λ l. get_or l z 0) c.narrow_row-below.ensures.row ∙ ap (λ r. look_in input p z r) below)
     ∙ ap (λ ws. weighed 3 0 ws input.shape (look_in input) p x y) c.square_of.ensures
     ∙ ap (λ n. weighed n 0 weights input.shape (look_in input) p x y) side in
     c.convolve_row.ensures x h ∙ ap (shown ending) is
     ∙ ap (λ d. sample_from 255 (int_div sum d +ℤ (pos ending.more -ℤ pos ending.less))) divisor
     ∙ ap (λ b. sample_from 255 (int_div sum (divisor_of weights) +ℤ b)) bias
+    ∙ narrow_convolved c.args.bias weights input.shape (look_in input) p x y c.requires.narrow

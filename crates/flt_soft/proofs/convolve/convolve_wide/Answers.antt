@@ -1,9 +1,9 @@
-use Rattle.std.proofs.Common.{◌≡◌, ◌<◌, ◌∙◌, length, ap, sym, arith, w32, pos, ◌+ℤ◌, ◌*ℤ◌}
+use Rattle.std.proofs.Common.{◌≡◌, ◌<◌, ◌∙◌, length, ap, arith, w32, ◌+ℤ◌}
 use Rattle.std.specs.Prelude.{ℤ, int_div}
 use Rattle.std.proofs.lemmas.Int.{ints, to_z-of_z}
 use Rattle.fv_plane.specs.Look.{look_in}
 use Rattle.clip_term.specs.Soft.{side_of, weighed, divisor_of, sample_from}
-use Rattle.flt_soft.proofs.WeightLemmas.{times_one}
+use Rattle.flt_soft.proofs.PictureLemmas.{narrow_convolved}
 use Rattle.flt_soft.proofs.convolve.convolve_wide.Goals as goal
 use mir.Val.{to_z, of_z}
 
@@ -13,7 +13,7 @@ returns c =
     let divisor = to_z w32 (of_z w32 c.divisor_of-divisor.result) in
     let bias = to_z w32 (of_z w32 c.args.bias) in
     let divisor_is : divisor ≡ divisor_of weights = omega (arith, ints, c.divisor_of-divisor.ensures.value) in
-    let bias_is : bias ≡ c.args.bias *ℤ pos 1 = to_z-of_z w32 c.args.bias c.ranges.bias ∙ sym (times_one c.args.bias) in
+    let bias_is : bias ≡ c.args.bias = to_z-of_z w32 c.args.bias c.ranges.bias in
     λ x h.
     let inside : x < length c.sum_around.new.sums = omega arith in
     let sum : ℤ = weighed (side_of weights) 0 weights c.args.input.now.shape (look_in c.args.input.now) c.args.plane x c.args.y in
@@ -21,3 +21,4 @@ returns c =
     ∙ ap (λ s. sample_from 255 (int_div s divisor +ℤ bias)) (c.sum_around.ensures.sums x inside)
     ∙ ap (λ d. sample_from 255 (int_div sum d +ℤ bias)) divisor_is
     ∙ ap (λ b. sample_from 255 (int_div sum (divisor_of weights) +ℤ b)) bias_is
+    ∙ narrow_convolved c.args.bias weights c.args.input.now.shape (look_in c.args.input.now) c.args.plane x c.args.y c.requires.narrow

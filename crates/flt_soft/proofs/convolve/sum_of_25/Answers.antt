@@ -2,11 +2,11 @@ use Rattle.std.proofs.Common.{◌≡◌, ◌<◌, ◌≤◌, ◌*◌, ◌+◌, �
 use Rattle.std.proofs.lemmas.Int.{to_z-of_z}
 use Rattle.std.proofs.lemmas.List.{take_all}
 use Rattle.fv_plane.specs.declared.format.Shape.{Shape}
-use Rattle.fv_plane.specs.Bytes.{bytes_of_row}
 use Rattle.fv_plane.specs.Format.{plane_width, plane_height}
 use Rattle.fv_plane.specs.Look.{look_in}
 use Rattle.clip_term.specs.Soft.{place, weighed}
 use Rattle.flt_soft.specs.Rows.{extended, weighed_five}
+use Rattle.flt_soft.proofs.PictureLemmas.{narrow_few}
 use Rattle.flt_soft.proofs.WeightLemmas.{of_25_more, weighed_within, within_same, sums_small}
 use Rattle.flt_soft.proofs.convolve.sum_of_25.Goals as goal
 use mir.Syntax.{w16}
@@ -15,23 +15,22 @@ use mir.Val.{to_z, of_z}
 pub add_five-requires-clause-small : goal.add_five-requires-clause-small
 add_five-requires-clause-small c =
     let i = c.loop-i.i in
-    let few : (a b : ℕ) → look_in c.args.input.now c.args.plane a b ≤ 255 = c.shape.ensures.sizes.bounded c.args.plane in
+    let few : (a b : ℕ) → look_in c.args.input.now c.args.plane a b ≤ 255 = narrow_few c.args.input.now c.shape.ensures.sizes c.requires.narrow c.args.plane in
     sums_small c.loop-i.sums (261120 * (5 * i)) (omega arith) (λ x h.
     within_same _ _ _ (c.loop-i.invariant x h) (weighed_within 5 0 (5 * i) c.args.weights.now c.args.input.now.shape (look_in c.args.input.now) c.args.plane x c.args.y c.requires.weights few))
 
 pub loop-i-preserved : goal.loop-i-preserved
-unfolding bytes_of_row
 loop-i-preserved c =
     let weights = c.args.weights.now in
     let input = c.args.input.now in
     let p = c.args.plane in
     let y = c.args.y in
     let i = c.loop-i.i in
-    let row : List ℕ = c.row.result.now in
+    let row : List ℕ = c.narrow_row-row.result.now in
     let line : c.place.result ≡ place y i 2 (plane_height input.shape p)
     = c.place.ensures.place ∙ ap (λ h. place y i 2 h) (c.plane_height-height.ensures ∙ ap (λ (s : Shape). plane_height s p) c.shape.ensures.shape) in
-    let seen : (z : ℕ) → get_or row z 0 ≡ look_in input p z (place y i 2 (plane_height input.shape p)) = λ z. ap (λ l. get_or l z 0) c.row.ensures.row ∙ ap (λ r. look_in input p z r) line in
-    let long : length row ≡ plane_width input.shape p = omega (arith, c.row.ensures.whole) in
+    let seen : (z : ℕ) → get_or row z 0 ≡ look_in input p z (place y i 2 (plane_height input.shape p)) = λ z. ap (λ l. get_or l z 0) c.narrow_row-row.ensures.row ∙ ap (λ r. look_in input p z r) line in
+    let long : length row ≡ plane_width input.shape p = c.narrow_row-row.ensures.whole in
     let a : to_z w16 (of_z w16 c.weight.result) ≡ get_or weights (5 * i) (pos 0) = to_z-of_z w16 c.weight.result (record { sfits = c.weight.type_inv }) ∙ c.weight.ensures.value in
     let b : to_z w16 (of_z w16 c.weight-in-loop-i.result) ≡ get_or weights (5 * i + 1) (pos 0) = to_z-of_z w16 c.weight-in-loop-i.result (record { sfits = c.weight-in-loop-i.type_inv }) ∙ c.weight-in-loop-i.ensures.value in
     let d : to_z w16 (of_z w16 c.weight-in-loop-i-2.result) ≡ get_or weights (5 * i + 2) (pos 0) = to_z-of_z w16 c.weight-in-loop-i-2.result (record { sfits = c.weight-in-loop-i-2.type_inv }) ∙ c.weight-in-loop-i-2.ensures.value in
@@ -46,7 +45,7 @@ loop-i-preserved c =
 pub returns : goal.returns
 returns c =
     let i = c.loop-i.i in
-    let few : (a b : ℕ) → look_in c.args.input.now c.args.plane a b ≤ 255 = c.shape.ensures.sizes.bounded c.args.plane in
+    let few : (a b : ℕ) → look_in c.args.input.now c.args.plane a b ≤ 255 = narrow_few c.args.input.now c.shape.ensures.sizes c.requires.narrow c.args.plane in
     record {
       sums = λ x h. c.loop-i.invariant x h
           ∙ ap (λ ws. weighed 5 0 ws c.args.input.now.shape (look_in c.args.input.now) c.args.plane x c.args.y) (take_all (5 * i) c.args.weights.now (omega arith));

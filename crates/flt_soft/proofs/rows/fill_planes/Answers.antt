@@ -5,6 +5,7 @@ use Rattle.fv_plane.specs.Bytes.{row_of_bytes}
 use Rattle.fv_plane.specs.Format.{planes, plane_width, plane_height, row_bytes}
 use Rattle.fv_plane.specs.Look.{Look, look_in, picture_from}
 use Rattle.fv_plane.specs.Picture.{Picture}
+use Rattle.fv_plane.proofs.CallerLemmas.{eight_bits, fit_narrow}
 use Rattle.fv_plane.proofs.FillLemmas.{filled_put, filled_plane, filled_done}
 use Rattle.fv_plane.proofs.WholePlaneLemmas.{rows_listed, filled_whole, row_seen}
 use Rattle.clip_term.specs.Soft.{soft_at}
@@ -37,7 +38,7 @@ put_plane-requires-clause-same g c =
     let shape : c.shape-shape.result ≡ shape_of inputs = c.shape-shape.ensures.shape ∙ first_shape inputs c.index-inputs-0.result some c.index-inputs-0.is in
     let middle : c.index-inputs-inputs.result.shape ≡ shape_of inputs = shape_same (shape_of inputs) inputs (length inputs / 2) c.index-inputs-inputs.result c.requires.able.alike (omega arith) c.index-inputs-inputs.is in
     let made : c.loop-plane.made.shape ≡ shape_of inputs = c.loop-plane.invariant.filled.same ∙ shape in
-    rw (made, middle) (record { width = refl; height = refl; largest = refl; bytes = refl })
+    rw (made, middle) (record { width = refl; height = refl; bits = refl })
 
 pub loop-plane-preserved-then-keeps_plane : goal.loop-plane-preserved-then-keeps_plane
 loop-plane-preserved-then-keeps_plane g c =
@@ -140,3 +141,15 @@ returns-clause-made g c =
     = filled_done (rows_listed mine at) mine c.loop-plane.made at c.loop-plane.plane 0 c.loop-plane.invariant.filled (search rules) (search rules) (λ p z there inside. refl)
     ∙ ap (λ (s : Shape). picture_from s (soft_at filter s (map look_in inputs))) shape in
     whole
+
+pub fill_row-requires-clause-narrow : goal.fill_row-requires-clause-narrow
+fill_row-requires-clause-narrow g c =
+    let inputs : List Picture = c.args.inputs.now in
+    let some : 0 < length inputs = some_pictures (g.F.RowFilter.op c.args.filter.now) inputs c.requires.able in
+    let first = c.index-inputs-0.result in
+    ap (λ (s : Shape). s.bits) (sym (first_shape inputs first some c.index-inputs-0.is)) ∙ eight_bits first.shape c.shape-shape.ensures.sizes.legal
+
+pub put_row-requires-clause-fits : goal.put_row-requires-clause-fits
+put_row-requires-clause-fits g c =
+    let made = c.loop-y.made.shape in
+    fit_narrow made c.fill_row.new.out (ap (λ (s : Shape). s.bits) (c.loop-y.invariant.filled.same ∙ c.shape-shape.ensures.shape) ∙ eight_bits c.index-inputs-0.result.shape c.shape-shape.ensures.sizes.legal)

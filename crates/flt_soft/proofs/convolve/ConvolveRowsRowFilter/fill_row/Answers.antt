@@ -1,4 +1,4 @@
-use Rattle.std.proofs.Common.{◌∙◌, ap, refl, length, w32, rules}
+use Rattle.std.proofs.Common.{◌∙◌, ap, length, w32, rules}
 use Rattle.clip_term.specs.declared.op.SoftOp.TheVariants.{GeneralConvolution}
 use Rattle.std.proofs.lemmas.Int.{to_z-of_z}
 use Rattle.fv_plane.specs.Look.{look_in}
@@ -20,4 +20,4 @@ returns-clause-row c =
     convolved_listed bias matrix c.args.inputs.now one c.args.plane c.args.y (length c.args.out.now) c.convolve_in.new.out c.requires.able.asked c.index-inputs-0.is c.convolve_in.auto.out
     (λ x h. c.convolve_in.ensures.row x h ∙ ap (λ b. convolved b c.as_slice-weights.result.now one.shape (look_in one) c.args.plane x c.args.y) (to_z-of_z w32 bias fits)
     ∙ ap (λ ws. convolved bias ws one.shape (look_in one) c.args.plane x c.args.y) c.as_slice-weights.ensures)
-    ∙ narrow_made (GeneralConvolution bias matrix) c.args.inputs.now c.args.plane c.args.y (length c.args.out.now) refl c.requires.whole
+    ∙ narrow_made (GeneralConvolution bias matrix) c.args.inputs.now c.args.plane c.args.y (length c.args.out.now) c.requires.narrow c.requires.whole
