@@ -7,10 +7,7 @@
 #![tactic(auto)]
 
 mod block;
-mod closing;
-mod expression;
 mod fault;
-mod frame;
 mod head;
 pub mod laws;
 mod loader;
@@ -19,7 +16,6 @@ mod nesting;
 mod script;
 mod state;
 mod statement;
-mod turn;
 
 pub use avs_tree::{
     Arg, Arm, DotCall, Expr, Function, Operator, Parameter, Script, Statement, StatementKind, Step,

@@ -3,10 +3,10 @@ use Rattle.std.proofs.Common.{◌≡◌, refl, ◌+◌, arith, List, [], ◌∷�
 use Rattle.std.proofs.lemmas.List.Sums.{sum_by-cons}
 use Rattle.avs_place.specs.ExprMachine as x
 use Rattle.avs_place.specs.Nesting.{frames_level}
-use Rattle.avs_parse.specs.Open.{opens}
-use Rattle.avs_parse.specs.ExprViews.{frame_view, onto, frames_view}
-use Rattle.avs_parse.specs.declared.frame.Frame.{Frame}
-use Rattle.avs_parse.specs.declared.frame.Frame.TheVariants as f
+use Rattle.avs_frames.specs.Open.{opens}
+use Rattle.avs_frames.specs.ExprViews.{frame_view, onto, frames_view}
+use Rattle.avs_frames.specs.declared.frame.Frame.{Frame}
+use Rattle.avs_frames.specs.declared.frame.Frame.TheVariants as f
 
 onto_push : (outer : List x.Frame) (fs : List Frame) (f : Frame) → onto outer (fs ++ f ∷ []) ≡ frame_view f ∷ onto outer fs
 onto_push outer [] f = refl

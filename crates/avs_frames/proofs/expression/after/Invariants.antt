@@ -1,9 +1,9 @@
 use Rattle.std.proofs.Common.{◌≡◌, length}
 use Rattle.avs_tree.specs.View.{expr_view}
 use Rattle.avs_place.specs.ExprMachine as x
-use Rattle.avs_parse.specs.ExprViews.{frames_view}
-use Rattle.avs_parse.specs.Seen.{seen}
-use Rattle.avs_parse.proofs.expression.after.Given as goal
+use Rattle.avs_frames.specs.ExprViews.{frames_view}
+use Rattle.avs_frames.specs.Seen.{seen}
+use Rattle.avs_frames.proofs.expression.after.Given as goal
 
 abbrev pub invariant-loop-frame : goal.invariant-loop-frame
 invariant-loop-frame l =
