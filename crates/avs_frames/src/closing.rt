@@ -17,7 +17,8 @@ use avs_tree::{Arg, DotCall, Expr, Operator, Punctuation, Step};
 use fv_io::Text;
 use std::alloc::Global;
 
-// The token cannot stand there. What was read is dropped by this call alone: a drop in place is a proof of its own each time.
+// The token cannot stand there. What was read is dropped here: where it is dropped in place, the proof of the caller has a step
+// for each part of it.
 fn refused<T: Drop>(_read: T) -> Closing
     ensures { closing_view result ≡ machine.no_closing }
 {

@@ -97,6 +97,17 @@ fn grow(first: Expr, frames: Vec<Frame>, turn: Turn<'_>) -> Outcome<ExprStep>
     }
 }
 
+// The highest precedence of what comes next.
+#[tactic(auto, using(crate::proofs::FrameLemmas::of_hole))]
+fn hole(frames: &[Frame]) -> u8
+    ensures { result ≡ machine.hole (frames_view frames.now) }
+{
+    match frames.last() {
+        Some(frame) => frame.hole(),
+        None => EXPRESSION,
+    }
+}
+
 // After an expression of this precedence: the token continues it, or it closes frames.
 #[tactic(auto, using(crate::proofs::FrameLemmas::of_frames))]
 fn after(
@@ -107,11 +118,11 @@ fn after(
 ) -> Outcome<ExprStep>
     ensures { Makes result (machine.after precedence (expr_view expr) (frames_view frames.items) (seen turn.entry)) }
 {
-    while let Some(frame) = frames.pop() {
-        if turn.continues(precedence, frame.hole()) {
-            let frames = pushed(frames, frame)?;
-            return grow(expr, frames, turn);
-        }
+    while !turn.continues(precedence, hole(&frames)) {
+        let frame = match frames.pop() {
+            Some(frame) => frame,
+            None => return Ok(ExprStep::Leaves(expr)),
+        };
         match close_frame(frame, expr, turn)? {
             Closing::Refused => return Ok(ExprStep::Refused),
             Closing::Taken(state) => return Ok(ExprStep::Keeps(state, frames)),
@@ -123,10 +134,7 @@ fn after(
             }
         }
     }
-    if turn.continues(precedence, EXPRESSION) {
-        return grow(expr, frames, turn);
-    }
-    Ok(ExprStep::Leaves(expr))
+    grow(expr, frames, turn)
 }
 
 // After a name.

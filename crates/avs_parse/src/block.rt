@@ -12,7 +12,8 @@ use avs_frames::{Outcome, Turn, pushed};
 use avs_tree::{Arm, Function, Punctuation, Script, Statement, StatementKind, Symbol};
 use std::alloc::Global;
 
-/// The token cannot stand there. What was read is dropped by this call alone: a drop in place is a proof of its own each time.
+/// The token cannot stand there. What was read is dropped here: where it is dropped in place, the proof of the caller has a step
+/// for each part of it.
 pub fn refused<T: Drop>(_read: T) -> ScriptStep
     ensures { step_view result ≡ machine.stuck }
 {
