@@ -17,8 +17,8 @@ use avs_tree::{Arg, DotCall, Expr, Operator, Punctuation, Step};
 use fv_io::Text;
 use std::alloc::Global;
 
-// The token cannot stand there. What was read is dropped here: where it is dropped in place, the proof of the caller has a step
-// for each part of it.
+// The token cannot stand there. What was read is dropped here: dropped in place, each part of it would be a step of the
+// caller's proof.
 fn refused<T: Drop>(_read: T) -> Closing
     ensures { closing_view result ≡ machine.no_closing }
 {
@@ -76,8 +76,8 @@ fn label(callee: Callee, found: Vec<Arg>, name: Option<Text>, value: Expr) -> Cl
 // After the comma of an argument.
 #[tactic(auto, using(crate::proofs::RowLemmas::of_rows))]
 fn next_argument(callee: Callee, found: Vec<Arg>, last: Arg) -> Outcome<Closing>
-    ensures { Closes result
-        (machine.reopened (machine.argument (callee_view callee) (map arg_view found.items ++ arg_view last ∷ []) None)) }
+    ensures { Closes result (machine.reopened
+        (machine.argument (callee_view callee) (map arg_view found.items ++ arg_view last ∷ []) None)) }
 {
     let found = pushed(found, last)?;
     Ok(Closing::Reopened(Frame::Argument(callee, found, None)))

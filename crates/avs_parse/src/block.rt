@@ -12,8 +12,8 @@ use avs_frames::{Outcome, Turn, pushed};
 use avs_tree::{Arm, Function, Punctuation, Script, Statement, StatementKind, Symbol};
 use std::alloc::Global;
 
-/// The token cannot stand there. What was read is dropped here: where it is dropped in place, the proof of the caller has a step
-/// for each part of it.
+/// The token cannot stand there. What was read is dropped here: dropped in place, each part of it would be a step of the
+/// caller's proof.
 pub fn refused<T: Drop>(_read: T) -> ScriptStep
     ensures { step_view result ≡ machine.stuck }
 {

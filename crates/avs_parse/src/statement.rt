@@ -225,7 +225,7 @@ fn in_expression(
     match expr_step(state, frames, turn) {
         Ok(step) => after_step(step, purpose, around, turn),
         Err(error) => {
-            // In place, their parts would be dropped one by one, each a step of this proof.
+            // Dropped in place, each of their parts would be a step of this proof.
             drop((purpose, around));
             Err(error)
         }
