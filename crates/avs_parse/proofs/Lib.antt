@@ -1,5 +1,4 @@
 pub mod RowLemmas
-pub mod FrameLemmas
 pub mod LevelLemmas
 pub mod TurnLemmas
 pub mod NumberLemmas

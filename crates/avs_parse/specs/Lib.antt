@@ -1,8 +1,5 @@
 pub mod Place
-pub mod Seen
-pub mod ExprViews
 pub mod ScriptViews
-pub mod Open
 pub mod VerdictView
 pub mod TokensOf
 pub mod Load

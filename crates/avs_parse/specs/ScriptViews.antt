@@ -3,8 +3,8 @@ use Rattle.std.specs.Prelude.{◌≡◌, ℕ, List, [], ◌∷◌, map, Option, 
 use Rattle.avs_tree.specs.Tree as t
 use Rattle.avs_tree.specs.View.{StatementIs, expr_view, arm_view, statement_view, function_view, script_view}
 use Rattle.avs_place.specs.Machine as m
-use Rattle.avs_parse.specs.ExprViews.{frames_view, expr_state_view}
-use Rattle.avs_parse.specs.declared.fault.OutOfMemory.{OutOfMemory}
+use Rattle.avs_frames.specs.ExprViews.{frames_view, expr_state_view}
+use Rattle.avs_frames.specs.declared.memory.OutOfMemory.{OutOfMemory}
 use Rattle.avs_parse.specs.declared.state.Use.{Use}
 use Rattle.avs_parse.specs.declared.state.Use.TheVariants as u
 use Rattle.avs_parse.specs.declared.state.ForHead.{ForHead}

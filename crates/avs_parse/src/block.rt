@@ -5,13 +5,20 @@ ghost use Rattle.avs_tree.specs.View.{arm_view, kind_view, function_view, statem
 ghost use Rattle.avs_place.specs.Machine as machine;
 ghost use Rattle.avs_parse.specs.ScriptViews.{Steps, inner, levels_view, owner_view, outermost_view, statement_state_view, step_view};
 
-use crate::fault::Outcome;
 use crate::state::{
     Around, Level, Levels, OpenFunction, Owner, ScriptStep, Signature, State, StatementState,
 };
-use crate::turn::Turn;
+use avs_frames::{Outcome, Turn, pushed};
 use avs_tree::{Arm, Function, Punctuation, Script, Statement, StatementKind, Symbol};
 use std::alloc::Global;
+
+/// The token cannot stand there. What was read is dropped here: dropped in place, each part of it would be a step of the
+/// caller's proof.
+pub fn refused<T: Drop>(_read: T) -> ScriptStep
+    ensures { step_view result ≡ machine.stuck }
+{
+    ScriptStep::Refused
+}
 
 /// The script goes on with this in a statement.
 pub fn goes(here: StatementState, around: Around) -> ScriptStep
@@ -31,15 +38,23 @@ pub fn if_kind(arms: Vec<Arm>, other: Option<Vec<Statement>>) -> StatementKind
 impl Around {
     /// What stands around the next statement, after one more.
     #[tactic(auto, using(crate::proofs::RowLemmas::of_statements))]
-    pub fn after(mut self, kind: StatementKind) -> Outcome<Around>
+    pub fn after(self, kind: StatementKind) -> Outcome<Around>
         ensures line { IfOk result (λ made. made.line ≡ self.line) }
         ensures levels { IfOk result (λ made. made.levels ≡ self.levels) }
         ensures before { IfOk result (λ made. map statement_view made.before.items
             ≡ map statement_view self.before.items ++ (kind_view kind, self.line) ∷ []) }
     {
-        let line = self.line;
-        self.before.push(Statement { kind, line })?;
-        Ok(self)
+        let Around {
+            line,
+            before,
+            levels,
+        } = self;
+        let before = pushed(before, Statement { kind, line })?;
+        Ok(Around {
+            line,
+            before,
+            levels,
+        })
     }
 }
 
@@ -52,17 +67,23 @@ fn closed(kind: StatementKind, around: Around) -> Outcome<ScriptStep>
     Ok(goes(StatementState::StatementNext, around))
 }
 
-// The right brace of a statement.
+// The right brace of an arm.
 #[tactic(auto, using(crate::proofs::RowLemmas::of_statements))]
+fn close_arm(arms: Vec<Arm>, last: Arm, around: Around) -> Outcome<ScriptStep>
+    ensures { Steps result (machine.goes (inner around (machine.at
+        (machine.after_arm (map arm_view arms.items ++ arm_view last ∷ []))))) }
+{
+    let arms = pushed(arms, last)?;
+    Ok(goes(StatementState::AfterArm(arms), around))
+}
+
+// The right brace of a statement.
 fn close_level(owner: Owner, body: Vec<Statement>, around: Around) -> Outcome<ScriptStep>
     ensures { Steps result (machine.close_by (map statement_view body.items)
         (inner around (machine.level (owner_view owner)))) }
 {
     match owner {
-        Owner::Arm(mut arms, condition) => {
-            arms.push(Arm { condition, body })?;
-            Ok(goes(StatementState::AfterArm(arms), around))
-        }
+        Owner::Arm(arms, condition) => close_arm(arms, Arm { condition, body }, around),
         Owner::Else(arms) => closed(if_kind(arms, Some(body)), around),
         Owner::While(condition) => closed(StatementKind::While { condition, body }, around),
         Owner::For(head) => closed(
@@ -84,7 +105,7 @@ fn close_function(
     alloc: Global,
     function: OpenFunction,
     body: Vec<Statement>,
-    mut functions: Vec<Function>,
+    functions: Vec<Function>,
 ) -> Outcome<ScriptStep>
     ensures { Steps result (machine.close_by (map statement_view body.items)
         (outermost_view (Some function) (map function_view functions.items))) }
@@ -95,12 +116,13 @@ fn close_function(
         before,
     } = function;
     let Signature { name, params } = signature;
-    functions.push(Function {
+    let function = Function {
         name,
         params,
         body,
         line,
-    })?;
+    };
+    let functions = pushed(functions, function)?;
     let levels = Levels {
         inner: Vec::new(alloc),
         function: None,
@@ -126,7 +148,7 @@ fn close_outermost(
 {
     match function {
         Some(function) => close_function(alloc, function, body, functions),
-        None => Ok(ScriptStep::Refused),
+        None => Ok(refused((body, functions))),
     }
 }
 
@@ -169,7 +191,7 @@ pub fn end(statements: Vec<Statement>, levels: Levels) -> ScriptStep
     ensures { step_view result ≡ machine.end_by (map statement_view statements.items) (levels_view levels) }
 {
     if levels.depth() > 0 {
-        return ScriptStep::Refused;
+        return refused((statements, levels));
     }
     let functions = levels.functions;
     ScriptStep::Whole(Script {
@@ -194,6 +216,6 @@ pub fn done(around: Around, turn: Turn<'_>) -> Outcome<ScriptStep>
             around.levels,
         ),
         Symbol::Punctuation(Punctuation::End) => Ok(end(around.before, around.levels)),
-        _ => Ok(ScriptStep::Refused),
+        _ => Ok(refused(around)),
     }
 }

@@ -1,6 +1,5 @@
 // Why tokens have no tree, and why a text has none.
 use avs_lex::LexKind;
-use std::alloc::{AllocError, AllocFailed};
 
 /// Why there is no tree. Tokens are counted from 0.
 #[derive(Clone, Copy, Debug, PartialEq, Eq)]
@@ -24,23 +23,4 @@ pub enum LoadFault {
     NestLimit { line: u32 },
     /// Out of memory.
     Memory,
-}
-
-/// Memory ran out.
-#[derive(Clone, Copy, Debug, PartialEq, Eq)]
-pub struct OutOfMemory;
-
-/// What is made, unless memory runs out.
-pub type Outcome<T> = Result<T, OutOfMemory>;
-
-impl From<AllocError> for OutOfMemory {
-    fn from(_: AllocError) -> OutOfMemory {
-        OutOfMemory
-    }
-}
-
-impl<T: Drop> From<AllocFailed<T>> for OutOfMemory {
-    fn from(_: AllocFailed<T>) -> OutOfMemory {
-        OutOfMemory
-    }
 }

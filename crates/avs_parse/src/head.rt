@@ -1,16 +1,15 @@
 // What a token does to the head of a function.
-ghost use Rattle.std.specs.Prelude.{◌≡◌, [], Some};
+ghost use Rattle.std.specs.Prelude.{◌≡◌, [], Some, IfOk};
 ghost use Rattle.avs_tree.specs.Words.{type_word_of};
 ghost use Rattle.avs_place.specs.Machine as machine;
 ghost use Rattle.avs_parse.specs.ScriptViews.{Steps, head_state_view, outer, step_view};
-ghost use Rattle.avs_parse.specs.Seen.{seen};
+ghost use Rattle.avs_frames.specs.Seen.{seen};
 
-use crate::block::goes;
-use crate::fault::Outcome;
+use crate::block::{goes, refused};
 use crate::state::{
     Around, HeadState, Levels, OpenFunction, ScriptStep, Signature, State, StatementState,
 };
-use crate::turn::Turn;
+use avs_frames::{Outcome, Turn, pushed};
 use avs_tree::{Parameter, Punctuation, Symbol, TypeWord, is_name, type_word};
 use fv_io::Text;
 use std::alloc::Global;
@@ -28,10 +27,10 @@ fn function_name(around: Around, turn: Turn<'_>) -> Outcome<ScriptStep>
 {
     match turn.symbol {
         Symbol::Name => {
-            let name = Text::from_str(turn.alloc, turn.content)?;
+            let name = turn.text()?;
             Ok(head_goes(HeadState::AfterName(name), around))
         }
-        _ => Ok(ScriptStep::Refused),
+        _ => Ok(refused(around)),
     }
 }
 
@@ -40,7 +39,7 @@ fn parenthesis(name: Text, around: Around, turn: Turn<'_>) -> ScriptStep
     ensures { step_view result ≡ outer around (machine.advance_head (machine.after_function_name name)) (seen turn.entry) }
 {
     if !turn.is(Punctuation::LeftParen) {
-        return ScriptStep::Refused;
+        return refused((name, around));
     }
     head_goes(HeadState::Opened(name), around)
 }
@@ -55,7 +54,7 @@ fn parameter_type(signature: Signature, must: bool, around: Around, turn: Turn<'
             HeadState::AfterType(signature, must, word),
             around,
         ),
-        _ => ScriptStep::Refused,
+        _ => refused((signature, around)),
     }
 }
 
@@ -71,9 +70,30 @@ fn first_parameter(name: Text, around: Around, turn: Turn<'_>) -> ScriptStep
     parameter_type(signature, false, around, turn)
 }
 
+// The function with one more parameter.
+fn with_parameter(
+    signature: Signature,
+    word: TypeWord,
+    optional: bool,
+    turn: Turn<'_>,
+) -> Outcome<Signature>
+    ensures name { IfOk result (λ made. made.name ≡ signature.name) }
+    ensures params { IfOk result (λ made. made.params.items
+        ≡ machine.with_parameter signature.params.items word optional turn.entry.content.now) }
+{
+    let parameter = Parameter {
+        name: turn.text()?,
+        word,
+        optional,
+    };
+    let Signature { name, params } = signature;
+    let params = pushed(params, parameter)?;
+    Ok(Signature { name, params })
+}
+
 // After the name of a parameter.
 fn parameter(
-    mut signature: Signature,
+    signature: Signature,
     word: TypeWord,
     optional: bool,
     around: Around,
@@ -82,12 +102,7 @@ fn parameter(
     ensures { Steps result (machine.goes (outer around (machine.at_head (machine.after_parameter signature.name
         (machine.with_parameter signature.params.items word optional turn.entry.content.now) optional)))) }
 {
-    let name = Text::from_str(turn.alloc, turn.content)?;
-    signature.params.push(Parameter {
-        name,
-        word,
-        optional,
-    })?;
+    let signature = with_parameter(signature, word, optional, turn)?;
     Ok(head_goes(HeadState::AfterParameter(signature, optional), around))
 }
 
@@ -105,7 +120,7 @@ fn parameter_name(
     match turn.symbol {
         Symbol::Name if !must => parameter(signature, word, false, around, turn),
         Symbol::Str if is_name(turn.content) => parameter(signature, word, true, around, turn),
-        _ => Ok(ScriptStep::Refused),
+        _ => Ok(refused((signature, around))),
     }
 }
 
@@ -120,7 +135,7 @@ fn after_parameter(signature: Signature, must: bool, around: Around, turn: Turn<
     if turn.is(Punctuation::RightParen) {
         return head_goes(HeadState::BracesNext(signature), around);
     }
-    ScriptStep::Refused
+    refused((signature, around))
 }
 
 // After the left brace.
@@ -163,7 +178,7 @@ fn body(signature: Signature, around: Around, turn: Turn<'_>) -> ScriptStep
             head_goes(HeadState::BracesNext(signature), around)
         }
         Symbol::Punctuation(Punctuation::LeftBrace) => open(turn.alloc, signature, around),
-        _ => ScriptStep::Refused,
+        _ => refused((signature, around)),
     }
 }
 

@@ -1,16 +1,14 @@
 //! Scripts in the language of AviSynth+, from their tokens or their texts to their trees.
 //!
-//! `parse` reads one token a turn (`machine`) and keeps what is open on two stacks: frames in an expression, and levels of
-//! braces. It answers the tree that the grammar gives of tokens (`HasTree` of `avs_tree`), or the exact token and line at which
-//! no script goes on or the nesting becomes too deep (`specs/Place.antt`). `load` answers what the function `script_of` gives
-//! of a text (`specs/Load.antt`), and `laws` says that `script_of` is what the definitions of tokens and of the grammar say.
+//! `parse` reads one token a turn (`machine`) and keeps what is open on two stacks: frames in an expression (`avs_frames`),
+//! and levels of braces. It answers the tree that the grammar gives of tokens (`HasTree` of `avs_tree`), or the exact token
+//! and line at which no script goes on or the nesting becomes too deep (`specs/Place.antt`). `load` answers what the function
+//! `script_of` gives of a text (`specs/Load.antt`), and `laws` says that `script_of` is what the definitions of tokens and of
+//! the grammar say.
 #![tactic(auto)]
 
 mod block;
-mod closing;
-mod expression;
 mod fault;
-mod frame;
 mod head;
 pub mod laws;
 mod loader;
@@ -19,7 +17,6 @@ mod nesting;
 mod script;
 mod state;
 mod statement;
-mod turn;
 
 pub use avs_tree::{
     Arg, Arm, DotCall, Expr, Function, Operator, Parameter, Script, Statement, StatementKind, Step,

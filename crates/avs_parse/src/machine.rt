@@ -7,13 +7,12 @@ ghost use Rattle.avs_place.specs.Machine as machine;
 ghost use Rattle.avs_place.specs.Place.{verdict, alone};
 ghost use Rattle.avs_parse.specs.ScriptViews.{Steps, state_view};
 ghost use Rattle.avs_parse.specs.VerdictView.{verdict_view};
-ghost use Rattle.avs_parse.specs.Seen.{seen};
+ghost use Rattle.avs_frames.specs.Seen.{seen};
 
-use crate::fault::Outcome;
 use crate::head::advance_head;
 use crate::state::{Around, Levels, ScriptStep, State, StatementState};
 use crate::statement::advance_statement;
-use crate::turn::Turn;
+use avs_frames::{Outcome, Turn};
 use avs_lex::Token;
 use avs_tree::Script;
 use std::alloc::Global;

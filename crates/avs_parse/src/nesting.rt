@@ -1,12 +1,11 @@
 // How many levels of nesting are open.
-ghost use Rattle.std.specs.Prelude.{◌≡◌, ◌<◌, ◌≤◌, ◌^◌, nat_lt};
+ghost use Rattle.std.specs.Prelude.{◌≡◌, ◌≤◌, nat_lt};
 ghost use Rattle.avs_place.specs.Machine as machine;
-ghost use Rattle.avs_place.specs.Nesting.{frames_level, expr_level, use_level, statement_level, head_level, level_of};
-ghost use Rattle.avs_parse.specs.ExprViews.{frames_view, expr_state_view};
+ghost use Rattle.avs_place.specs.Nesting.{use_level, statement_level, head_level, level_of};
 ghost use Rattle.avs_parse.specs.ScriptViews.{levels_view, statement_state_view, head_state_view, state_view, use_view};
 
-use crate::frame::{ExprState, Frame};
 use crate::state::{HeadState, Levels, State, StatementState, Use};
+use avs_frames::frames_level;
 
 impl Levels {
     /// How many braces are open.
@@ -19,31 +18,6 @@ impl Levels {
             None => 0,
         };
         self.inner.len() + outermost
-    }
-}
-
-// How many of the frames are levels.
-fn frames_level(frames: &[Frame]) -> usize
-    ensures level { result ≡ frames_level (frames_view frames.now) }
-    ensures few { result < 2 ^ 63 }
-{
-    let mut open = 0;
-    for frame in frames {
-        open += frame.opens();
-    }
-    open
-}
-
-impl ExprState {
-    // The parenthesis of arguments, where it was read last.
-    fn level(&self) -> usize
-        ensures level { result ≡ expr_level (expr_state_view self.now) }
-        ensures few { result ≤ 1 }
-    {
-        match self {
-            ExprState::ArgsOpened(_) => 1,
-            _ => 0,
-        }
     }
 }
 

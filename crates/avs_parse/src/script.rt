@@ -6,8 +6,9 @@ ghost use Rattle.avs_tree.specs.Script.{HasTree};
 ghost use Rattle.avs_tree.specs.View.{script_view};
 ghost use Rattle.avs_parse.specs.Place.{TellsPlace, TellsLine, HasNoTree};
 
-use crate::fault::{OutOfMemory, ParseError};
+use crate::fault::ParseError;
 use crate::machine::{Verdict, run};
+use avs_frames::OutOfMemory;
 use avs_lex::Token;
 use avs_tree::Script;
 use std::alloc::Global;

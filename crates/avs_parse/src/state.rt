@@ -1,5 +1,5 @@
 // What was read of a script: what is open in it, and the parts of its tree so far.
-use crate::frame::{ExprState, Frame};
+use avs_frames::{ExprState, Frame};
 use avs_tree::{Arm, Expr, Function, Parameter, Script, Statement, TypeWord};
 use fv_io::Text;
 

@@ -1,29 +1,26 @@
 // What a token does to a statement.
-ghost use Rattle.std.specs.Prelude.{◌≡◌, ◌∷◌, ◌++◌, [], Some, map, if◌then◌else◌};
+ghost use Rattle.std.specs.Prelude.{◌≡◌, ◌∷◌, ◌++◌, [], Some, map, IfOk, if◌then◌else◌};
 ghost use Rattle.avs_tree.specs.Tree as tree;
 ghost use Rattle.avs_tree.specs.View.{expr_view, kind_view, arm_view, statement_view, arms_of};
 ghost use Rattle.avs_tree.specs.declared.symbol.Punctuation.TheVariants.{RightParen};
 ghost use Rattle.avs_place.specs.Next.{is_punctuation};
 ghost use Rattle.avs_place.specs.ExprMachine as expr;
 ghost use Rattle.avs_place.specs.Machine as machine;
-ghost use Rattle.avs_parse.specs.ExprViews.{expr_state_view, frames_view};
-ghost use Rattle.avs_parse.specs.ScriptViews.{Steps, inner, levels_view, owner_view, statement_state_view, step_view, use_view};
-ghost use Rattle.avs_parse.specs.Seen.{seen};
+ghost use Rattle.avs_frames.specs.ExprViews.{expr_state_view, expr_step_view, frames_view};
+ghost use Rattle.avs_parse.specs.ScriptViews.{Steps, inner, level_view, levels_view, owner_view, statement_state_view, step_view, use_view};
+ghost use Rattle.avs_frames.specs.Seen.{seen};
 
-use crate::block::{close, done, end, goes, if_kind};
-use crate::expression::{expr_step, operand};
-use crate::fault::Outcome;
-use crate::frame::{ExprState, ExprStep, Frame};
+use crate::block::{close, done, end, goes, if_kind, refused};
 use crate::state::{
-    Around, ForHead, HeadState, Level, Owner, ScriptStep, State, StatementState, Use,
+    Around, ForHead, HeadState, Level, Levels, Owner, ScriptStep, State, StatementState, Use,
 };
-use crate::turn::Turn;
+use avs_frames::{ExprState, ExprStep, Frame, Outcome, Turn, expr_step, operand, pushed};
 use avs_tree::{Arm, Expr, Keyword, Punctuation, StatementKind, Symbol};
 use fv_io::Text;
 use std::alloc::Global;
 
 // An expression comes next, for this.
-#[tactic(auto, using(crate::proofs::FrameLemmas::of_frames))]
+#[tactic(auto, using(avs_frames::proofs::FrameLemmas::of_frames))]
 fn expression_next(alloc: Global, purpose: Use, around: Around) -> ScriptStep
     ensures { step_view result ≡ machine.goes
         (inner around (machine.at (machine.in_expression (use_view purpose) expr.operand_next []))) }
@@ -39,7 +36,7 @@ fn expression_after(mark: Punctuation, purpose: Use, around: Around, turn: Turn<
         (inner around (machine.at (machine.in_expression (use_view purpose) expr.operand_next []))) else machine.stuck) }
 {
     if !turn.is(mark) {
-        return ScriptStep::Refused;
+        return refused((purpose, around));
     }
     expression_next(turn.alloc, purpose, around)
 }
@@ -50,7 +47,7 @@ fn braces_after(owner: Owner, around: Around, turn: Turn<'_>) -> ScriptStep
         then machine.goes (inner around (machine.at (machine.braces_next (owner_view owner)))) else machine.stuck) }
 {
     if !turn.is(Punctuation::RightParen) {
-        return ScriptStep::Refused;
+        return refused((owner, around));
     }
     goes(StatementState::BracesNext(owner), around)
 }
@@ -63,23 +60,31 @@ fn function(around: Around) -> ScriptStep
     ensures { step_view result ≡ inner around machine.function_by }
 {
     if around.levels.depth() > 0 {
-        return ScriptStep::Refused;
+        return refused(around);
     }
     ScriptStep::Goes(State::Head(HeadState::AfterFunction, around))
 }
 
+// After the first token of an expression that is a statement, or of the name before `=`.
+fn value_step(step: ExprStep, around: Around) -> ScriptStep
+    ensures { step_view result ≡ inner around (machine.in_statement (expr_step_view step) machine.to_value) }
+{
+    match step {
+        ExprStep::Keeps(state, frames) => {
+            let here = StatementState::InExpression(Use::Value, state, frames);
+            goes(here, around)
+        }
+        other => refused((other, around)),
+    }
+}
+
 // The first token of an expression that is a statement, or of the name before `=`.
-#[tactic(auto, using(crate::proofs::FrameLemmas::of_frames))]
+#[tactic(auto, using(avs_frames::proofs::FrameLemmas::frames_none))]
 fn value(around: Around, turn: Turn<'_>) -> Outcome<ScriptStep>
     ensures { Steps result (inner around (machine.in_statement (expr.operand [] (seen turn.entry)) machine.to_value)) }
 {
-    match operand(Vec::new(turn.alloc), turn)? {
-        ExprStep::Keeps(state, frames) => {
-            let here = StatementState::InExpression(Use::Value, state, frames);
-            Ok(goes(here, around))
-        }
-        _ => Ok(ScriptStep::Refused),
-    }
+    let step = operand(Vec::new(turn.alloc), turn)?;
+    Ok(value_step(step, around))
 }
 
 // The first token of a statement in this line.
@@ -140,7 +145,7 @@ fn after_value(expr: Expr, around: Around, turn: Turn<'_>) -> Outcome<ScriptStep
     }
     match expr {
         Expr::Name { name, line: _ } => Ok(expression_next(turn.alloc, Use::Assign(name), around)),
-        _ => Ok(ScriptStep::Refused),
+        other => Ok(refused((other, around))),
     }
 }
 
@@ -191,6 +196,21 @@ fn after_expression(purpose: Use, expr: Expr, around: Around, turn: Turn<'_>) ->
     }
 }
 
+// After a token of an expression.
+fn after_step(step: ExprStep, purpose: Use, around: Around, turn: Turn<'_>) -> Outcome<ScriptStep>
+    ensures { Steps result (inner around
+        (machine.expression_by (expr_step_view step) (use_view purpose)) (seen turn.entry)) }
+{
+    match step {
+        ExprStep::Refused => Ok(refused((purpose, around))),
+        ExprStep::Keeps(state, frames) => {
+            let here = StatementState::InExpression(purpose, state, frames);
+            Ok(goes(here, around))
+        }
+        ExprStep::Leaves(expr) => after_expression(purpose, expr, around, turn),
+    }
+}
+
 // In an expression.
 fn in_expression(
     purpose: Use,
@@ -202,20 +222,39 @@ fn in_expression(
     ensures { Steps result (inner around (machine.advance_statement
         (machine.in_expression (use_view purpose) (expr_state_view state) (frames_view frames.items))) (seen turn.entry)) }
 {
-    match expr_step(state, frames, turn)? {
-        ExprStep::Refused => Ok(ScriptStep::Refused),
-        ExprStep::Keeps(state, frames) => {
-            let here = StatementState::InExpression(purpose, state, frames);
-            Ok(goes(here, around))
+    match expr_step(state, frames, turn) {
+        Ok(step) => after_step(step, purpose, around, turn),
+        Err(error) => {
+            // Dropped in place, each of their parts would be a step of this proof.
+            drop((purpose, around));
+            Err(error)
         }
-        ExprStep::Leaves(expr) => after_expression(purpose, expr, around, turn),
     }
 }
 
 // ---- braces
 
+impl Levels {
+    // One more open brace, inside of the others.
+    #[tactic(auto, using(crate::proofs::LevelLemmas::of_levels))]
+    fn with(self, level: Level) -> Outcome<Levels>
+        ensures { IfOk result (λ made. levels_view made ≡ level_view level (levels_view self)) }
+    {
+        let Levels {
+            inner,
+            function,
+            functions,
+        } = self;
+        let inner = pushed(inner, level)?;
+        Ok(Levels {
+            inner,
+            function,
+            functions,
+        })
+    }
+}
+
 // After the left brace of a statement.
-#[tactic(auto, using(crate::proofs::LevelLemmas::of_levels))]
 fn open(alloc: Global, owner: Owner, around: Around) -> Outcome<ScriptStep>
     ensures { Steps result (machine.goes (machine.at machine.statement_next around.line []
         (inner around (machine.level (owner_view owner))))) }
@@ -223,9 +262,9 @@ fn open(alloc: Global, owner: Owner, around: Around) -> Outcome<ScriptStep>
     let Around {
         line,
         before,
-        mut levels,
+        levels,
     } = around;
-    levels.inner.push(Level {
+    let levels = levels.with(Level {
         owner,
         line,
         before,
@@ -248,7 +287,7 @@ fn body(owner: Owner, around: Around, turn: Turn<'_>) -> Outcome<ScriptStep>
             Ok(goes(StatementState::BracesNext(owner), around))
         }
         Symbol::Punctuation(Punctuation::LeftBrace) => open(turn.alloc, owner, around),
-        _ => Ok(ScriptStep::Refused),
+        _ => Ok(refused((owner, around))),
     }
 }
 
@@ -297,10 +336,10 @@ fn global_name(around: Around, turn: Turn<'_>) -> Outcome<ScriptStep>
 {
     match turn.symbol {
         Symbol::Name => {
-            let name = Text::from_str(turn.alloc, turn.content)?;
+            let name = turn.text()?;
             Ok(goes(StatementState::AfterGlobalName(name), around))
         }
-        _ => Ok(ScriptStep::Refused),
+        _ => Ok(refused(around)),
     }
 }
 
@@ -310,10 +349,10 @@ fn for_name(around: Around, turn: Turn<'_>) -> Outcome<ScriptStep>
 {
     match turn.symbol {
         Symbol::Name => {
-            let name = Text::from_str(turn.alloc, turn.content)?;
+            let name = turn.text()?;
             Ok(goes(StatementState::AfterForName(name), around))
         }
-        _ => Ok(ScriptStep::Refused),
+        _ => Ok(refused(around)),
     }
 }
 
@@ -322,7 +361,7 @@ fn for_parenthesis(around: Around, turn: Turn<'_>) -> ScriptStep
     ensures { step_view result ≡ inner around (machine.advance_statement machine.after_for) (seen turn.entry) }
 {
     if !turn.is(Punctuation::LeftParen) {
-        return ScriptStep::Refused;
+        return refused(around);
     }
     goes(StatementState::ForOpened, around)
 }

@@ -1,20 +1,19 @@
 // What a token does to an expression.
-ghost use Rattle.std.specs.Prelude.{◌≡◌, ◌∷◌, Some, map};
+ghost use Rattle.std.specs.Prelude.{◌≡◌, ◌∷◌, Some, map, IfOk};
 ghost use Rattle.avs_tree.specs.View.{expr_view, method_call_view};
 ghost use Rattle.avs_place.specs.ExprMachine as machine;
-ghost use Rattle.avs_parse.specs.ExprViews.{Makes, callee_view, frame_view, frames_view, expr_state_view, expr_step_view};
-ghost use Rattle.avs_parse.specs.Seen.{seen};
-ghost use Rattle.avs_parse.specs.declared.frame.ExprState.TheVariants.{DotRead, MethodRead};
+ghost use Rattle.avs_frames.specs.ExprViews.{Makes, callee_view, frame_view, frames_view, expr_state_view, expr_step_view};
+ghost use Rattle.avs_frames.specs.Seen.{seen};
+ghost use Rattle.avs_frames.specs.declared.frame.ExprState.TheVariants.{DotRead, MethodRead};
 
 use crate::closing::{called, close_frame};
-use crate::fault::Outcome;
 use crate::frame::{
     COMPARISON, Callee, Closing, EXPRESSION, ExprState, ExprStep, Frame, Named, OperatorAt,
     POSTFIX, PRIMARY, Receiver,
 };
+use crate::memory::{Outcome, boxed, pushed};
 use crate::turn::Turn;
 use avs_tree::{DotCall, Expr, Keyword, Operator, Punctuation, Symbol};
-use fv_io::Text;
 use std::alloc::Global;
 
 // A whole primary.
@@ -26,11 +25,21 @@ fn primary(expr: Expr, frames: Vec<Frame>) -> ExprStep
 
 // A new innermost frame.
 #[tactic(auto, using(crate::proofs::FrameLemmas::frames_push))]
-fn open(mut frames: Vec<Frame>, frame: Frame) -> Outcome<ExprStep>
+fn open(frames: Vec<Frame>, frame: Frame) -> Outcome<ExprStep>
     ensures { Makes result (machine.keeps machine.operand_next (frame_view frame ∷ frames_view frames.items)) }
 {
-    frames.push(frame)?;
+    let frames = pushed(frames, frame)?;
     Ok(ExprStep::Keeps(ExprState::OperandNext, frames))
+}
+
+// A name and its line.
+fn named(turn: Turn<'_>) -> Outcome<Named>
+    ensures name { IfOk result (λ made. made.name ≡ turn.entry.content.now) }
+    ensures line { IfOk result (λ made. made.line ≡ turn.entry.line) }
+{
+    let name = turn.text()?;
+    let line = turn.line;
+    Ok(Named { name, line })
 }
 
 /// The first token of an operand.
@@ -42,14 +51,13 @@ pub fn operand(frames: Vec<Frame>, turn: Turn<'_>) -> Outcome<ExprStep>
     match turn.symbol {
         Symbol::Int(number) => Ok(primary(Expr::Int(number), frames)),
         Symbol::Str => {
-            let text = Text::from_str(turn.alloc, turn.content)?;
+            let text = turn.text()?;
             Ok(primary(Expr::Str(text), frames))
         }
         Symbol::Keyword(Keyword::True) => Ok(primary(Expr::Bool(true), frames)),
         Symbol::Keyword(Keyword::False) => Ok(primary(Expr::Bool(false), frames)),
         Symbol::Name => {
-            let name = Text::from_str(turn.alloc, turn.content)?;
-            let state = ExprState::NameRead(Named { name, line });
+            let state = ExprState::NameRead(named(turn)?);
             Ok(ExprStep::Keeps(state, frames))
         }
         Symbol::Punctuation(Punctuation::LeftParen) => open(frames, Frame::Paren),
@@ -60,8 +68,8 @@ pub fn operand(frames: Vec<Frame>, turn: Turn<'_>) -> Outcome<ExprStep>
 }
 
 // An operator after its first operand.
-fn operator(alloc: Global, first: Expr, op: Operator, line: u32) -> Frame
-    ensures { frame_view result ≡ machine.operand_of op (expr_view first) line }
+fn operator(alloc: Global, first: Box<Expr>, op: Operator, line: u32) -> Frame
+    ensures { frame_view result ≡ machine.operand_of op (expr_view first.value) line }
 {
     let last = OperatorAt { op, line };
     if op.precedence() == COMPARISON {
@@ -76,6 +84,7 @@ fn grow(first: Expr, frames: Vec<Frame>, turn: Turn<'_>) -> Outcome<ExprStep>
     ensures { Makes result (machine.grow (expr_view first) (frames_view frames.items) (seen turn.entry)) }
 {
     let line = turn.line;
+    let first = boxed(turn.alloc, first)?;
     match turn.symbol {
         Symbol::Punctuation(Punctuation::Dot) => {
             let calls = Vec::new(turn.alloc);
@@ -85,6 +94,17 @@ fn grow(first: Expr, frames: Vec<Frame>, turn: Turn<'_>) -> Outcome<ExprStep>
         Symbol::Punctuation(Punctuation::Question) => open(frames, Frame::Yes(first, line)),
         Symbol::Operator(op) => open(frames, operator(turn.alloc, first, op, line)),
         _ => Ok(ExprStep::Refused),
+    }
+}
+
+// The highest precedence of what comes next.
+#[tactic(auto, using(crate::proofs::FrameLemmas::of_hole))]
+fn hole(frames: &[Frame]) -> u8
+    ensures { result ≡ machine.hole (frames_view frames.now) }
+{
+    match frames.last() {
+        Some(frame) => frame.hole(),
+        None => EXPRESSION,
     }
 }
 
@@ -98,11 +118,11 @@ fn after(
 ) -> Outcome<ExprStep>
     ensures { Makes result (machine.after precedence (expr_view expr) (frames_view frames.items) (seen turn.entry)) }
 {
-    while let Some(frame) = frames.pop() {
-        if turn.continues(precedence, frame.hole()) {
-            frames.push(frame)?;
-            return grow(expr, frames, turn);
-        }
+    while !turn.continues(precedence, hole(&frames)) {
+        let frame = match frames.pop() {
+            Some(frame) => frame,
+            None => return Ok(ExprStep::Leaves(expr)),
+        };
         match close_frame(frame, expr, turn)? {
             Closing::Refused => return Ok(ExprStep::Refused),
             Closing::Taken(state) => return Ok(ExprStep::Keeps(state, frames)),
@@ -114,10 +134,7 @@ fn after(
             }
         }
     }
-    if turn.continues(precedence, EXPRESSION) {
-        return grow(expr, frames, turn);
-    }
-    Ok(ExprStep::Leaves(expr))
+    grow(expr, frames, turn)
 }
 
 // After a name.
@@ -135,7 +152,7 @@ fn after_name(called: Named, frames: Vec<Frame>, turn: Turn<'_>) -> Outcome<Expr
 
 // After the left parenthesis of arguments.
 #[tactic(auto, using(crate::proofs::FrameLemmas::frames_push))]
-fn first_argument(callee: Callee, mut frames: Vec<Frame>, turn: Turn<'_>) -> Outcome<ExprStep>
+fn first_argument(callee: Callee, frames: Vec<Frame>, turn: Turn<'_>) -> Outcome<ExprStep>
     ensures { Makes result (machine.expr_step (machine.args_opened (callee_view callee))
         (frames_view frames.items) (seen turn.entry)) }
 {
@@ -144,7 +161,7 @@ fn first_argument(callee: Callee, mut frames: Vec<Frame>, turn: Turn<'_>) -> Out
         let state = called(callee, found)?;
         return Ok(ExprStep::Keeps(state, frames));
     }
-    frames.push(Frame::Argument(callee, found, None))?;
+    let frames = pushed(frames, Frame::Argument(callee, found, None))?;
     operand(frames, turn)
 }
 
@@ -155,9 +172,7 @@ fn method_name(receiver: Receiver, frames: Vec<Frame>, turn: Turn<'_>) -> Outcom
 {
     match turn.symbol {
         Symbol::Name => {
-            let name = Text::from_str(turn.alloc, turn.content)?;
-            let line = turn.line;
-            let state = ExprState::MethodRead(receiver, Named { name, line });
+            let state = ExprState::MethodRead(receiver, named(turn)?);
             Ok(ExprStep::Keeps(state, frames))
         }
         _ => Ok(ExprStep::Refused),
@@ -166,21 +181,20 @@ fn method_name(receiver: Receiver, frames: Vec<Frame>, turn: Turn<'_>) -> Outcom
 
 // After method calls.
 fn after_calls(receiver: Receiver, frames: Vec<Frame>, turn: Turn<'_>) -> Outcome<ExprStep>
-    ensures { Makes result (machine.after_calls (expr_view receiver.first)
+    ensures { Makes result (machine.after_calls (expr_view receiver.first.value)
         (map method_call_view receiver.calls.items) (frames_view frames.items) (seen turn.entry)) }
 {
     if turn.is(Punctuation::Dot) {
         return Ok(ExprStep::Keeps(ExprState::DotRead(receiver), frames));
     }
     let Receiver { first, calls } = receiver;
-    let first = Box::new(turn.alloc, first)?;
     after(POSTFIX, Expr::Dots { first, calls }, frames, turn)
 }
 
 // After the name of a method.
 #[tactic(auto, using(crate::proofs::RowLemmas::of_rows))]
 fn after_method(
-    mut receiver: Receiver,
+    receiver: Receiver,
     method: Named,
     frames: Vec<Frame>,
     turn: Turn<'_>,
@@ -194,7 +208,7 @@ fn after_method(
     }
     let Named { name, line } = method;
     let args = None;
-    receiver.calls.push(DotCall { name, args, line })?;
+    let receiver = receiver.with_call(DotCall { name, args, line })?;
     after_calls(receiver, frames, turn)
 }
 

@@ -1,7 +1,7 @@
 -- What the machine sees in a turn.
 use Rattle.std.specs.Prelude.{[], ◌∷◌}
 use Rattle.avs_tree.specs.Lexeme as x
-use Rattle.avs_parse.specs.declared.turn.Turn.{Turn}
+use Rattle.avs_frames.specs.declared.turn.Turn.{Turn}
 
 abbrev pub lexeme_view : Turn → x.Lexeme
 lexeme_view t = (t.symbol, t.content.now, t.line)

@@ -1,6 +1,6 @@
 use Rattle.std.proofs.Common.{◌≡◌, ◌≤◌, sum, map, take}
-use Rattle.avs_parse.specs.Open.{opens}
-use Rattle.avs_parse.proofs.nesting.frames_level.Given as goal
+use Rattle.avs_frames.specs.Open.{opens}
+use Rattle.avs_frames.proofs.nesting.frames_level.Given as goal
 
 abbrev pub invariant-loop-frame : goal.invariant-loop-frame
 invariant-loop-frame l = record {

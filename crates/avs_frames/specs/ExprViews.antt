@@ -2,31 +2,31 @@
 use Rattle.std.specs.Prelude.{◌≡◌, List, [], ◌∷◌, map, Result, IfOk}
 use Rattle.avs_tree.specs.View.{expr_view, arg_view, method_call_view, step_view}
 use Rattle.avs_place.specs.ExprMachine as x
-use Rattle.avs_parse.specs.declared.fault.OutOfMemory.{OutOfMemory}
-use Rattle.avs_parse.specs.declared.frame.Callee.{Callee}
-use Rattle.avs_parse.specs.declared.frame.Callee.TheVariants as k
-use Rattle.avs_parse.specs.declared.frame.Frame.{Frame}
-use Rattle.avs_parse.specs.declared.frame.Frame.TheVariants as f
-use Rattle.avs_parse.specs.declared.frame.ExprState.{ExprState}
-use Rattle.avs_parse.specs.declared.frame.ExprState.TheVariants as n
-use Rattle.avs_parse.specs.declared.frame.ExprStep.{ExprStep}
-use Rattle.avs_parse.specs.declared.frame.ExprStep.TheVariants as r
-use Rattle.avs_parse.specs.declared.frame.Closing.{Closing}
-use Rattle.avs_parse.specs.declared.frame.Closing.TheVariants as g
+use Rattle.avs_frames.specs.declared.memory.OutOfMemory.{OutOfMemory}
+use Rattle.avs_frames.specs.declared.frame.Callee.{Callee}
+use Rattle.avs_frames.specs.declared.frame.Callee.TheVariants as k
+use Rattle.avs_frames.specs.declared.frame.Frame.{Frame}
+use Rattle.avs_frames.specs.declared.frame.Frame.TheVariants as f
+use Rattle.avs_frames.specs.declared.frame.ExprState.{ExprState}
+use Rattle.avs_frames.specs.declared.frame.ExprState.TheVariants as n
+use Rattle.avs_frames.specs.declared.frame.ExprStep.{ExprStep}
+use Rattle.avs_frames.specs.declared.frame.ExprStep.TheVariants as r
+use Rattle.avs_frames.specs.declared.frame.Closing.{Closing}
+use Rattle.avs_frames.specs.declared.frame.Closing.TheVariants as g
 
 abbrev pub callee_view : Callee → x.Callee
 callee_view (k.Call n) = x.call_of n.name n.line
-callee_view (k.Method e n) = x.method_of (expr_view e.first) (map method_call_view e.calls.items) n.name n.line
+callee_view (k.Method e n) = x.method_of (expr_view e.first.value) (map method_call_view e.calls.items) n.name n.line
 
 abbrev pub frame_view : Frame → x.Frame
 frame_view f.Paren = x.paren
 frame_view (f.Argument c found n) = x.argument (callee_view c) (map arg_view found.items) n
 frame_view (f.Minus line) = x.minus_of line
 frame_view (f.Not line) = x.not_of line
-frame_view (f.Chain e ss last) = x.chain_of (expr_view e) (map step_view ss.items) last.op last.line
-frame_view (f.Compare e last) = x.compare_of last.op (expr_view e) last.line
-frame_view (f.Yes e line) = x.yes_of (expr_view e) line
-frame_view (f.No e yes_ line) = x.no_of (expr_view e) (expr_view yes_) line
+frame_view (f.Chain e ss last) = x.chain_of (expr_view e.value) (map step_view ss.items) last.op last.line
+frame_view (f.Compare e last) = x.compare_of last.op (expr_view e.value) last.line
+frame_view (f.Yes e line) = x.yes_of (expr_view e.value) line
+frame_view (f.No e yes_ line) = x.no_of (expr_view e.value) (expr_view yes_.value) line
 
 -- The innermost frame is last in the code, and first here.
 abbrev pub onto : List x.Frame → List Frame → List x.Frame
@@ -41,9 +41,9 @@ expr_state_view n.OperandNext = x.operand_next
 expr_state_view (n.ValueRead k e) = x.value_read k (expr_view e)
 expr_state_view (n.NameRead n) = x.name_read n.name n.line
 expr_state_view (n.ArgsOpened c) = x.args_opened (callee_view c)
-expr_state_view (n.DotRead e) = x.dot_read (expr_view e.first) (map method_call_view e.calls.items)
-expr_state_view (n.MethodRead e n) = x.method_read (expr_view e.first) (map method_call_view e.calls.items) n.name n.line
-expr_state_view (n.CallsRead e) = x.calls_read (expr_view e.first) (map method_call_view e.calls.items)
+expr_state_view (n.DotRead e) = x.dot_read (expr_view e.first.value) (map method_call_view e.calls.items)
+expr_state_view (n.MethodRead e n) = x.method_read (expr_view e.first.value) (map method_call_view e.calls.items) n.name n.line
+expr_state_view (n.CallsRead e) = x.calls_read (expr_view e.first.value) (map method_call_view e.calls.items)
 
 abbrev pub expr_step_view : ExprStep → x.ExprStep
 expr_step_view r.Refused = x.refused

@@ -1,12 +1,12 @@
 -- The innermost frame.
-use Rattle.std.proofs.Common.{◌≡◌, refl, ◌+◌, arith, List, [], ◌∷◌, ◌++◌, map, sum}
+use Rattle.std.proofs.Common.{◌≡◌, refl, ap, ◌+◌, ◌-◌, arith, List, [], ◌∷◌, ◌++◌, length, map, sum, slice_get, Some, None}
 use Rattle.std.proofs.lemmas.List.Sums.{sum_by-cons}
 use Rattle.avs_place.specs.ExprMachine as x
 use Rattle.avs_place.specs.Nesting.{frames_level}
-use Rattle.avs_parse.specs.Open.{opens}
-use Rattle.avs_parse.specs.ExprViews.{frame_view, onto, frames_view}
-use Rattle.avs_parse.specs.declared.frame.Frame.{Frame}
-use Rattle.avs_parse.specs.declared.frame.Frame.TheVariants as f
+use Rattle.avs_frames.specs.Open.{opens}
+use Rattle.avs_frames.specs.ExprViews.{frame_view, onto, frames_view}
+use Rattle.avs_frames.specs.declared.frame.Frame.{Frame}
+use Rattle.avs_frames.specs.declared.frame.Frame.TheVariants as f
 
 onto_push : (outer : List x.Frame) (fs : List Frame) (f : Frame) → onto outer (fs ++ f ∷ []) ≡ frame_view f ∷ onto outer fs
 onto_push outer [] f = refl
@@ -21,6 +21,28 @@ unfolding frames_view
 frames_none = refl
 
 pub ruleset of_frames = (frames_push, frames_none)
+
+-- ---- what comes next
+
+hole_onto : (outer : List x.Frame) (g : Frame) (fs : List Frame) (f : Frame) → slice_get (g ∷ fs) (length fs) ≡ Some f → x.hole (onto outer (g ∷ fs)) ≡ x.hole_of (frame_view f)
+hole_onto outer g [] f is = let e : g ≡ f = cc in ap (λ h. x.hole_of (frame_view h)) e
+hole_onto outer g (h ∷ fs) f is = hole_onto (frame_view g ∷ outer) h fs f is
+
+pub hole_some : (fs : List Frame) (f : Frame) → slice_get fs (length fs - 1) ≡ Some f → x.hole (frames_view fs) ≡ x.hole_of (frame_view f)
+unfolding frames_view
+hole_some [] f is = cc
+hole_some (g ∷ fs) f is = let n : length (g ∷ fs) - 1 ≡ length fs = omega arith in hole_onto [] g fs f (rw n at is)
+
+none_last : (g : Frame) (fs : List Frame) → slice_get (g ∷ fs) (length fs) ≡ None → ⊥
+none_last g [] is = cc
+none_last g (h ∷ fs) is = none_last h fs is
+
+pub hole_none : (fs : List Frame) → slice_get fs (length fs - 1) ≡ None → x.hole (frames_view fs) ≡ 8
+unfolding frames_view
+hole_none [] is = refl
+hole_none (g ∷ fs) is = let n : length (g ∷ fs) - 1 ≡ length fs = omega arith in absurd (none_last g fs (rw n at is))
+
+pub ruleset of_hole = (hole_some, hole_none)
 
 -- ---- levels of nesting
 

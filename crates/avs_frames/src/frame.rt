@@ -1,9 +1,10 @@
 // What is open in an expression, and what was read of it last.
-ghost use Rattle.std.specs.Prelude.{◌≡◌};
+ghost use Rattle.std.specs.Prelude.{◌≡◌, ◌∷◌, ◌++◌, [], IfOk};
 ghost use Rattle.avs_place.specs.ExprMachine as machine;
-ghost use Rattle.avs_parse.specs.ExprViews.{frame_view};
-ghost use Rattle.avs_parse.specs.Open.{opens};
+ghost use Rattle.avs_frames.specs.ExprViews.{frame_view};
+ghost use Rattle.avs_frames.specs.Open.{opens};
 
+use crate::memory::{Outcome, pushed};
 use avs_tree::{Arg, DotCall, Expr, Operator, Step};
 use fv_io::Text;
 
@@ -35,7 +36,7 @@ pub struct OperatorAt {
 /// `e.f(..).g`: an expression and the method calls after it.
 #[derive(Drop)]
 pub struct Receiver {
-    pub first: Expr,
+    pub first: Box<Expr>,
     pub calls: Vec<DotCall>,
 }
 
@@ -60,13 +61,13 @@ pub enum Frame {
     /// `!`
     Not(u32),
     /// `a + b -`
-    Chain(Expr, Vec<Step>, OperatorAt),
+    Chain(Box<Expr>, Vec<Step>, OperatorAt),
     /// `a <`
-    Compare(Expr, OperatorAt),
+    Compare(Box<Expr>, OperatorAt),
     /// `c ?`
-    Yes(Expr, u32),
+    Yes(Box<Expr>, u32),
     /// `c ? a :`
-    No(Expr, Expr, u32),
+    No(Box<Expr>, Box<Expr>, u32),
 }
 
 /// What was read last of an expression.
@@ -110,6 +111,18 @@ pub enum Closing {
     Reopened(Frame),
     /// The frame ends before it, as an expression of this precedence.
     Closed(u8, Expr),
+}
+
+impl Receiver {
+    /// One more method call.
+    pub fn with_call(self, call: DotCall) -> Outcome<Receiver>
+        ensures first { IfOk result (λ made. made.first ≡ self.first) }
+        ensures calls { IfOk result (λ made. made.calls.items ≡ self.calls.items ++ call ∷ []) }
+    {
+        let Receiver { first, calls } = self;
+        let calls = pushed(calls, call)?;
+        Ok(Receiver { first, calls })
+    }
 }
 
 impl Frame {

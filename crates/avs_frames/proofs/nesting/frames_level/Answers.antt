@@ -1,8 +1,8 @@
 use Rattle.std.proofs.Common.{◌≡◌, ◌∙◌, sym, ap, take, length, map, sum, arith}
 use Rattle.std.proofs.Math.Seq.{take-length}
-use Rattle.avs_parse.specs.Open.{opens}
-use Rattle.avs_parse.proofs.FrameLemmas.{frames_level_is}
-use Rattle.avs_parse.proofs.nesting.frames_level.Goals as goal
+use Rattle.avs_frames.specs.Open.{opens}
+use Rattle.avs_frames.proofs.FrameLemmas.{frames_level_is}
+use Rattle.avs_frames.proofs.nesting.frames_level.Goals as goal
 
 pub returns-clause-level : goal.returns-clause-level
 returns-clause-level c =

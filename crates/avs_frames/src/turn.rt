@@ -1,13 +1,15 @@
 // One turn of the machine: a token, and memory for what is made of it.
-ghost use Rattle.std.specs.Prelude.{◌≡◌, Some};
+ghost use Rattle.std.specs.Prelude.{◌≡◌, Some, IfOk};
 ghost use Rattle.avs_lex.specs.TokenList.{IsTokenOf};
 ghost use Rattle.avs_tree.specs.Lexeme.{lexeme_of};
 ghost use Rattle.avs_place.specs.Next as next;
 ghost use Rattle.avs_place.specs.ExprMachine as machine;
-ghost use Rattle.avs_parse.specs.Seen.{lexeme_view, seen};
+ghost use Rattle.avs_frames.specs.Seen.{lexeme_view, seen};
 
+use crate::memory::Outcome;
 use avs_lex::Token;
 use avs_tree::{Operator, Punctuation, Symbol, content, symbol_of};
+use fv_io::Text;
 use std::alloc::Global;
 
 /// A token: its symbol, what it says, and its line.
@@ -32,6 +34,13 @@ impl<'a> Turn<'a> {
             content: content(text, token),
             line: token.line,
         }
+    }
+
+    /// What the token says.
+    pub fn text(self) -> Outcome<Text>
+        ensures { IfOk result (λ made. made ≡ self.entry.content.now) }
+    {
+        Ok(Text::from_str(self.alloc, self.content)?)
     }
 
     /// Whether the token is this punctuation.

@@ -1,0 +1,3 @@
+pub mod Seen
+pub mod ExprViews
+pub mod Open
