@@ -1,7 +1,6 @@
 -- What a sample of a filter rests on.
 use Rattle.std.specs.Prelude.{◌≡◌, ℕ, ◌+◌, ◌*◌, ◌<◌, ◌≤◌, List, length, None}
 use Rattle.fv_plane.specs.declared.format.Info.{Info}
-use Rattle.fv_plane.specs.Format.{IsLegal}
 use Rattle.fv_plane.specs.Refusals.{first_fault}
 use Rattle.clip_term.specs.declared.op.SoftOp.{SoftOp}
 use Rattle.clip_term.specs.declared.op.SoftOp.TheVariants as op
@@ -27,6 +26,6 @@ IsReady (plain info colour) infos k = ⊥
 IsReady (time op) infos k = k ≡ 1
 IsReady (space op) infos k =
     (0 < length infos) × (k ≡ 1) × (first_fault (space_refusals op (info_at infos 0).shape) ≡ None)
-    × IsLegal (info_at infos 0).shape
+    × ((info_at infos 0).shape.bits ≡ 8)
 IsReady (joined op) infos k = k ≡ length infos
-IsReady (soft op) infos k = (0 < length infos) × HasNeighbours op k × IsLegal (info_at infos 0).shape
+IsReady (soft op) infos k = (0 < length infos) × HasNeighbours op k × ((info_at infos 0).shape.bits ≡ 8)

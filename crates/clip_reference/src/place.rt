@@ -1,6 +1,6 @@
 // Samples by their places, and offsets and colours on a plane.
 ghost use Rattle.std.specs.Prelude.{◌≡◌, map};
-ghost use Rattle.fv_plane.specs.Format.{IsLegal, largest_sample, scale, plane_width, plane_height};
+ghost use Rattle.fv_plane.specs.Format.{largest_sample, scale, plane_width, plane_height};
 ghost use Rattle.fv_plane.specs.Look.{look_in, look_at, across, down};
 
 use fv_plane::{Frame, Shape};
@@ -64,7 +64,7 @@ pub fn down(shape: Shape, plane: u32, n: u32) -> u64
 
 /// The largest value of a sample.
 pub fn largest_sample(shape: Shape) -> u8
-    requires { IsLegal shape }
+    requires { shape.bits ≡ 8 }
     ensures { result ≡ largest_sample shape }
 {
     255
@@ -72,7 +72,7 @@ pub fn largest_sample(shape: Shape) -> u8
 
 /// The factor from a value of eight bits to a sample.
 pub fn scale(shape: Shape) -> u8
-    requires { IsLegal shape }
+    requires { shape.bits ≡ 8 }
     ensures { result ≡ scale shape }
 {
     1

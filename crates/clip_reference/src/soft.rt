@@ -1,7 +1,7 @@
 // The samples of what a frame becomes by its neighbours.
 ghost use Rattle.std.specs.Prelude.{◌≡◌, ◌≢◌, int_div, ◌+◌, ◌-◌, ◌*◌, ◌/◌, ◌≤◌, ◌<◌, ℤ, pos, ◌≤ℤ◌, ◌*ℤ◌, neg_ℤ, ◌^◌, length, map};
 ghost use Rattle.std.specs.List.{sum};
-ghost use Rattle.fv_plane.specs.Format.{IsLegal, scale, largest_sample};
+ghost use Rattle.fv_plane.specs.Format.{scale, largest_sample};
 ghost use Rattle.fv_plane.specs.Look.{look_in, look_at};
 ghost use Rattle.clip_term.specs.Refusals.{nat_of};
 ghost use Rattle.clip_term.specs.Soft.{soft_at, softened, near, samples_at, side_of, place, weighed, total, divisor_of, sample_from, convolved};
@@ -14,7 +14,7 @@ use fv_plane::{Frame, Shape};
 /// A sample of what the op makes of the frames that it asks.
 pub fn soft_sample(op: &SoftOp, shape: Shape, frames: &[Frame], plane: u32, x: u32, y: u32) -> u8
     requires asked { HasNeighbours op.now (length frames.now) }
-    requires legal { IsLegal shape }
+    requires narrow { shape.bits ≡ 8 }
     ensures { result ≡ soft_at op.now shape (map look_in frames.now) plane x y }
 {
     match op {
@@ -62,7 +62,7 @@ fn softened(
     y: u32,
 ) -> u8
     requires count { length frames.now ≡ 2 * nat_of radius + 1 }
-    requires legal { IsLegal shape }
+    requires narrow { shape.bits ≡ 8 }
     ensures { result ≡ softened (nat_of radius) (nat_of threshold * scale shape)
         (look_at (map look_in frames.now) (nat_of radius) plane x y) (samples_at (map look_in frames.now) plane x y) }
 {
@@ -168,7 +168,7 @@ fn mean(sum: i64, divisor: i64) -> i64
 }
 
 fn scaled(bias: i32, shape: Shape) -> i64
-    requires { IsLegal shape }
+    requires { shape.bits ≡ 8 }
     ensures value { result ≡ bias *ℤ pos (scale shape) }
     ensures low { neg_ℤ (pos (2 ^ 31)) ≤ℤ result }
     ensures high { result ≤ℤ pos (2 ^ 31) }
@@ -186,7 +186,7 @@ fn convolved(
     y: u32,
 ) -> u8
     requires size { length matrix.now ≤ 25 }
-    requires legal { IsLegal shape }
+    requires narrow { shape.bits ≡ 8 }
     ensures { result ≡ convolved bias matrix.now shape (look_in input.now) plane x y }
 {
     let sum = weighed(matrix, shape, input, plane, x, y);

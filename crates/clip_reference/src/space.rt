@@ -1,6 +1,6 @@
 // The samples of what a frame becomes.
 ghost use Rattle.std.specs.Prelude.{◌≡◌, ◌+◌, ◌-◌, ◌*◌, ◌≤◌, ◌&&◌, None, pos, if◌then◌else◌, ◌==◌};
-ghost use Rattle.fv_plane.specs.Format.{IsLegal, largest_sample, scale, plane_width, plane_height};
+ghost use Rattle.fv_plane.specs.Format.{largest_sample, scale, plane_width, plane_height};
 ghost use Rattle.fv_plane.specs.Look.{look_in, across, down};
 ghost use Rattle.fv_plane.specs.Refusals.{first_fault};
 ghost use Rattle.clip_term.specs.Refusals.{nat_of, paint};
@@ -13,7 +13,7 @@ use fv_plane::{Frame, Shape};
 /// A sample of what the op makes of a frame of this shape.
 pub fn space_sample(op: &SpaceOp, shape: Shape, input: &Frame, plane: u32, x: u32, y: u32) -> u8
     requires accepted { first_fault (space_refusals op.now shape) ≡ None }
-    requires legal { IsLegal shape }
+    requires narrow { shape.bits ≡ 8 }
     ensures { result ≡ space_at op.now shape (look_in input.now) plane x y }
 {
     let column = x as u64;
@@ -84,7 +84,7 @@ fn bordered(
     x: u32,
     y: u32,
 ) -> u8
-    requires { IsLegal shape }
+    requires { shape.bits ≡ 8 }
     ensures { result
         ≡ space_at (SpaceOp.AddBorders left top (pos 0) (pos 0) colour) shape (look_in input.now) plane x y }
 {
@@ -110,7 +110,7 @@ fn upside_down(shape: Shape, input: &Frame, plane: u32, x: u64, y: u64) -> u8
 
 // The sample, or the colour where the picture is covered.
 fn painted(uncovered: bool, sample: u8, colour: i32, shape: Shape, plane: u32) -> u8
-    requires { IsLegal shape }
+    requires { shape.bits ≡ 8 }
     ensures { result ≡ (if uncovered then sample else paint colour shape plane) }
 {
     if uncovered {
@@ -134,7 +134,7 @@ fn is_within(start: u64, end: u64, at: u64) -> bool
 }
 
 fn paint(colour: i32, shape: Shape, plane: u32) -> u8
-    requires { IsLegal shape }
+    requires { shape.bits ≡ 8 }
     ensures { result ≡ paint colour shape plane }
 {
     part_of(colour.unsigned_abs(), plane) * scale(shape)
@@ -187,7 +187,7 @@ fn is_open(
 }
 
 fn grey(shape: Shape, plane: u32, sample: u8) -> u8
-    requires { IsLegal shape }
+    requires { shape.bits ≡ 8 }
     ensures { result ≡ (if plane == 0 then sample else 128 * scale shape) }
 {
     if plane == 0 {
@@ -210,7 +210,7 @@ fn is_among(channels: Channels, plane: u32) -> bool
 }
 
 fn inverted(channels: Channels, shape: Shape, plane: u32, sample: u8) -> u8
-    requires { IsLegal shape }
+    requires { shape.bits ≡ 8 }
     ensures { result ≡ (if is_among channels plane then largest_sample shape - sample else sample) }
 {
     if is_among(channels, plane) {
@@ -222,7 +222,7 @@ fn inverted(channels: Channels, shape: Shape, plane: u32, sample: u8) -> u8
 
 fn limited(shape: Shape, low: i32, high: i32, sample: u8) -> u8
     requires high { nat_of high ≤ 255 }
-    requires legal { IsLegal shape }
+    requires narrow { shape.bits ≡ 8 }
     ensures { result ≡ limited (nat_of low * scale shape) (nat_of high * scale shape) sample }
 {
     let low = low.unsigned_abs() as u64 * scale(shape) as u64;

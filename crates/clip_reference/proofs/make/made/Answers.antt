@@ -1,4 +1,4 @@
-use Rattle.std.proofs.Common.{rules, arith, ◌≡◌, ◌∙◌, ℕ, List, [], length, map, ap, refl}
+use Rattle.std.proofs.Common.{rules, ◌≡◌, ◌∙◌, ℕ, List, [], length, map, ap, refl}
 use Rattle.std.proofs.lemmas.Result.{IfOk-weaker}
 use Rattle.fv_plane.specs.Format.{plane_width}
 use Rattle.fv_plane.specs.Picture.{Picture}
@@ -6,16 +6,10 @@ use Rattle.fv_plane.specs.Bytes.{row_of_bytes}
 use Rattle.fv_plane.specs.Look.{Look, look_in, row_from, picture_from}
 use Rattle.clip_term.specs.ClipTerm.{act_of}
 use Rattle.clip_term.specs.Terms.{sample, make}
-use Rattle.fv_plane.specs.declared.format.Shape.{Shape}
-use Rattle.fv_plane.specs.Format.{row_bytes}
 use Rattle.fv_plane.proofs.CallerLemmas.{eight_bits, fit_narrow, narrow_of_bytes}
 use Rattle.fv_plane.proofs.FillLemmas.{filled_put, filled_plane, filled_done}
 use Rattle.clip_reference.proofs.ReadyLemmas.{made_same}
 use Rattle.clip_reference.proofs.make.made.Goals as goal
-
--- a row of samples of eight bits has as many bytes
-narrow_row : (shape : Shape) (p : ℕ) → shape.bits ≡ 8 → row_bytes shape p ≡ plane_width shape p
-narrow_row shape p eight = rw eight (omega arith)
 
 pub put_row-requires-clause-fits : goal.put_row-requires-clause-fits
 put_row-requires-clause-fits c = fit_narrow c.loop-y.made.shape c.fill_row.new.row (eight_bits c.loop-y.made.shape c.loop-y.invariant.filled.sizes.legal)
@@ -31,7 +25,7 @@ loop-y-preserved c =
       filled = filled_put (λ q z. row_from at q (plane_width shape q) z) shape c.loop-y.made c.put_row.new.self p c.loop-y.y (row_of_bytes c.loop-y.made.shape c.fill_row.new.row) c.loop-y.invariant.filled
           c.put_row.ensures.sizes c.put_row.ensures.shape c.put_row.ensures.rows
           (narrow_of_bytes c.loop-y.made.shape c.fill_row.new.row (eight_bits c.loop-y.made.shape c.loop-y.invariant.filled.sizes.legal) ∙ c.fill_row.ensures
-          ∙ ap (λ width. row_from at p width c.loop-y.y) (c.loop-y.invariant.long ∙ narrow_row shape p (eight_bits shape c.requires.legal))) (search rules) (search rules);
+          ∙ ap (λ width. row_from at p width c.loop-y.y) c.loop-y.invariant.long) (search rules) (search rules);
     }
 
 pub loop-plane-preserved : goal.loop-plane-preserved
