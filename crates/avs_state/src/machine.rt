@@ -253,7 +253,7 @@ impl Machine {
     }
 
     /// The info of a clip, by its place.
-    #[tactic(auto, unfolding(crate::specs::States::state_of), using(crate::proofs::StateLemmas::lawful_at))]
+    #[tactic(auto, unfolding(crate::specs::States::state_of))]
     pub fn info_of(
         &self,
         alloc: Global,
