@@ -8,8 +8,8 @@ use Rattle.fv_plane.specs.Format.{IsWindow, sub_w, sub_h}
 use Rattle.fv_plane.specs.Refusals.{Refusals, first_fault}
 use Rattle.clip_term.specs.declared.fault.FilterFault.{FilterFault}
 use Rattle.clip_term.specs.declared.op.SpaceOp.TheVariants.{Crop, CropBottom}
-use Rattle.clip_term.specs.Refusals.{nat_of, below, above, is_whole}
-use Rattle.clip_term.specs.Space.{space_refusals, size_from, is_no_part, cut_refusals}
+use Rattle.clip_term.specs.Refusals.{nat_of, below, above, beyond, is_whole}
+use Rattle.clip_term.specs.Space.{space_refusals, bad_bounds, size_from, is_no_part, cut_refusals}
 use Rattle.clip_term.proofs.PassedLemmas.{Passed, or_false, both, not_false, same_number}
 
 -- where nothing is refused, no test is true
@@ -74,3 +74,7 @@ bottom_cut shape n e =
     let parts = or_false (is_no_part shape.width (pos 0) (pos shape.width)) (is_no_part shape.height (pos 0) (pos shape.height -ℤ n)) told.1.0 in
     let high = or_false (below (pos shape.height -ℤ n) 1) (above (pos 0 +ℤ (pos shape.height -ℤ n)) shape.height) parts.1 in
     rw (← rest_of shape.height n told.0 high.0) (cut_window shape (pos 0) (pos 0) (pos shape.width) (pos shape.height -ℤ n) refl refl told.1)
+
+-- the greater of two bounds that are accepted is a part of a colour
+pub high_inside : (low high : ℤ) → bad_bounds low high ≡ false → beyond high 255 ≡ false
+high_inside low high e = grind (arith, ints, nat_tests)

@@ -1,16 +1,26 @@
 -- The rows that are made.
-use Rattle.std.proofs.Common.{◌≡◌, ℕ, ◌<◌, ◌∙◌, List, length, get_or, ap, sym, arith}
+use Rattle.std.proofs.Common.{◌≡◌, ℕ, ◌*◌, ◌<◌, ◌≤◌, ◌==◌, ◌∙◌, List, None, false, length, get_or, ap, sym, refl, inl, inr, arith, ne_eqb}
+use Rattle.std.specs.List.{range_with_len}
+use Rattle.std.proofs.lemmas.List.{length-map, get_or_past}
+use Rattle.std.proofs.lemmas.List.FromFn.{get_or-map-range_with_len, length-range_with_len}
+use Rattle.std.proofs.lemmas.Bool.{cases_lt}
 use Rattle.fv_plane.specs.declared.format.Shape.{Shape}
-use Rattle.fv_plane.specs.Bytes.{row_of_bytes}
-use Rattle.fv_plane.specs.Format.{plane_width, row_bytes}
-use Rattle.fv_plane.specs.Look.{look_in, row_from}
-use Rattle.fv_plane.specs.Picture.{Picture}
-use Rattle.fv_plane.proofs.CallerLemmas.{narrow_of_bytes}
+use Rattle.fv_plane.specs.Bytes.{bytes_of_row, row_of_bytes, FitBytes}
+use Rattle.fv_plane.specs.Format.{largest_sample, plane_width, row_bytes}
+use Rattle.fv_plane.specs.Look.{Look, look_in, row_from}
+use Rattle.fv_plane.specs.Picture.{Picture, IsPicture}
+use Rattle.fv_plane.specs.Refusals.{first_fault}
+use Rattle.fv_plane.proofs.BytesLemmas.{bytes_of_row-same}
+use Rattle.fv_plane.proofs.CallerLemmas.{fit_row, row_again, two_bytes}
 use Rattle.fv_plane.proofs.FillLemmas.{row_listed}
 use Rattle.fv_plane.proofs.WholePlaneLemmas.{rows_listed}
 use Rattle.clip_term.specs.declared.op.SpaceOp.{SpaceOp}
-use Rattle.clip_term.specs.Space.{space_at, space_shape}
-use Rattle.flt_space.specs.Rows.{row_made}
+use Rattle.clip_term.specs.declared.op.SpaceOp.TheVariants as op
+use Rattle.clip_term.specs.Space.{space_at, space_refusals, space_shape}
+use Rattle.clip_term.proofs.BoundedLemmas.{IsBounded, space_bounded}
+use Rattle.flt_space.specs.Rows.{row_made, wide_width}
+use Rattle.flt_space.proofs.CutLemmas.{accepted}
+use Rattle.flt_space.proofs.KeptLemmas.{second_of}
 
 -- where a sample is a byte, a row has as many bytes as samples
 pub narrow_bytes : (shape : Shape) (p : ℕ) → shape.bits ≡ 8 → row_bytes shape p ≡ plane_width shape p
@@ -22,8 +32,66 @@ pub made_row : (op : SpaceOp) (input : Picture) (p y : ℕ) (out : List ℕ) →
 made_row op input p y out long each =
     row_listed out (space_at op input.shape (look_in input)) p (plane_width (space_shape op input.shape) p) y long (λ x within. each x (omega (arith, within, long)))
 
--- the samples of the bytes are the row
-pub narrow_again : (op : SpaceOp) (input : Picture) (shape made : Shape) (p y : ℕ) (out : List ℕ) → shape ≡ space_shape op input.shape → made ≡ shape → shape.bits ≡ 8
-    → out ≡ row_made op input p y → row_of_bytes made out ≡ rows_listed shape (space_at op input.shape (look_in input)) p y
-narrow_again op input shape made p y out is same narrow put =
-    narrow_of_bytes made out (ap (λ (s : Shape). s.bits) same ∙ narrow) ∙ put ∙ ap (λ (s : Shape). row_from (space_at op input.shape (look_in input)) p (plane_width s p) y) (sym is)
+-- a shape that was asked has more than eight bits
+pub more_bits : (shape same : Shape) → same ≡ shape → (same.bits ≡ 8 → ⊥) → (shape.bits == 8) ≡ false
+more_bits shape same is more = ne_eqb shape.bits 8 (λ eight. more (ap (λ (s : Shape). s.bits) is ∙ eight))
+
+-- a filter keeps the bits of a sample
+bits_kept : (op : SpaceOp) (shape : Shape) → (space_shape op shape).bits ≡ shape.bits
+bits_kept (op.Crop left top width height) shape = refl
+bits_kept (op.CropBottom n) shape = refl
+bits_kept (op.AddBorders left top right bottom color) shape = refl
+bits_kept (op.LetterBox top bottom x1 x2 color) shape = refl
+bits_kept op.FlipHorizontal shape = refl
+bits_kept op.FlipVertical shape = refl
+bits_kept op.Turn180 shape = refl
+bits_kept op.TurnLeft shape = refl
+bits_kept op.TurnRight shape = refl
+bits_kept op.Greyscale shape = refl
+bits_kept (op.Invert channels) shape = refl
+bits_kept (op.Limiter min_luma max_luma min_chroma max_chroma) shape = refl
+bits_kept op.SwapUV shape = refl
+bits_kept op.UToY8 shape = refl
+bits_kept op.VToY8 shape = refl
+bits_kept op.ConvertToY8 shape = refl
+
+-- so what has one byte a sample still has
+pub narrow_kept : (op : SpaceOp) (shape : Shape) → shape.bits ≡ 8 → (space_shape op shape).bits ≡ 8
+narrow_kept op shape narrow = bits_kept op shape ∙ narrow
+
+-- and what has two
+pub wide_kept : (op : SpaceOp) (shape : Shape) → (shape.bits == 8) ≡ false → ((space_shape op shape).bits == 8) ≡ false
+wide_kept op shape wide = rw (bits_kept op shape) wide
+
+-- where a sample has two bytes, they are made from samples
+pub wide_row : (shape : Shape) (p : ℕ) → (shape.bits == 8) ≡ false → wide_width shape p ≡ plane_width shape p
+wide_row shape p wide = second_of (shape.bits == 8) 0 (plane_width shape p) wide
+
+-- and twice as many
+pub wide_row_bytes : (shape : Shape) (p : ℕ) → (shape.bits == 8) ≡ false → row_bytes shape p ≡ wide_width shape p * 2
+wide_row_bytes shape p wide = ap (λ n. plane_width shape p * n) (two_bytes shape wide) ∙ ap (λ n. n * 2) (sym (wide_row shape p wide))
+
+-- no sample of a row is over the largest
+bounded_row : (at : Look) (shape : Shape) (p width y x : ℕ) → IsBounded shape at → get_or (row_from at p width y) x 0 ≤ largest_sample shape
+bounded_row at shape p width y x bounded = elim (cases_lt x width) [
+  | inl inside ↦ rw (get_or-map-range_with_len (λ k. at p k y) 0 width x x 0 inside (omega arith)) (bounded.at p x y)
+  | inr past ↦ rw (get_or_past (row_from at p width y) x 0 (omega (arith, length-map (range_with_len 0 width) (λ k. at p k y), length-range_with_len 0 width))) (omega arith)
+]
+
+module _ (op : SpaceOp) (input : Picture) (shape made : Shape) (p y : ℕ) (out : List ℕ) (is : shape ≡ space_shape op input.shape) (same : made ≡ shape)
+    (put : out ≡ bytes_of_row input.shape (row_made op input p y)) where
+  stored : out ≡ bytes_of_row made (row_made op input p y)
+  stored = put ∙ bytes_of_row-same input.shape made (row_made op input p y) (sym (ap (λ (s : Shape). s.bits) (same ∙ is) ∙ bits_kept op input.shape))
+
+  -- the samples of the bytes are the row
+  pub made_again : row_of_bytes made out ≡ rows_listed shape (space_at op input.shape (look_in input)) p y
+  made_again =
+      ap (row_of_bytes made) stored ∙ row_again made (row_made op input p y)
+      ∙ ap (λ (s : Shape). row_from (space_at op input.shape (look_in input)) p (plane_width s p) y) (sym is)
+
+  -- and are in range
+  pub made_fits : first_fault (space_refusals op input.shape) ≡ None → IsPicture input → FitBytes made out
+  made_fits none sizes =
+      let bounded : IsBounded (space_shape op input.shape) (space_at op input.shape (look_in input))
+      = space_bounded op input.shape (look_in input) sizes.legal (accepted (space_refusals op input.shape) none) (record { at = sizes.bounded }) in
+      rw stored (fit_row made (row_made op input p y) (rw (same, is) (λ x. bounded_row (space_at op input.shape (look_in input)) (space_shape op input.shape) p (plane_width (space_shape op input.shape) p) y x bounded)))

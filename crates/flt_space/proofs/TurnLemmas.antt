@@ -1,18 +1,20 @@
 -- Planes turned on their side.
-use Rattle.std.proofs.Common.{◌≡◌, ◌≢◌, ◌∙◌, ℕ, ◌+◌, ◌*◌, ◌/◌, ◌%◌, ◌<◌, ◌≤◌, None, refl, sym, ap, arith, List, [], zero, suc, length, map, take, drop, get_or, set, length-take-le, length-drop, get_or-take, get_or-set_other, get_or-set_same, length-set, ⊎_elim}
-use Rattle.std.proofs.lemmas.Nat.{div-mul-add, mod-mul-add}
-use Rattle.std.proofs.Math.Nat.{suc-mul}
-use Rattle.std.proofs.lemmas.List.{drop-drop, get_or-drop}
+use Rattle.std.proofs.Common.{◌≡◌, ◌≢◌, ◌∙◌, ℕ, ◌+◌, ◌*◌, ◌/◌, ◌%◌, ◌<◌, ◌≤◌, None, refl, sym, ap, arith, List, [], ◌++◌, zero, suc, length, map, take, drop, get_or, set, length-take-le, length-drop, get_or-take, get_or-set_other, get_or-set_same, length-set, ⊎_elim, inl, inr}
+use Rattle.std.proofs.lemmas.Nat.{div-mul-add, mod-mul-add, div_below}
+use Rattle.std.proofs.Math.Nat.{suc-mul, mul_comm, div-add-mod, mod-lt}
+use Rattle.std.proofs.Math.Seq.{take-append_seam}
+use Rattle.std.proofs.lemmas.List.{drop-drop, get_or-drop, get_or_past}
 use Rattle.std.proofs.lemmas.Bool.{cases_lt}
 use Rattle.fv_plane.specs.declared.format.PixelType.{PixelType}
 use Rattle.fv_plane.specs.declared.format.PixelType.TheVariants.{Y8, YV12, YV16, YV24, YV411}
-use Rattle.fv_plane.specs.Format.{plane_width, plane_height}
-use Rattle.fv_plane.specs.Bytes.{row_of_bytes, rows_of_bytes}
+use Rattle.fv_plane.specs.Format.{plane_width, plane_height, sample_bytes}
+use Rattle.fv_plane.specs.Bytes.{row_of_bytes, rows_of_bytes, wide_bytes}
 use Rattle.fv_plane.specs.declared.format.Shape.{Shape}
 use Rattle.fv_plane.specs.Look.{Look, row_from}
 use Rattle.fv_plane.specs.Refusals.{first_fault}
 use Rattle.fv_plane.specs.Rows.{rows_of}
-use Rattle.fv_plane.proofs.BytesLemmas.{decoded-rows_of}
+use Rattle.fv_plane.proofs.BytesLemmas.{decoded-rows_of, length-row_of_bytes}
+use Rattle.fv_plane.proofs.WideLemmas.{wide_bytes-at}
 use Rattle.fv_plane.proofs.FillLemmas.{row_listed}
 use Rattle.clip_term.specs.declared.op.SpaceOp.TheVariants.{TurnLeft}
 use Rattle.clip_term.specs.Space.{space_refusals}
@@ -68,6 +70,16 @@ turn_step out want count h x y p v size long ly lx is inside value before here =
       (cases_lt b y),
 )
 
+-- the whole of a vector is written
+pub whole_put : (new old : List ℕ) (n : ℕ) → length new ≡ n → take n (new ++ drop (length new) old) ≡ new
+whole_put new old n long = ap (λ m. take m (new ++ drop (length new) old)) (sym long) ∙ take-append_seam new (drop (length new) old)
+
+-- a sample of a row's bytes
+pub wide_value : (samples bytes : List ℕ) (x : ℕ) → bytes ≡ wide_bytes samples → get_or bytes (2 * x) 0 + 256 * get_or bytes (2 * x + 1) 0 ≡ get_or samples x 0
+wide_value samples bytes x are =
+    let at = wide_bytes-at samples x in
+    rw are (omega (arith, at.0, at.1))
+
 -- a row of those that lie side by side
 part_at : (samples : List ℕ) (w n k : ℕ) → k < n → get_or (rows_of samples w w n) k [] ≡ take w (drop (k * w) samples)
 part_at samples w zero k less = absurd (omega arith)
@@ -100,3 +112,27 @@ rows_are shape at p plane y n h k bytes samples same read long has less =
 pub rows_count : (shape : Shape) (w n : ℕ) (bytes : List ℕ) → length (map (row_of_bytes shape) (rows_of bytes w w n)) ≡ n
 rows_count shape w zero bytes = refl
 rows_count shape w (suc n) bytes = ap suc (rows_count shape w n (drop w bytes))
+
+times_three : (n w s : ℕ) → n * (w * s) ≡ (n * w) * s
+times_three n w s = grind arith
+
+-- the samples of rows that lie side by side
+pub samples_count : (shape : Shape) (n w : ℕ) (bytes : List ℕ) → length bytes ≡ n * (w * sample_bytes shape) → length (row_of_bytes shape bytes) ≡ n * w
+samples_count shape n w bytes long = length-row_of_bytes shape (n * w) bytes (long ∙ times_three n w (sample_bytes shape))
+
+-- no sample of rows is over the largest
+pub rows_fit : (at : Look) (p y n w most : ℕ) (samples : List ℕ) → ((x z : ℕ) → at p x z ≤ most) → length samples ≡ n * w → HasRows at p y n w samples → (i : ℕ) → get_or samples i 0 ≤ most
+rows_fit at p y n zero most samples bounded long has i =
+    let none : length samples ≤ i = omega (arith, long) in
+    rw (get_or_past samples i 0 none) (omega arith)
+rows_fit at p y n (suc v) most samples bounded long has i = elim (cases_lt i (n * suc v)) [
+  | inl inside ↦
+      let k : ℕ = i / suc v in
+      let x : ℕ = i % suc v in
+      let few : k < n = div_below i (suc v) n (omega arith) inside in
+      let within : x < suc v = mod-lt i (omega arith) in
+      let place : k * suc v + x ≡ i = (let whole = div-add-mod i (suc v) in rw (mul_comm (suc v) (i / suc v)) at whole) in
+      let is : get_or samples i 0 ≡ at p x (y + k) = ap (λ m. get_or samples m 0) (sym place) ∙ has k x few within in
+      rw is (bounded x (y + k))
+  | inr past ↦ rw (get_or_past samples i 0 (omega (arith, long, past))) (omega arith)
+]

@@ -1,5 +1,6 @@
 -- The rows that makers put.
-use Rattle.std.specs.Prelude.{◌≡◌, ℕ, ◌+◌, ◌*◌, ◌-◌, ◌<◌, List, ◌++◌, length, replicate, take, drop, slice_index}
+use Rattle.std.specs.Prelude.{◌≡◌, ℕ, ◌+◌, ◌*◌, ◌-◌, ◌<◌, ◌==◌, if◌then◌else◌, List, ◌++◌, length, replicate, take, drop, slice_index}
+use Rattle.fv_plane.specs.declared.format.Shape.{Shape}
 use Rattle.fv_plane.specs.Format.{plane_width, plane_height}
 use Rattle.fv_plane.specs.Look.{Look, look_in, row_from}
 use Rattle.fv_plane.specs.Picture.{Picture, sample_of}
@@ -9,6 +10,10 @@ use Rattle.clip_term.specs.Space.{space_at, space_shape}
 -- the samples of a row that a filter makes
 abbrev pub row_made : SpaceOp → Picture → ℕ → ℕ → List ℕ
 row_made op input p y = row_from (space_at op input.shape (look_in input)) p (plane_width (space_shape op input.shape) p) y
+
+-- the samples of a row, where they have more than eight bits
+abbrev pub wide_width : Shape → ℕ → ℕ
+wide_width shape p = if shape.bits == 8 then 0 else plane_width shape p
 
 -- a row of this width that is another row between samples of one value
 abbrev pub padded : ℕ → ℕ → List ℕ → ℕ → List ℕ

@@ -1,5 +1,6 @@
 // `Invert`, `Limiter`, `Greyscale` and `SwapUV`: samples that stay where they are.
-ghost use Rattle.std.specs.Prelude.{◌≡◌, None, IfOk, false};
+ghost use Rattle.std.specs.Prelude.{◌≡◌, ◌*◌, None, IfOk, false};
+ghost use Rattle.fv_plane.specs.Format.{IsLegal, scale};
 ghost use Rattle.fv_plane.specs.Refusals.{first_fault};
 ghost use Rattle.clip_term.specs.declared.op.SpaceOp.TheVariants as op;
 ghost use Rattle.clip_term.specs.Refusals.{nat_of, beyond};
@@ -7,8 +8,9 @@ ghost use Rattle.clip_term.specs.Space.{space_picture, space_refusals, is_among,
 
 use crate::kernels::{copy_inverted, copy_limited};
 use crate::rows::{RowFilter, make_by_rows};
+use crate::wide;
 use clip_term::Channels;
-use fv_plane::{Frame, FrameBuilder};
+use fv_plane::{Frame, FrameBuilder, Shape};
 use std::alloc::{AllocError, Global};
 
 fn is_among(channels: Channels, plane: u32) -> bool
@@ -38,6 +40,18 @@ impl RowFilter for InvertRows {
     fn fill_row(&self, input: &Frame, plane: u32, y: u32, out: &mut [u8]) {
         copy_inverted(input.row(plane, y), out);
     }
+
+    fn fill_samples(
+        &self,
+        input: &Frame,
+        plane: u32,
+        y: u32,
+        scratch: &mut [u16],
+        out: &mut [u16],
+    ) {
+        input.read_row(plane, y, scratch);
+        wide::copy_inverted(scratch, input.shape().largest_sample(), out);
+    }
 }
 
 /// `Invert`: the complement of each sample of the planes that are named. The others are shared. An `Err` is out of
@@ -54,6 +68,15 @@ fn bound(value: i32) -> u8
     ensures { result ≡ nat_of value }
 {
     value.unsigned_abs() as u8
+}
+
+// A bound from 0 to 255, as a sample of this many bits.
+fn scaled_bound(value: i32, shape: Shape) -> u16
+    requires legal { IsLegal shape }
+    requires value { beyond value 255 ≡ false }
+    ensures { result ≡ nat_of value * scale shape }
+{
+    bound(value) as u16 * shape.scale()
 }
 
 #[derive(Drop)]
@@ -77,6 +100,27 @@ impl RowFilter for LimitRows {
             copy_limited(row, bound(self.min_luma), bound(self.max_luma), out);
         } else {
             copy_limited(row, bound(self.min_chroma), bound(self.max_chroma), out);
+        }
+    }
+
+    fn fill_samples(
+        &self,
+        input: &Frame,
+        plane: u32,
+        y: u32,
+        scratch: &mut [u16],
+        out: &mut [u16],
+    ) {
+        let shape = input.shape();
+        input.read_row(plane, y, scratch);
+        if plane == 0 {
+            let low = scaled_bound(self.min_luma, shape);
+            let high = scaled_bound(self.max_luma, shape);
+            wide::copy_limited(scratch, low, high, out);
+        } else {
+            let low = scaled_bound(self.min_chroma, shape);
+            let high = scaled_bound(self.max_chroma, shape);
+            wide::copy_limited(scratch, low, high, out);
         }
     }
 }
@@ -115,6 +159,17 @@ impl RowFilter for GreyRows {
 
     fn fill_row(&self, input: &Frame, plane: u32, y: u32, out: &mut [u8]) {
         out.fill(128);
+    }
+
+    fn fill_samples(
+        &self,
+        input: &Frame,
+        plane: u32,
+        y: u32,
+        scratch: &mut [u16],
+        out: &mut [u16],
+    ) {
+        out.fill(128 * input.shape().scale());
     }
 }
 

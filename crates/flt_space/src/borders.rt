@@ -9,6 +9,7 @@ ghost use Rattle.clip_term.specs.Space.{space_picture, space_refusals, space_sha
 
 use crate::kernels::{cover_row, pad_row};
 use crate::rows::{RowFilter, make_by_rows};
+use crate::wide;
 use clip_term::part_of;
 use fv_plane::{Frame, Shape};
 use std::alloc::{AllocError, Global};
@@ -48,6 +49,14 @@ fn paint(colour: i32, shape: Shape, plane: u32) -> u8
     part_of(colour.unsigned_abs(), plane)
 }
 
+// The colour as a sample of two bytes.
+fn wide_paint(colour: i32, shape: Shape, plane: u32) -> u16
+    requires { IsLegal shape }
+    ensures { result ≡ paint colour shape plane }
+{
+    part_of(colour.unsigned_abs(), plane) as u16 * shape.scale()
+}
+
 #[derive(Drop)]
 struct BorderRows {
     left: i32,
@@ -72,6 +81,27 @@ impl RowFilter for BorderRows {
         let colour = paint(self.color_yuv, shape, plane);
         if is_within(top as u64, end, y as u64) {
             pad_row(input.row(plane, y - top), left, colour, out);
+        } else {
+            out.fill(colour);
+        }
+    }
+
+    fn fill_samples(
+        &self,
+        input: &Frame,
+        plane: u32,
+        y: u32,
+        scratch: &mut [u16],
+        out: &mut [u16],
+    ) {
+        let shape = input.shape();
+        let left = across(shape, plane, self.left) as usize;
+        let top = down(shape, plane, self.top);
+        let end = top as u64 + shape.plane_height(plane) as u64;
+        let colour = wide_paint(self.color_yuv, shape, plane);
+        if is_within(top as u64, end, y as u64) {
+            input.read_row(plane, y - top, scratch);
+            wide::pad_row(scratch, left, colour, out);
         } else {
             out.fill(colour);
         }
@@ -134,6 +164,29 @@ impl RowFilter for BoxRows {
         let colour = paint(self.color_yuv, shape, plane);
         if is_within(top, end, y as u64) {
             cover_row(input.row(plane, y), left, right, colour, out);
+        } else {
+            out.fill(colour);
+        }
+    }
+
+    fn fill_samples(
+        &self,
+        input: &Frame,
+        plane: u32,
+        y: u32,
+        scratch: &mut [u16],
+        out: &mut [u16],
+    ) {
+        let shape = input.shape();
+        let left = across(shape, plane, self.x1) as usize;
+        let right = across(shape, plane, self.x2) as usize;
+        let top = down(shape, plane, self.top) as u64;
+        let bottom = down(shape, plane, self.bottom) as u64;
+        let end = (shape.plane_height(plane) as u64).saturating_sub(bottom);
+        let colour = wide_paint(self.color_yuv, shape, plane);
+        if is_within(top, end, y as u64) {
+            input.read_row(plane, y, scratch);
+            wide::cover_row(scratch, left, right, colour, out);
         } else {
             out.fill(colour);
         }

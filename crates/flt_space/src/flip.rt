@@ -5,6 +5,7 @@ ghost use Rattle.clip_term.specs.Space.{space_picture};
 
 use crate::kernels::reverse_row;
 use crate::rows::{RowFilter, make_by_rows};
+use crate::wide;
 use fv_plane::Frame;
 use std::alloc::{AllocError, Global};
 
@@ -28,6 +29,18 @@ impl RowFilter for MirrorRows {
     fn fill_row(&self, input: &Frame, plane: u32, y: u32, out: &mut [u8]) {
         reverse_row(input.row(plane, y), out);
     }
+
+    fn fill_samples(
+        &self,
+        input: &Frame,
+        plane: u32,
+        y: u32,
+        scratch: &mut [u16],
+        out: &mut [u16],
+    ) {
+        input.read_row(plane, y, scratch);
+        wide::reverse_row(scratch, out);
+    }
 }
 
 /// `FlipHorizontal`: the picture from right to left. An `Err` is out of memory.
@@ -50,6 +63,19 @@ impl RowFilter for TurnRows {
     fn fill_row(&self, input: &Frame, plane: u32, y: u32, out: &mut [u8]) {
         let height = input.shape().plane_height(plane);
         reverse_row(input.row(plane, height - 1 - y), out);
+    }
+
+    fn fill_samples(
+        &self,
+        input: &Frame,
+        plane: u32,
+        y: u32,
+        scratch: &mut [u16],
+        out: &mut [u16],
+    ) {
+        let height = input.shape().plane_height(plane);
+        input.read_row(plane, height - 1 - y, scratch);
+        wide::reverse_row(scratch, out);
     }
 }
 

@@ -12,6 +12,7 @@ mod kernels;
 mod make;
 mod rows;
 mod turn;
+mod wide;
 
 pub use clip_check::check_space;
 pub use clip_term::read_channels;

@@ -1,14 +1,15 @@
 // Filters that make each row of a picture by itself.
 ghost use Rattle.std.specs.Prelude.{◌≡◌, ◌<◌, IfOk, OnOk, None, false, length};
-ghost use Rattle.fv_plane.specs.Format.{IsLegal, planes, plane_width, plane_height};
+ghost use Rattle.fv_plane.specs.Bytes.{bytes_of_row};
+ghost use Rattle.fv_plane.specs.Format.{IsLegal, planes, plane_width, plane_height, row_bytes, sample_bytes};
 ghost use Rattle.fv_plane.specs.Picture.{IsPicture};
 ghost use Rattle.fv_plane.specs.Refusals.{first_fault};
 ghost use Rattle.clip_term.specs.declared.op.SpaceOp.{SpaceOp};
 ghost use Rattle.clip_term.specs.Space.{space_shape, space_picture, space_refusals};
 ghost use Rattle.flt_space.specs.Kept.{keeps_plane};
-ghost use Rattle.flt_space.specs.Rows.{row_made};
+ghost use Rattle.flt_space.specs.Rows.{row_made, wide_width};
 
-use fv_plane::{Frame, FrameBuilder, Shape};
+use fv_plane::{Frame, FrameBuilder, Shape, write_samples};
 use std::alloc::{AllocError, Global};
 
 /// A filter that makes a row from the rows of the input.
@@ -29,6 +30,55 @@ pub trait RowFilter {
         requires narrow { input.now.shape.bits ≡ 8 }
         requires whole { length out.old ≡ plane_width (space_shape (op self.now) input.now.shape) plane }
         ensures { out.new ≡ row_made (op self.now) input.now plane y };
+
+    /// Writes a row of a plane that isn't kept, where a sample has two bytes. `scratch` is for a row of the input.
+    fn fill_samples(&self, input: &Frame, plane: u32, y: u32, scratch: &mut [u16], out: &mut [u16])
+        requires accepted { first_fault (space_refusals (op self.now) input.now.shape) ≡ None }
+        requires changed { keeps_plane (op self.now) plane ≡ false }
+        requires plane { plane < planes (space_shape (op self.now) input.now.shape).kind }
+        requires inside { y < plane_height (space_shape (op self.now) input.now.shape) plane }
+        requires wide { sample_bytes input.now.shape ≡ 2 }
+        requires scratch { length scratch.old ≡ plane_width input.now.shape plane }
+        requires whole { length out.old ≡ plane_width (space_shape (op self.now) input.now.shape) plane }
+        ensures { out.new ≡ row_made (op self.now) input.now plane y };
+}
+
+// The samples of a row that are made before their bytes: none, where a sample is a byte.
+fn wide_width(shape: Shape, plane: u32) -> usize
+    ensures { result ≡ wide_width shape plane }
+{
+    if shape.bits == 8 {
+        0
+    } else {
+        shape.plane_width(plane) as usize
+    }
+}
+
+// Writes the bytes of a row of a plane that isn't kept.
+fn fill_bytes<F: RowFilter>(
+    filter: &F,
+    input: &Frame,
+    plane: u32,
+    y: u32,
+    scratch: &mut [u16],
+    samples: &mut [u16],
+    out: &mut [u8],
+)
+    requires accepted { first_fault (space_refusals (F.op filter.now) input.now.shape) ≡ None }
+    requires changed { keeps_plane (F.op filter.now) plane ≡ false }
+    requires plane { plane < planes (space_shape (F.op filter.now) input.now.shape).kind }
+    requires inside { y < plane_height (space_shape (F.op filter.now) input.now.shape) plane }
+    requires scratch { length scratch.old ≡ wide_width input.now.shape plane }
+    requires samples { length samples.old ≡ wide_width (space_shape (F.op filter.now) input.now.shape) plane }
+    requires whole { length out.old ≡ row_bytes (space_shape (F.op filter.now) input.now.shape) plane }
+    ensures { out.new ≡ bytes_of_row input.now.shape (row_made (F.op filter.now) input.now plane y) }
+{
+    if input.shape().bits == 8 {
+        filter.fill_row(input, plane, y, out);
+    } else {
+        filter.fill_samples(input, plane, y, scratch, samples);
+        write_samples(samples, out);
+    }
 }
 
 // Makes the planes of the picture, in a builder of its shape.
@@ -45,17 +95,20 @@ fn fill_planes<F: RowFilter>(
     requires sizes { IsPicture made.old }
     ensures { OnOk result (made.new ≡ space_picture (F.op filter.now) input.now) }
 {
-    // Called for what its contract says.
-    let _ = input.shape();
+    let from = input.shape();
     for plane in 0..shape.kind.planes() {
         if filter.keeps_plane(plane) {
             made.put_plane(plane, input, plane)?;
             continue;
         }
-        let mut buffer = vec![in alloc; 0u8; shape.row_bytes(plane) as usize]?;
-        let row = buffer.as_mut_slice();
+        let mut scratch = vec![in alloc; 0u16; wide_width(from, plane)]?;
+        let mut samples = vec![in alloc; 0u16; wide_width(shape, plane)]?;
+        let mut bytes = vec![in alloc; 0u8; shape.row_bytes(plane) as usize]?;
+        let scratch = scratch.as_mut_slice();
+        let samples = samples.as_mut_slice();
+        let row = bytes.as_mut_slice();
         for y in 0..shape.plane_height(plane) {
-            filter.fill_row(input, plane, y, row);
+            fill_bytes(filter, input, plane, y, scratch, samples, row);
             made.put_row(plane, y, row);
         }
     }

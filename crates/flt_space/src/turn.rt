@@ -1,6 +1,7 @@
 // `TurnLeft`, `TurnRight` and `Turn180`: pictures turned on their side, or upside down.
 ghost use Rattle.std.specs.Prelude.{◌≡◌, ◌<◌, ◌≤◌, ◌+◌, ◌*◌, ◌-◌, ◌%◌, ◌^◌, ℕ, None, IfOk, length, slice_index};
-ghost use Rattle.fv_plane.specs.Format.{IsLegal, planes, plane_width, plane_height};
+ghost use Rattle.fv_plane.specs.Bytes.{row_of_bytes};
+ghost use Rattle.fv_plane.specs.Format.{IsLegal, planes, plane_width, plane_height, sample_bytes};
 ghost use Rattle.fv_plane.specs.Look.{look_in};
 ghost use Rattle.fv_plane.specs.Picture.{sample_of};
 ghost use Rattle.fv_plane.specs.Refusals.{first_fault};
@@ -10,7 +11,7 @@ ghost use Rattle.clip_term.specs.Space.{space_at, space_picture, space_refusals,
 ghost use Rattle.flt_space.specs.Rows.{HasRows, HasColumns, Turns};
 
 use crate::kernels::transpose;
-use fv_plane::{Frame, FrameBuilder, Shape};
+use fv_plane::{Frame, FrameBuilder, Shape, write_samples};
 use std::alloc::{AllocError, Global};
 
 // How many rows are made at a time. Columns that lie beside each other are read together, since they share cache lines.
@@ -245,7 +246,30 @@ fn turn_rows<T: Turn>(input: &Frame, plane: u32, y: u32, count: u32, out: &mut [
     turn_columns::<T>(input, plane, y, count, made, out);
 }
 
-// How many bytes rows of this width have.
+// Makes rows of the turned plane from row `y` on, which lie side by side, of samples of two bytes.
+fn turn_samples<T: Turn>(input: &Frame, plane: u32, y: u32, count: u32, out: &mut [u16])
+    requires wide { sample_bytes input.now.shape ≡ 2 }
+    requires plane { plane < planes input.now.shape.kind }
+    requires inside { y + count ≤ plane_width input.now.shape plane }
+    requires few { count ≤ 64 }
+    requires high { plane_height input.now.shape plane ≤ 65535 }
+    requires whole { length out.old ≡ count * plane_height input.now.shape plane }
+    ensures whole { length out.new ≡ length out.old }
+    ensures rows { HasColumns T.row_of T.column_of input.now plane y count (plane_height input.now.shape plane) out.new }
+{
+    let width = input.shape().plane_width(plane);
+    let height = input.shape().plane_height(plane);
+    for x in 0..height {
+        let row = input.row(plane, T::row(height, x));
+        for k in 0..count {
+            let at = place(k as usize, height as usize, x as usize, count as usize);
+            let from = 2 * T::column(width, y + k) as usize;
+            out[at] = row[from] as u16 + 256 * row[from + 1] as u16;
+        }
+    }
+}
+
+// How many samples rows of this width have.
 fn size_of(count: u32, width: u32) -> usize
     requires few { count ≤ 64 }
     requires wide { width ≤ 65535 }
@@ -254,7 +278,7 @@ fn size_of(count: u32, width: u32) -> usize
     count as usize * width as usize
 }
 
-// Rows of the turned plane from row `y` on, which lie side by side. An `Err` is out of memory.
+// The bytes of rows of the turned plane from row `y` on, which lie side by side. An `Err` is out of memory.
 fn turned_rows<T: Turn>(
     alloc: Global,
     input: &Frame,
@@ -262,19 +286,27 @@ fn turned_rows<T: Turn>(
     y: u32,
     count: u32,
 ) -> Result<Vec<u8>, AllocError>
-    requires narrow { input.now.shape.bits ≡ 8 }
     requires plane { plane < planes input.now.shape.kind }
     requires inside { y + count ≤ plane_width input.now.shape plane }
     requires few { count ≤ 64 }
     requires high { plane_height input.now.shape plane ≤ 65535 }
     requires turns { Turns T.op T.row_of T.column_of input.now }
-    ensures long { IfOk result (λ rows. length rows.items ≡ count * plane_height input.now.shape plane) }
+    ensures long { IfOk result (λ rows.
+        length rows.items ≡ count * (plane_height input.now.shape plane * sample_bytes input.now.shape)) }
     ensures rows { IfOk result (λ rows. HasRows (space_at T.op input.now.shape (look_in input.now)) plane y count
-        (plane_height input.now.shape plane) rows.items) }
+        (plane_height input.now.shape plane) (row_of_bytes input.now.shape rows.items)) }
 {
-    let size = size_of(count, input.shape().plane_height(plane));
-    let mut rows = vec![in alloc; 0u8; size]?;
-    turn_rows::<T>(input, plane, y, count, rows.as_mut_slice());
+    let shape = input.shape();
+    let size = size_of(count, shape.plane_height(plane));
+    if shape.bits == 8 {
+        let mut rows = vec![in alloc; 0u8; size]?;
+        turn_rows::<T>(input, plane, y, count, rows.as_mut_slice());
+        return Ok(rows);
+    }
+    let mut samples = vec![in alloc; 0u16; size]?;
+    turn_samples::<T>(input, plane, y, count, samples.as_mut_slice());
+    let mut rows = vec![in alloc; 0u8; 2 * size]?;
+    write_samples(samples.as_slice(), rows.as_mut_slice());
     Ok(rows)
 }
 

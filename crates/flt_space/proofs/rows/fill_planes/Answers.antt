@@ -3,13 +3,13 @@ use Rattle.fv_plane.specs.declared.format.Shape.{Shape}
 use Rattle.fv_plane.specs.Bytes.{row_of_bytes}
 use Rattle.fv_plane.specs.Format.{planes, plane_width, plane_height}
 use Rattle.fv_plane.specs.Look.{look_in}
-use Rattle.fv_plane.proofs.CallerLemmas.{eight_bits, fit_narrow}
 use Rattle.fv_plane.proofs.FillLemmas.{filled_put, filled_plane, filled_done}
 use Rattle.clip_term.specs.Space.{space_at}
 use Rattle.flt_space.specs.Kept.{keeps_plane}
+use Rattle.flt_space.specs.Rows.{wide_width}
 use Rattle.fv_plane.proofs.WholePlaneLemmas.{rows_listed, filled_whole, row_seen}
 use Rattle.flt_space.proofs.KeptLemmas.{kept_shape, kept_samples}
-use Rattle.flt_space.proofs.RowLemmas.{narrow_bytes, narrow_again}
+use Rattle.flt_space.proofs.RowLemmas.{made_again, made_fits}
 use Rattle.flt_space.proofs.rows.fill_planes.Goals as goal
 
 pub loop-plane-init : goal.loop-plane-init
@@ -38,59 +38,64 @@ loop-plane-preserved-then-keeps_plane g c =
     let at = space_at filter input.shape (look_in input) in
     filled_whole (rows_listed c.args.shape at) c.args.shape c.loop-plane.made c.put_plane.new.self c.loop-plane.plane _ c.loop-plane.invariant
     c.in_ok-put_plane.ensures.sizes c.in_ok-put_plane.ensures.shape c.in_ok-put_plane.ensures.put
-    (λ z inside. row_seen input c.loop-plane.plane at c.loop-plane.plane (plane_width c.args.shape c.loop-plane.plane) z c.shape.ensures.sizes
+    (λ z inside. row_seen input c.loop-plane.plane at c.loop-plane.plane (plane_width c.args.shape c.loop-plane.plane) z c.shape-from.ensures.sizes
     (omega (arith, there, ap (λ (s : Shape). planes s.kind) same)) (omega (arith, inside, ap (λ (s : Shape). plane_height s c.loop-plane.plane) same))
     (sym (ap (λ (s : Shape). plane_width s c.loop-plane.plane) same)) (λ x. sym (kept_samples filter input.shape c.loop-plane.plane keeps (look_in input) x z))) there
 
-pub fill_row-requires-clause-plane : goal.fill_row-requires-clause-plane
-fill_row-requires-clause-plane g c =
+pub fill_bytes-requires-clause-plane : goal.fill_bytes-requires-clause-plane
+fill_bytes-requires-clause-plane g c =
     let there : c.loop-plane.plane < planes c.args.shape.kind = search rules in
     rw (← c.requires.shape) there
 
-pub fill_row-requires-clause-inside : goal.fill_row-requires-clause-inside
-fill_row-requires-clause-inside g c =
+pub fill_bytes-requires-clause-inside : goal.fill_bytes-requires-clause-inside
+fill_bytes-requires-clause-inside g c =
     let inside : c.loop-y.y < plane_height c.args.shape c.loop-plane.plane = search rules in
     rw (← c.requires.shape) inside
 
-pub fill_row-requires-clause-narrow : goal.fill_row-requires-clause-narrow
-fill_row-requires-clause-narrow g c = eight_bits c.args.input.now.shape c.shape.ensures.sizes.legal
+pub fill_bytes-requires-clause-scratch : goal.fill_bytes-requires-clause-scratch
+fill_bytes-requires-clause-scratch g c = c.loop-y.invariant.scratch ∙ ap (λ (s : Shape). wide_width s c.loop-plane.plane) c.shape-from.ensures.shape
 
-pub fill_row-requires-clause-whole : goal.fill_row-requires-clause-whole
-fill_row-requires-clause-whole g c =
-    let eight : c.args.shape.bits ≡ 8 = eight_bits c.args.shape (rw c.loop-y.invariant.1.same at c.loop-y.invariant.1.sizes.legal) in
-    rw (← c.requires.shape) (c.loop-y.invariant.0 ∙ narrow_bytes c.args.shape c.loop-plane.plane eight)
+pub fill_bytes-requires-clause-samples : goal.fill_bytes-requires-clause-samples
+fill_bytes-requires-clause-samples g c = rw (← c.requires.shape) c.loop-y.invariant.samples
+
+pub fill_bytes-requires-clause-whole : goal.fill_bytes-requires-clause-whole
+fill_bytes-requires-clause-whole g c = rw (← c.requires.shape) c.loop-y.invariant.row
 
 pub put_row-requires-clause-whole : goal.put_row-requires-clause-whole
-put_row-requires-clause-whole g c = rw c.loop-y.invariant.1.same (c.fill_row.auto.out ∙ c.loop-y.invariant.0)
+put_row-requires-clause-whole g c = rw c.loop-y.invariant.filled.same (c.fill_bytes.auto.out ∙ c.loop-y.invariant.row)
 
 pub put_row-requires-clause-fits : goal.put_row-requires-clause-fits
-put_row-requires-clause-fits g c = fit_narrow c.loop-y.made.shape c.fill_row.new.out (eight_bits c.loop-y.made.shape c.loop-y.invariant.1.sizes.legal)
+put_row-requires-clause-fits g c =
+    made_fits (g.F.RowFilter.op c.args.filter.now) c.args.input.now c.args.shape c.loop-y.made.shape c.loop-plane.plane c.loop-y.y c.fill_bytes.new.out c.requires.shape c.loop-y.invariant.filled.same
+    c.fill_bytes.ensures c.requires.accepted c.shape-from.ensures.sizes
 
 pub put_row-requires-clause-plane : goal.put_row-requires-clause-plane
 put_row-requires-clause-plane g c =
     let there : c.loop-plane.plane < planes c.args.shape.kind = search rules in
-    rw c.loop-y.invariant.1.same there
+    rw c.loop-y.invariant.filled.same there
 
 pub put_row-requires-clause-inside : goal.put_row-requires-clause-inside
 put_row-requires-clause-inside g c =
     let inside : c.loop-y.y < plane_height c.args.shape c.loop-plane.plane = search rules in
-    rw c.loop-y.invariant.1.same inside
+    rw c.loop-y.invariant.filled.same inside
 
 pub loop-y-preserved : goal.loop-y-preserved
 loop-y-preserved g c =
     let filter = g.F.RowFilter.op c.args.filter.now in
     let at = space_at filter c.args.input.now.shape (look_in c.args.input.now) in
-    let eight : c.args.shape.bits ≡ 8 = eight_bits c.args.shape (rw c.loop-y.invariant.1.same at c.loop-y.invariant.1.sizes.legal) in
-    let row = narrow_again filter c.args.input.now c.args.shape c.loop-y.made.shape c.loop-plane.plane c.loop-y.y c.fill_row.new.out c.requires.shape c.loop-y.invariant.1.same eight c.fill_row.ensures in (
-      search rules,
-      filled_put (rows_listed c.args.shape at) c.args.shape c.loop-y.made c.put_row.new.self c.loop-plane.plane c.loop-y.y (row_of_bytes c.loop-y.made.shape c.fill_row.new.out) c.loop-y.invariant.1
-          c.put_row.ensures.sizes c.put_row.ensures.shape c.put_row.ensures.rows row (search rules) (search rules),
-    )
+    let row = made_again filter c.args.input.now c.args.shape c.loop-y.made.shape c.loop-plane.plane c.loop-y.y c.fill_bytes.new.out c.requires.shape c.loop-y.invariant.filled.same c.fill_bytes.ensures in
+    record {
+      scratch = c.fill_bytes.auto.scratch ∙ c.loop-y.invariant.scratch;
+      samples = c.fill_bytes.auto.samples ∙ c.loop-y.invariant.samples;
+      row = c.fill_bytes.auto.out ∙ c.loop-y.invariant.row;
+      filled = filled_put (rows_listed c.args.shape at) c.args.shape c.loop-y.made c.put_row.new.self c.loop-plane.plane c.loop-y.y (row_of_bytes c.loop-y.made.shape c.fill_bytes.new.out) c.loop-y.invariant.filled
+          c.put_row.ensures.sizes c.put_row.ensures.shape c.put_row.ensures.rows row (search rules) (search rules);
+    }
 
 pub loop-plane-preserved : goal.loop-plane-preserved
 loop-plane-preserved g c =
     filled_plane (rows_listed c.args.shape (space_at (g.F.RowFilter.op c.args.filter.now) c.args.input.now.shape (look_in c.args.input.now))) c.args.shape c.loop-y.made c.loop-plane.plane c.loop-y.y
-    (search rules) c.loop-y.invariant.1
+    (search rules) c.loop-y.invariant.filled
 
 pub returns : goal.returns
 returns g c =

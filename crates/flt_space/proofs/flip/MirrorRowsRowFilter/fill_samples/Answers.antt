@@ -1,0 +1,12 @@
+use Rattle.std.proofs.Common.{rules, ◌≡◌, ◌∙◌, length, refl}
+use Rattle.fv_plane.specs.Format.{plane_width}
+use Rattle.clip_term.specs.declared.op.SpaceOp.TheVariants.{FlipHorizontal}
+use Rattle.flt_space.proofs.RowLemmas.{made_row}
+use Rattle.flt_space.proofs.flip.MirrorRowsRowFilter.fill_samples.Goals as goal
+
+pub returns : goal.returns
+returns c =
+    let input = c.args.input.now in
+    let wide : length c.read_row.new.samples ≡ plane_width input.shape c.args.plane = c.read_row.auto.samples ∙ c.requires.scratch in
+    made_row FlipHorizontal input c.args.plane c.args.y c.reverse_row.new.out (search rules)
+    (λ x within. c.reverse_row.ensures x (search rules) ∙ rw (wide, c.read_row.ensures) refl)
