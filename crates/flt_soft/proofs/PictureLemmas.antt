@@ -1,16 +1,18 @@
 -- Pictures of one shape, and planes that stay.
-use Rattle.std.proofs.Common.{◌≡◌, ℕ, ◌+◌, ◌*◌, ◌/◌, ◌%◌, ◌<◌, ◌≤◌, ◌∙◌, List, [], ◌∷◌, length, map, get_or, refl, sym, ap, arith, Bool, true, false, inl, inr, eqb-true, eq-eqb}
+use Rattle.std.proofs.Common.{◌≡◌, ℕ, zero, suc, ◌+◌, ◌-◌, ◌*◌, ◌/◌, ◌%◌, ◌^◌, ◌<◌, ◌≤◌, ◌∙◌, List, [], ◌∷◌, length, map, get_or, refl, sym, ap, arith, Bool, true, false, inl, inr, eqb-true, eq-eqb}
 use Rattle.std.specs.Prelude.{ℤ, pos, ◌+ℤ◌, ◌*ℤ◌, int_div, ◌⊎◌, ◌||◌, if◌then◌else◌, ◌==◌, ◌&&◌, nat_le}
-use Rattle.std.proofs.lemmas.List.{get_or_read}
+use Rattle.std.specs.List.{All, range_with_len}
+use Rattle.std.proofs.lemmas.List.{get_or_read, length-map}
 use Rattle.fv_plane.specs.declared.format.PixelType.{PixelType}
 use Rattle.fv_plane.specs.declared.format.PixelType.TheVariants.{Y8, YV12, YV16, YV24, YV411}
 use Rattle.fv_plane.specs.declared.format.Shape.{Shape}
-use Rattle.fv_plane.specs.Bytes.{row_of_bytes}
+use Rattle.fv_plane.specs.Bytes.{row_of_bytes, FitBytes}
 use Rattle.fv_plane.specs.Format.{IsLegal, largest_sample, plane_width, row_bytes, scale, sub_w}
 use Rattle.fv_plane.specs.Picture.{Picture, IsPicture}
 use Rattle.fv_plane.specs.Look.{Look, look_in, look_at, row_from}
 use Rattle.fv_plane.proofs.BytesLemmas.{row-bytes_of_row}
-use Rattle.fv_plane.proofs.CallerLemmas.{bytes_of_narrow}
+use Rattle.fv_plane.proofs.CallerLemmas.{bytes_of_narrow, fit_row}
+use Rattle.fv_plane.proofs.PictureLemmas.{five_depths}
 use Rattle.fv_plane.proofs.FillLemmas.{Filled, row_listed}
 use Rattle.fv_plane.proofs.WholePlaneLemmas.{rows_listed}
 use Rattle.clip_term.specs.declared.op.Matrix.{Matrix}
@@ -19,7 +21,9 @@ use Rattle.clip_term.specs.declared.op.SoftOp.TheVariants as op
 use Rattle.clip_term.specs.Refusals.{nat_of}
 use Rattle.clip_term.specs.Soft.{near, softened, samples_at, soft_at, convolved, side_of, weighed, divisor_of, sample_from}
 use Rattle.clip_term.specs.Terms.{no_picture}
-use Rattle.flt_soft.specs.Pictures.{CanSoften, HaveShape, asked_count, bytes_made, keeps_plane, shape_of}
+use Rattle.clip_term.proofs.BoundedLemmas as bounds
+use Rattle.clip_term.proofs.BoundedLemmas.{AllBounded, IsBounded}
+use Rattle.flt_soft.specs.Pictures.{CanSoften, HaveShape, asked_count, bytes_made, keeps_plane, row_made, shape_of}
 use Rattle.flt_soft.proofs.SoftenLemmas.{look_seen}
 use Rattle.flt_soft.proofs.WeightLemmas.{times_one}
 
@@ -78,6 +82,24 @@ narrow_width shape p bytes narrow long = (let same = rw narrow at long in omega 
 pub narrow_few : (picture : Picture) → IsPicture picture → picture.shape.bits ≡ 8 → (p x y : ℕ) → look_in picture p x y ≤ 255
 narrow_few picture is narrow p x y = rw narrow at (is.bounded p x y)
 
+largest_by : (bits : ℕ) → (bits ≡ 8) ⊎ ((bits ≡ 10) ⊎ ((bits ≡ 12) ⊎ ((bits ≡ 14) ⊎ (bits ≡ 16)))) → (2 ^ bits - 1 ≤ 65535) × (2 ^ (bits - 8) ≤ 256)
+largest_by bits (inl is) = rw is (omega arith, omega arith)
+largest_by bits (inr (inl is)) = rw is (omega arith, omega arith)
+largest_by bits (inr (inr (inl is))) = rw is (omega arith, omega arith)
+largest_by bits (inr (inr (inr (inl is)))) = rw is (omega arith, omega arith)
+largest_by bits (inr (inr (inr (inr is)))) = rw is (omega arith, omega arith)
+
+-- in a picture of any depth no sample is over 65,535
+pub wide_few : (picture : Picture) → IsPicture picture → (p x y : ℕ) → look_in picture p x y ≤ 65535
+wide_few picture is p x y =
+    let few = largest_by picture.shape.bits (five_depths picture.shape.kind picture.shape.bits is.legal.depth) in
+    let most : largest_sample picture.shape ≤ 65535 = few.0 in
+    omega (arith, is.bounded p x y, most)
+
+-- and an eight bit colour is scaled by at most 256
+pub scale_few : (shape : Shape) → IsLegal shape → scale shape ≤ 256
+scale_few shape legal = (largest_by shape.bits (five_depths shape.kind shape.bits legal.depth)).1
+
 -- where a sample is one byte, the bytes are the samples
 pub narrow_made : (filter : SoftOp) (pictures : List Picture) (p y bytes : ℕ) → (shape_of pictures).bits ≡ 8 → bytes ≡ row_bytes (shape_of pictures) p
     → row_from (soft_at filter (shape_of pictures) (map look_in pictures)) p bytes y ≡ bytes_made filter pictures p y
@@ -91,6 +113,34 @@ pub made_again : (filter : SoftOp) (pictures : List Picture) (shape made : Shape
     → out ≡ bytes_made filter pictures p y → row_of_bytes made out ≡ rows_listed shape (soft_at filter shape (map look_in pictures)) p y
 made_again filter pictures shape made p y out is same put =
     rw (put, same, is) (row-bytes_of_row (shape_of pictures) (row_from (soft_at filter (shape_of pictures) (map look_in pictures)) p (plane_width (shape_of pictures) p) y))
+
+-- SAMPLES IN RANGE
+
+map_few : (f : ℕ → ℕ) (ns : List ℕ) (most : ℕ) → ((n : ℕ) → f n ≤ most) → (k : ℕ) → get_or (map f ns) k 0 ≤ most
+map_few f [] most few k = omega arith
+map_few f (n ∷ ns) most few zero = few n
+map_few f (n ∷ ns) most few (suc k) = map_few f ns most few k
+
+all_bounded : (shape : Shape) (pictures : List Picture) → HaveShape shape pictures → All IsPicture pictures → AllBounded shape (map look_in pictures)
+all_bounded shape [] alike are = bounds.none
+all_bounded shape (picture ∷ pictures) alike are =
+    let same : picture.shape ≡ shape = alike 0 picture (omega arith) in
+    let is : IsPicture picture = are 0 picture (omega arith) in
+    bounds.more (record { at = λ p x y. rw same at (is.bounded p x y) }) (all_bounded shape pictures (λ k d h. alike (suc k) d (omega arith)) (λ k d h. are (suc k) d (omega arith)))
+
+-- no sample that a filter makes is over the largest one
+soft_bounded : (filter : SoftOp) (pictures : List Picture) → CanSoften filter pictures → All IsPicture pictures → IsBounded (shape_of pictures) (soft_at filter (shape_of pictures) (map look_in pictures))
+soft_bounded (op.TemporalSoften radius luma chroma) pictures can are =
+    bounds.soften_bounded (shape_of pictures) radius luma chroma (map look_in pictures) (length-map pictures look_in ∙ can.asked) (all_bounded (shape_of pictures) pictures can.alike are)
+soft_bounded (op.GeneralConvolution bias matrix) pictures can are = bounds.convolve_bounded (shape_of pictures) bias matrix (map look_in pictures)
+
+-- so its bytes fit
+pub made_fits : (filter : SoftOp) (pictures : List Picture) (made : Shape) (p y : ℕ) (out : List ℕ) → CanSoften filter pictures → All IsPicture pictures → made ≡ shape_of pictures → out ≡ bytes_made filter pictures p y → FitBytes made out
+made_fits filter pictures made p y out can are same put =
+    let shape : Shape = shape_of pictures in
+    let bounded = soft_bounded filter pictures can are in
+    rw (put, same) (fit_row shape (row_made filter pictures p y)
+    (λ x. map_few (λ n. soft_at filter shape (map look_in pictures) p n y) (range_with_len 0 (plane_width shape p)) (largest_sample shape) (λ n. bounded.at p n y) x))
 
 -- PLANES THAT STAY
 
@@ -149,6 +199,13 @@ narrow_convolved bias weights shape from p x y narrow =
     let one : 1 ≡ scale shape = rw narrow refl in
     ap (λ b. sample_from 255 (int_div sum (divisor_of weights) +ℤ b)) (sym (times_one bias) ∙ ap (λ s. bias *ℤ pos s) one)
     ∙ ap (λ m. sample_from m (int_div sum (divisor_of weights) +ℤ bias *ℤ pos (scale shape))) most
+
+-- one picture is the first, and its sums are what the filter is defined to make
+pub convolved_made : (bias : ℤ) (matrix : Matrix) (pictures : List Picture) (one : Picture) (p y : ℕ) → length pictures ≡ 1 → one ≡ get_or pictures 0 one
+    → row_from (convolved bias matrix.entries one.shape (look_in one)) p (plane_width one.shape p) y ≡ row_made (op.GeneralConvolution bias matrix) pictures p y
+convolved_made bias matrix [] one p y count is = absurd (omega arith)
+convolved_made bias matrix (a ∷ []) one p y count is = ap (λ (q : Picture). row_from (convolved bias matrix.entries q.shape (look_in q)) p (plane_width q.shape p) y) is
+convolved_made bias matrix (a ∷ b ∷ more) one p y count is = absurd (omega arith)
 
 -- a row whose samples are those of the sums around them is listed
 pub convolved_listed : (bias : ℤ) (matrix : Matrix) (pictures : List Picture) (one : Picture) (p y width : ℕ) (out : List ℕ) → length pictures ≡ 1 → one ≡ get_or pictures 0 one → length out ≡ width

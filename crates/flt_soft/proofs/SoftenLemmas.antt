@@ -1,20 +1,26 @@
 -- Means of the samples at a place.
-use Rattle.std.proofs.Common.{◌≡◌, ℕ, ◌+◌, ◌*◌, ◌/◌, ◌<◌, ◌∙◌, List, [], ◌∷◌, length, map, get_or, take, refl, sym, ap, arith, Bool, true, false}
-use Rattle.std.specs.Prelude.{pos, if◌then◌else◌, ◌==◌}
-use Rattle.std.specs.List.{sum}
+use Rattle.std.proofs.Common.{◌≡◌, ℕ, ◌+◌, ◌-◌, ◌*◌, ◌/◌, ◌<◌, ◌∙◌, List, [], ◌∷◌, length, map, get_or, take, refl, sym, ap, arith, Bool, true, false}
+use Rattle.std.specs.Prelude.{ℤ, pos, negsuc, ◌≤ℤ◌, ◌||◌, Some, None, if◌then◌else◌, ◌==◌}
+use Rattle.std.specs.List.{range_with_len, sum}
 use Rattle.std.proofs.lemmas.List.{get_or-map, length-map}
+use Rattle.std.proofs.lemmas.Nat.{pow_pos}
 use Rattle.std.proofs.lemmas.Bool.Decides.{nat_tests}
+use Rattle.std.proofs.lemmas.Int.{ints}
 use Rattle.std.proofs.lemmas.List.Sums.{sum_by_more}
 use Rattle.fv_plane.specs.declared.format.Shape.{Shape}
-use Rattle.fv_plane.specs.Format.{scale}
+use Rattle.fv_plane.specs.Format.{plane_width, scale}
 use Rattle.fv_plane.specs.Picture.{Picture}
-use Rattle.fv_plane.specs.Look.{Look, look_in, look_at, nothing, row_from}
+use Rattle.fv_plane.specs.Look.{Look, look_in, look_at, nothing}
 use Rattle.fv_plane.proofs.FillLemmas.{row_listed}
 use Rattle.clip_term.specs.declared.op.SoftOp.TheVariants.{TemporalSoften}
-use Rattle.clip_term.specs.Refusals.{nat_of}
-use Rattle.clip_term.specs.Soft.{near, softened, samples_at, soft_at}
+use Rattle.fv_plane.specs.Refusals.{first_fault}
+use Rattle.clip_term.specs.declared.fault.FilterFault.{FilterFault}
+use Rattle.clip_term.specs.declared.fault.FilterFault.TheVariants.{BadRange}
+use Rattle.clip_term.specs.Refusals.{beyond, nat_of}
+use Rattle.clip_term.specs.Soft.{near, softened, samples_at, soft_at, soft_refusals}
 use Rattle.clip_term.specs.Terms.{no_picture}
-use Rattle.flt_soft.specs.Pictures.{row_in, shape_of}
+use Rattle.clip_term.proofs.PassedLemmas.{or_false}
+use Rattle.flt_soft.specs.Pictures.{keeps_plane, means_at, row_in, row_made, row_of_means, shape_of}
 
 -- what a picture shows is in its row
 pub look_seen : (pictures : List Picture) (i p x y : ℕ) → i < length pictures → look_at (map look_in pictures) i p x y ≡ get_or (row_in pictures i p y) x 0
@@ -55,6 +61,9 @@ mean_is radius threshold middle count total samples some odd is =
     ap (λ n. (n + count / 2) / count) is ∙ ap (λ n. (S + n) / count) half ∙ ap (λ n. (S + radius) / n) odd
     ∙ sym (second_of (threshold == 0) middle ((S + radius) / (2 * radius + 1)) (not_zero threshold some))
 
+some_product : (n m : ℕ) → 0 < n → 0 < m → 0 < n * m
+some_product n m some more = grind arith
+
 threshold_is : (luma_only : Bool) (luma chroma s : ℕ) → nat_of (if luma_only then pos luma else pos chroma) * s ≡ (if luma_only then luma else chroma) * s
 threshold_is true luma chroma s = refl
 threshold_is false luma chroma s = refl
@@ -63,19 +72,43 @@ threshold_is false luma chroma s = refl
 pub narrow_threshold : (shape : Shape) (threshold n : ℕ) → shape.bits ≡ 8 → threshold ≡ n → threshold ≡ n * scale shape
 narrow_threshold shape threshold n narrow is = rw narrow (omega arith)
 
+-- a threshold that is not 0 stays so for samples of more bits
+pub some_scaled : (shape : Shape) (n : ℕ) → 0 < n → 0 < n * scale shape
+some_scaled shape n some = let one : 0 < scale shape = pow_pos (shape.bits - 8) in some_product n (scale shape) some one
+
+some_by : (luma_only : Bool) (luma chroma : ℕ) → (nat_of (if luma_only then pos luma else pos chroma) == 0) ≡ false → 0 < (if luma_only then luma else chroma)
+some_by true luma chroma other = grind (arith, nat_tests)
+some_by false luma chroma other = grind (arith, nat_tests)
+
+-- a plane that isn't kept has a threshold
+pub some_threshold : (radius luma chroma p : ℕ) → keeps_plane (TemporalSoften (pos radius) (pos luma) (pos chroma)) p ≡ false → 0 < (if p == 0 then luma else chroma)
+some_threshold radius luma chroma p changed =
+    some_by (p == 0) luma chroma (or_false (nat_of (pos radius) == 0) (nat_of (if p == 0 then pos luma else pos chroma) == 0) changed).1
+
 -- the definition at these numbers
 soft_is : (radius luma chroma threshold : ℕ) (shape : Shape) (looks : List Look) (p x y : ℕ) → threshold ≡ (if p == 0 then luma else chroma) * scale shape
     → soft_at (TemporalSoften (pos radius) (pos luma) (pos chroma)) shape looks p x y ≡ softened radius threshold (look_at looks radius p x y) (samples_at looks p x y)
 soft_is radius luma chroma threshold shape looks p x y is =
     ap (λ t. softened radius t (look_at looks radius p x y) (samples_at looks p x y)) (threshold_is (p == 0) luma chroma (scale shape) ∙ sym is)
 
+map_same : (f g : ℕ → ℕ) (ns : List ℕ) → ((n : ℕ) → f n ≡ g n) → map f ns ≡ map g ns
+map_same f g [] each = refl
+map_same f g (n ∷ ns) each = ap (λ k. k ∷ map f ns) (each n) ∙ ap (λ l. g n ∷ l) (map_same f g ns each)
+
+-- the means are what the filter is defined to make
+pub means_made : (radius luma chroma threshold : ℕ) (pictures : List Picture) (p y : ℕ) → length pictures ≡ 2 * radius + 1 → threshold ≡ (if p == 0 then luma else chroma) * scale (shape_of pictures)
+    → row_of_means pictures threshold p y ≡ row_made (TemporalSoften (pos radius) (pos luma) (pos chroma)) pictures p y
+means_made radius luma chroma threshold pictures p y count is =
+    let looks : List Look = map look_in pictures in
+    let half : length pictures / 2 ≡ radius = omega arith in
+    map_same (λ x. means_at pictures threshold p x y) (λ x. soft_at (TemporalSoften (pos radius) (pos luma) (pos chroma)) (shape_of pictures) looks p x y) (range_with_len 0 (plane_width (shape_of pictures) p))
+    (λ x. ap (λ r. softened r threshold (look_at looks r p x y) (samples_at looks p x y)) half ∙ sym (soft_is radius luma chroma threshold (shape_of pictures) looks p x y is))
+
 -- a row whose samples are these means is listed
-pub softened_listed : (radius luma chroma threshold : ℕ) (pictures : List Picture) (p y width : ℕ) (out : List ℕ) → threshold ≡ (if p == 0 then luma else chroma) * scale (shape_of pictures) → length out ≡ width
-    → ((x : ℕ) → x < length out → get_or out x 0 ≡ softened radius threshold (look_at (map look_in pictures) radius p x y) (samples_at (map look_in pictures) p x y))
-    → out ≡ row_from (soft_at (TemporalSoften (pos radius) (pos luma) (pos chroma)) (shape_of pictures) (map look_in pictures)) p width y
-softened_listed radius luma chroma threshold pictures p y width out is long each =
-    row_listed out (soft_at (TemporalSoften (pos radius) (pos luma) (pos chroma)) (shape_of pictures) (map look_in pictures)) p width y long
-    (λ x h. each x (rw long h) ∙ sym (soft_is radius luma chroma threshold (shape_of pictures) (map look_in pictures) p x y is))
+pub means_listed : (pictures : List Picture) (threshold p y : ℕ) (out : List ℕ) → length out ≡ plane_width (shape_of pictures) p → ((x : ℕ) → x < length out → get_or out x 0 ≡ means_at pictures threshold p x y)
+    → out ≡ row_of_means pictures threshold p y
+means_listed pictures threshold p y out long each =
+    row_listed out (means_at pictures threshold) p (plane_width (shape_of pictures) p) y long (λ x h. each x (rw long h))
 
 three_samples : (pictures : List Picture) (p x y : ℕ) → length pictures ≡ 3
     → samples_at (map look_in pictures) p x y ≡ get_or (row_in pictures 0 p y) x 0 ∷ get_or (row_in pictures 1 p y) x 0 ∷ get_or (row_in pictures 2 p y) x 0 ∷ []
@@ -111,3 +144,26 @@ pub five_is : (threshold : ℕ) (pictures : List Picture) (p x y : ℕ) (a b c d
 five_is threshold pictures p x y a b c d e count a_is b_is c_is d_is e_is =
     rw (a_is, b_is, c_is, d_is, e_is) (ap (λ l. softened 2 threshold (get_or (row_in pictures 2 p y) x 0) l) (sym (five_samples pictures p x y count))
     ∙ ap (λ m. softened 2 threshold m (samples_at (map look_in pictures) p x y)) (sym (look_seen pictures 2 p x y (omega arith))))
+
+-- ARGUMENTS
+
+in_bounds : (z : ℤ) (n : ℕ) → beyond z n ≡ false → (pos 0 ≤ℤ z) × (z ≤ℤ pos n)
+in_bounds (pos k) n e = (grind (arith, ints, nat_tests), grind (arith, ints, nat_tests))
+in_bounds (negsuc k) n e = (grind (arith, ints, nat_tests), grind (arith, ints, nat_tests))
+
+no_fault : (test : Bool) (fault : FilterFault) → (if test then Some fault else None) ≡ None → test ≡ false
+no_fault true fault e = cc
+no_fault false fault e = refl
+
+-- arguments that aren't refused are within their bounds
+pub record AreTold (r l c : ℤ) : Type 0 where
+  pub radius : (pos 0 ≤ℤ r) × (r ≤ℤ pos 7)
+  pub luma : (pos 0 ≤ℤ l) × (l ≤ℤ pos 255)
+  pub chroma : (pos 0 ≤ℤ c) × (c ≤ℤ pos 255)
+
+pub are_told : (radius luma chroma : ℤ) → first_fault (soft_refusals (TemporalSoften radius luma chroma)) ≡ None → AreTold radius luma chroma
+are_told radius luma chroma e =
+    let tests = no_fault ((beyond radius 7 || beyond luma 255) || beyond chroma 255) BadRange e in
+    let last = or_false (beyond radius 7 || beyond luma 255) (beyond chroma 255) tests in
+    let first = or_false (beyond radius 7) (beyond luma 255) last.0 in
+    record { radius = in_bounds radius 7 first.0; luma = in_bounds luma 255 first.1; chroma = in_bounds chroma 255 last.1 }

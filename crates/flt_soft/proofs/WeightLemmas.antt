@@ -1,6 +1,6 @@
 -- Sums of samples around a place, each times its weight.
 use Rattle.std.proofs.Common.{◌≡◌, ℕ, zero, suc, ◌+◌, ◌-◌, ◌*◌, ◌/◌, ◌%◌, ◌<◌, ◌≤◌, ◌∙◌, List, [], ◌∷◌, ◌++◌, length, get_or, take, drop, replicate, refl, sym, ap, arith, inl, inr, min, true}
-use Rattle.std.specs.Prelude.{ℤ, pos, negsuc, neg_ℤ, ◌+ℤ◌, ◌*ℤ◌, ◌≤ℤ◌, unsigned_abs, ◌||◌, ◌==◌}
+use Rattle.std.specs.Prelude.{ℤ, pos, negsuc, ◌+ℤ◌, ◌*ℤ◌, unsigned_abs, ◌||◌, ◌==◌}
 use Rattle.std.proofs.lemmas.List.{get_or_append_left, get_or-append_right, get_or-replicate, length-replicate, get_or_past, drop_more}
 use Rattle.std.proofs.lemmas.Bool.{and_parts, cases_lt}
 use Rattle.std.proofs.lemmas.Bool.Decides.{nat_tests}
@@ -14,7 +14,7 @@ use Rattle.clip_term.specs.Arguments.{is_weight}
 use Rattle.clip_term.specs.Soft.{place, weighed, total}
 use Rattle.clip_term.specs.Terms.{is_matrix}
 use Rattle.clip_term.proofs.PassedLemmas.{all_at}
-use Rattle.flt_soft.specs.Rows.{extended, weighed_three, weighed_five, IsWeight, AreWeights, AreSmall}
+use Rattle.flt_soft.specs.Rows.{extended, weighed_three, weighed_five, IsBias, IsWeight, IsWithin, AreWeights, AreSmall, AreWithin}
 
 -- a padded row shows each place brought into the row
 pub extended_at : (count : ℕ) (row : List ℕ) (k : ℕ) → 0 < length row → k < length row + 2 * count → get_or (extended count row) k 0 ≡ get_or row (min (k - count) (length row - 1)) 0
@@ -104,11 +104,6 @@ of_25_more shape from p x y i entries row all few long across seen =
 
 -- SIZES
 
--- no further from 0 than this
-pub record IsWithin (most : ℕ) (z : ℤ) : Type 0 where
-  pub low : neg_ℤ (pos most) ≤ℤ z
-  pub high : z ≤ℤ pos most
-
 pub size_of_weight : (weight : ℤ) → IsWeight weight → unsigned_abs weight ≤ 1024
 size_of_weight (pos n) is = omega (arith, ints, is.high)
 size_of_weight (negsuc n) is = omega (arith, ints, is.low)
@@ -131,6 +126,37 @@ weighed_within side k (suc n) (entry ∷ entries) shape from p x y are few =
     let one = times_within entry (from p column line) (are 0) (few column line) in
     let rest = weighed_within side (k + 1) n entries shape from p x y (λ j. are (suc j)) few in
     record { low = omega (arith, ints, one.low, rest.low); high = omega (arith, ints, one.high, rest.high) }
+
+pub times_far : (weight : ℤ) (sample : ℕ) → IsWeight weight → sample ≤ 65535 → IsWithin 67107840 (weight *ℤ pos sample)
+times_far weight sample is few =
+    within_by 67107840 (weight *ℤ pos sample) (omega (arith, unsigned_abs-mul weight (pos sample), mul-le (unsigned_abs weight) sample 1024 65535 (size_of_weight weight is) few))
+
+pub size_of_bias : (bias : ℤ) → IsBias bias → unsigned_abs bias ≤ 255
+size_of_bias (pos n) is = omega (arith, ints, is.high)
+size_of_bias (negsuc n) is = omega (arith, ints, is.low)
+
+-- a bias, scaled
+pub bias_within : (bias : ℤ) (s : ℕ) → IsBias bias → s ≤ 256 → IsWithin 65280 (bias *ℤ pos s)
+bias_within bias s is few = within_by 65280 (bias *ℤ pos s) (omega (arith, unsigned_abs-mul bias (pos s), mul-le (unsigned_abs bias) s 255 256 (size_of_bias bias is) few))
+
+-- the same for samples of two bytes
+pub weighed_far : (side k n : ℕ) (entries : List ℤ) (shape : Shape) (from : Look) (p x y : ℕ) → AreWeights entries → ((a b : ℕ) → from p a b ≤ 65535)
+    → IsWithin (67107840 * n) (weighed side k (take n entries) shape from p x y)
+weighed_far side k zero entries shape from p x y are few = record { low = omega (arith, ints); high = omega (arith, ints) }
+weighed_far side k (suc n) [] shape from p x y are few = record { low = omega (arith, ints); high = omega (arith, ints) }
+weighed_far side k (suc n) (entry ∷ entries) shape from p x y are few =
+    let column = place x (k % side) (side / 2) (plane_width shape p) in
+    let line = place y (k / side) (side / 2) (plane_height shape p) in
+    let one = times_far entry (from p column line) (are 0) (few column line) in
+    let rest = weighed_far side (k + 1) n entries shape from p x y (λ j. are (suc j)) few in
+    record { low = omega (arith, ints, one.low, rest.low); high = omega (arith, ints, one.high, rest.high) }
+
+-- sums that are within this in their places
+pub sums_within : (sums : List ℤ) (least most : ℕ) → least ≤ most → ((x : ℕ) → x < length sums → IsWithin least (get_or sums x (pos 0))) → AreWithin most sums
+sums_within sums least most few are x = elim (cases_lt x (length sums)) [
+  | inl inside ↦ (let is = are x inside in record { low = omega (arith, ints, is.low); high = omega (arith, ints, is.high) })
+  | inr past ↦ rw (get_or_past sums x (pos 0) past) (record { low = omega (arith, ints); high = omega (arith, ints) })
+]
 
 -- sums that are within 2^23 in their places
 pub sums_small : (sums : List ℤ) (most : ℕ) → most ≤ 8388607 → ((x : ℕ) → x < length sums → IsWithin most (get_or sums x (pos 0))) → AreSmall sums

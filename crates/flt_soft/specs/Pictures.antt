@@ -1,16 +1,16 @@
 -- What a filter makes of pictures.
-use Rattle.std.specs.Prelude.{◌≡◌, ℕ, ◌+◌, ◌*◌, Bool, false, ◌||◌, if◌then◌else◌, ◌==◌, List, map, length, slice_index_or, IsTrue, None}
+use Rattle.std.specs.Prelude.{◌≡◌, ℕ, ◌+◌, ◌*◌, ◌/◌, ◌<◌, ◌≤◌, Bool, false, ◌||◌, if◌then◌else◌, ◌==◌, List, map, length, slice_index_or, IsTrue, None}
 use Rattle.std.specs.List.{All}
 use Rattle.fv_plane.specs.declared.format.Shape.{Shape}
 use Rattle.fv_plane.specs.Picture.{Picture, row_of}
 use Rattle.fv_plane.specs.Bytes.{bytes_of_row}
-use Rattle.fv_plane.specs.Format.{plane_width}
-use Rattle.fv_plane.specs.Look.{look_in, picture_from, row_from}
+use Rattle.fv_plane.specs.Format.{planes, plane_width, plane_height}
+use Rattle.fv_plane.specs.Look.{Look, look_at, look_in, picture_from, row_from}
 use Rattle.fv_plane.specs.Refusals.{first_fault}
 use Rattle.clip_term.specs.declared.op.SoftOp.{SoftOp}
 use Rattle.clip_term.specs.declared.op.SoftOp.TheVariants as op
 use Rattle.clip_term.specs.Refusals.{nat_of}
-use Rattle.clip_term.specs.Soft.{soft_refusals, soft_at}
+use Rattle.clip_term.specs.Soft.{samples_at, soft_refusals, soft_at, softened}
 use Rattle.clip_term.specs.Terms.{no_picture, soft_lists}
 
 abbrev pub shape_of : List Picture → Shape
@@ -22,11 +22,25 @@ HaveShape shape pictures = All (λ (picture : Picture). picture.shape ≡ shape)
 abbrev pub soft_picture : SoftOp → List Picture → Picture
 soft_picture op pictures = picture_from (shape_of pictures) (soft_at op (shape_of pictures) (map look_in pictures))
 
--- the bytes of a row that a filter makes
-abbrev pub bytes_made : SoftOp → List Picture → ℕ → ℕ → List ℕ
-bytes_made op pictures p y =
+-- the means of the samples at each place
+abbrev pub means_at : List Picture → ℕ → Look
+means_at pictures threshold p x y =
+    let half = length pictures / 2 in
+    softened half threshold (look_at (map look_in pictures) half p x y) (samples_at (map look_in pictures) p x y)
+
+-- a row of them
+abbrev pub row_of_means : List Picture → ℕ → ℕ → ℕ → List ℕ
+row_of_means pictures threshold p y = row_from (means_at pictures threshold) p (plane_width (shape_of pictures) p) y
+
+-- a row that a filter makes
+abbrev pub row_made : SoftOp → List Picture → ℕ → ℕ → List ℕ
+row_made op pictures p y =
     let shape = shape_of pictures in
-    bytes_of_row shape (row_from (soft_at op shape (map look_in pictures)) p (plane_width shape p) y)
+    row_from (soft_at op shape (map look_in pictures)) p (plane_width shape p) y
+
+-- its bytes
+abbrev pub bytes_made : SoftOp → List Picture → ℕ → ℕ → List ℕ
+bytes_made op pictures p y = bytes_of_row (shape_of pictures) (row_made op pictures p y)
 
 -- how many frames a filter asks
 abbrev pub asked_count : SoftOp → ℕ
@@ -49,3 +63,12 @@ keeps_plane (op.GeneralConvolution bias matrix) p = false
 -- a row of one of the pictures
 abbrev pub row_in : List Picture → ℕ → ℕ → ℕ → List ℕ
 row_in pictures i p y = row_of (slice_index_or pictures i no_picture).planes p y
+
+-- a row of 3 to 15 pictures of one shape
+pub record AreAround (pictures : List Picture) (p y : ℕ) : Type 0 where
+  pub some : 1 ≤ length pictures / 2
+  pub few : length pictures ≤ 15
+  pub odd : length pictures ≡ 2 * (length pictures / 2) + 1
+  pub alike : HaveShape (shape_of pictures) pictures
+  pub plane : p < planes (shape_of pictures).kind
+  pub inside : y < plane_height (shape_of pictures) p

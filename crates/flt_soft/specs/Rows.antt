@@ -1,5 +1,5 @@
 -- What is made of rows of samples.
-use Rattle.std.specs.Prelude.{ℕ, ◌+◌, ◌-◌, ◌*◌, ◌^◌, ◌<◌, ◌≤◌, ℤ, pos, negsuc, ◌+ℤ◌, ◌*ℤ◌, ◌≤ℤ◌, List, ◌++◌, length, replicate, slice_index, slice_index_or}
+use Rattle.std.specs.Prelude.{ℕ, ◌+◌, ◌-◌, ◌*◌, ◌^◌, ◌<◌, ◌≤◌, ℤ, pos, negsuc, neg_ℤ, ◌+ℤ◌, ◌*ℤ◌, ◌≤ℤ◌, List, ◌++◌, length, replicate, slice_index, slice_index_or}
 
 -- a row with its first and its last sample repeated before and after it
 abbrev pub extended : ℕ → List ℕ → List ℕ
@@ -32,6 +32,14 @@ pub record IsSmall (sum : ℤ) : Type 0 where
 abbrev pub AreSmall : List ℤ → Type 0
 AreSmall sums = (x : ℕ) → IsSmall (slice_index_or sums x (pos 0))
 
+-- no further from 0 than this
+pub record IsWithin (most : ℕ) (sum : ℤ) : Type 0 where
+  pub low : neg_ℤ (pos most) ≤ℤ sum
+  pub high : sum ≤ℤ pos most
+
+abbrev pub AreWithin : ℕ → List ℤ → Type 0
+AreWithin most sums = (x : ℕ) → IsWithin most (slice_index_or sums x (pos 0))
+
 -- a bias is from -255 to 255
 pub record IsBias (bias : ℤ) : Type 0 where
   pub low : negsuc 254 ≤ℤ bias
@@ -44,3 +52,11 @@ pub record IsReciprocal (divisor factor bits : ℕ) : Type 0 where
   pub low : 2 ^ bits ≤ factor * divisor
   pub high : factor * divisor ≤ 2 ^ bits + divisor
   pub wide : 2 ^ 23 * divisor ≤ 2 ^ bits
+
+-- the same for numbers below 2^31
+pub record IsWideReciprocal (divisor factor bits : ℕ) : Type 0 where
+  pub some : 0 < divisor
+  pub few : bits < 64
+  pub low : 2 ^ bits ≤ factor * divisor
+  pub high : factor * divisor ≤ 2 ^ bits + divisor
+  pub wide : 2 ^ 31 * divisor ≤ 2 ^ bits

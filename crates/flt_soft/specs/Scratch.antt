@@ -1,9 +1,16 @@
 -- The rows of a scratch.
 use Rattle.std.specs.Prelude.{◌≡◌, ℕ, ◌+◌, ◌<◌}
 
--- a row of each kind for pictures of this width; a padded row is 4 samples wider
-pub record HasRows (width padded means sums : ℕ) : Type 0 where
+-- a padded row is 4 samples wider than the pictures
+pub record IsPadded (width padded : ℕ) : Type 0 where
   pub none : width ≡ 0 → padded ≡ 0
-  pub for_padded : 0 < width → padded ≡ width + 4
+  pub some : 0 < width → padded ≡ width + 4
+
+-- a row of each kind for pictures of this width
+pub record HasRows (width padded means sums wide_padded wide totals : ℕ) : Type 0 where
+  pub for_padded : IsPadded width padded
   pub for_means : means ≡ width
   pub for_sums : sums ≡ width
+  pub for_wide_padded : IsPadded width wide_padded
+  pub for_wide : wide ≡ width
+  pub for_totals : totals ≡ width

@@ -8,6 +8,7 @@ ghost use Rattle.flt_soft.specs.Pictures.{CanSoften, shape_of, soft_picture};
 ghost use Rattle.flt_soft.specs.Rows.{IsWeight, AreWeights, IsBias, IsSmall, AreSmall};
 ghost use Rattle.flt_soft.specs.Squares.{size_of_all, entries_of, IsEnding};
 
+use crate::convolve_wide::convolve_wide;
 use crate::kernels::{add_five, add_three, pad_row, show_row};
 use crate::narrow::{self, Ending, Square, Weights, narrow_reciprocal_of};
 use crate::reciprocal::reciprocal_of;
@@ -17,8 +18,8 @@ use clip_term::Matrix;
 use fv_plane::Frame;
 use std::alloc::{AllocError, Global};
 
-// A place beside another, brought to the edge where it is past it.
-fn place(at: u32, step: u32, half: u32, size: u32) -> u32
+/// A place beside another, brought to the edge where it is past it.
+pub fn place(at: u32, step: u32, half: u32, size: u32) -> u32
     requires inside { at < size }
     requires small { size ≤ 65535 }
     requires near { step ≤ 4 }
@@ -28,7 +29,8 @@ fn place(at: u32, step: u32, half: u32, size: u32) -> u32
     (at + step).saturating_sub(half).min(size - 1)
 }
 
-fn weight(weights: &[i32], k: usize) -> i16
+/// A weight by its number.
+pub fn weight(weights: &[i32], k: usize) -> i16
     requires inside { k < length weights.now }
     requires weights { AreWeights weights.now }
     ensures value { result ≡ slice_index_or weights.now k (pos 0) }
@@ -119,8 +121,8 @@ fn total(weights: &[i32]) -> i32
     sum
 }
 
-// The sum of the weights, and 1 where it is 0.
-fn divisor_of(weights: &[i32]) -> i32
+/// The sum of the weights, and 1 where it is 0.
+pub fn divisor_of(weights: &[i32]) -> i32
     requires few { length weights.now ≤ 25 }
     requires weights { AreWeights weights.now }
     ensures value { result ≡ divisor_of weights.now }
@@ -160,7 +162,7 @@ fn sum_around(
 }
 
 // A row of the picture that is made, by sums of 32 bits.
-fn convolve_wide(
+fn convolve_in_32_bits(
     input: &Frame,
     plane: u32,
     y: u32,
@@ -251,7 +253,14 @@ fn ending_of(divisor: i32, bias: i32) -> Ending
 }
 
 // A row of the picture that is made, by sums of 16 bits.
-fn convolve_narrow(input: &Frame, plane: u32, y: u32, bias: i32, weights: &[i32], out: &mut [u8])
+fn convolve_in_16_bits(
+    input: &Frame,
+    plane: u32,
+    y: u32,
+    bias: i32,
+    weights: &[i32],
+    out: &mut [u8],
+)
     requires narrow { input.now.shape.bits ≡ 8 }
     requires plane { plane < planes input.now.shape.kind }
     requires inside { y < plane_height input.now.shape plane }
@@ -295,9 +304,9 @@ fn convolve_row(
         ≡ convolved bias weights.now input.now.shape (look_in input.now) plane x y) }
 {
     if weights.len() == 9 && size_of_all(weights) <= 128 {
-        convolve_narrow(input, plane, y, bias, weights, out);
+        convolve_in_16_bits(input, plane, y, bias, weights, out);
     } else {
-        convolve_wide(input, plane, y, bias, weights, padded, sums, out);
+        convolve_in_32_bits(input, plane, y, bias, weights, padded, sums, out);
     }
 }
 
@@ -355,12 +364,19 @@ impl RowFilter for ConvolveRows<'_> {
         out: &mut [u8],
     ) {
         let input = &inputs[0];
-        // Called for what its contract says.
-        let _ = input.shape();
         let weights = self.matrix.entries.as_slice();
-        let padded = &mut scratch.padded;
         let sums = &mut scratch.sums;
-        convolve_in(input, plane, y, self.bias, weights, padded, sums, out);
+        let shape = input.shape();
+        if shape.bits == 8 {
+            let padded = &mut scratch.padded;
+            convolve_in(input, plane, y, self.bias, weights, padded, sums, out);
+        } else {
+            let padded = &mut scratch.wide_padded;
+            let samples = &mut scratch.wide;
+            convolve_wide(
+                input, plane, y, self.bias, weights, padded, samples, sums, out,
+            );
+        }
     }
 }
 

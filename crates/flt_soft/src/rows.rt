@@ -1,6 +1,7 @@
 // Filters that make each row of a picture by itself.
 ghost use Rattle.std.specs.Prelude.{◌≡◌, ◌<◌, ◌≤◌, max, IfOk, OnOk, OnErr, false, length};
-ghost use Rattle.fv_plane.specs.Format.{planes, plane_width, plane_height, row_bytes};
+ghost use Rattle.std.specs.List.{All};
+ghost use Rattle.fv_plane.specs.Format.{planes, plane_width, plane_height, row_bytes, sample_bytes};
 ghost use Rattle.fv_plane.specs.Picture.{IsPicture, row_of};
 ghost use Rattle.clip_term.specs.declared.op.SoftOp.{SoftOp};
 ghost use Rattle.flt_soft.specs.Pictures.{CanSoften, HaveShape, bytes_made, keeps_plane, row_in, shape_of, soft_picture};
@@ -34,6 +35,20 @@ pub fn row_in(inputs: &[Frame], i: usize, plane: u32, y: u32) -> &[u8]
     narrow_row(input, plane, y)
 }
 
+/// Reads a row of one of the inputs, of samples of two bytes.
+pub fn read_row_in(inputs: &[Frame], i: usize, plane: u32, y: u32, samples: &mut [u16])
+    requires input { i < length inputs.now }
+    requires alike { HaveShape (shape_of inputs.now) inputs.now }
+    requires wide { sample_bytes (shape_of inputs.now) ≡ 2 }
+    requires plane { plane < planes (shape_of inputs.now).kind }
+    requires inside { y < plane_height (shape_of inputs.now) plane }
+    requires whole { length samples.old ≡ plane_width (shape_of inputs.now) plane }
+    ensures { samples.new ≡ row_in inputs.now i plane y }
+{
+    let input = &inputs[i];
+    input.read_row(plane, y, samples);
+}
+
 /// A filter that makes a row from the rows of the inputs.
 pub trait RowFilter {
     /// The filter with its arguments.
@@ -43,10 +58,9 @@ pub trait RowFilter {
     fn keeps_plane(&self, plane: u32) -> bool
         ensures { result ≡ keeps_plane (op self.now) plane };
 
-    /// Writes the bytes of a row of a plane that isn't kept, of samples of eight bits.
+    /// Writes the bytes of a row of a plane that isn't kept.
     fn fill_row(&self, inputs: &[Frame], plane: u32, y: u32, scratch: &mut Scratch, out: &mut [u8])
         requires able { CanSoften (op self.now) inputs.now }
-        requires narrow { (shape_of inputs.now).bits ≡ 8 }
         requires changed { keeps_plane (op self.now) plane ≡ false }
         requires plane { plane < planes (shape_of inputs.now).kind }
         requires inside { y < plane_height (shape_of inputs.now) plane }
@@ -54,6 +68,15 @@ pub trait RowFilter {
         requires room { plane_width (shape_of inputs.now) plane ≤ scratch.old }
         ensures row { out.new ≡ bytes_made (op self.now) inputs.now plane y }
         ensures room { scratch.new ≡ scratch.old };
+}
+
+// Tells that each frame is a picture, as the contract of its shape does.
+fn see_pictures(inputs: &[Frame])
+    ensures { All IsPicture inputs.now }
+{
+    for input in inputs {
+        let _ = input.shape();
+    }
 }
 
 // Makes the planes of the picture, in a builder of its shape.
@@ -74,8 +97,9 @@ fn fill_planes<F: RowFilter>(
     let first = &inputs[0];
     let middle = &inputs[inputs.len() / 2];
     let shape = first.shape();
-    // Called for what its contract says.
+    // Called for what their contracts say.
     let _ = middle.shape();
+    see_pictures(inputs);
     for plane in 0..shape.kind.planes() {
         if filter.keeps_plane(plane) {
             made.put_plane(plane, middle, plane)?;

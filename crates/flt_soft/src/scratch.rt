@@ -13,6 +13,10 @@ pub struct Scratch {
     pub(crate) padded: Vec<u8>,
     pub(crate) means: Vec<u16>,
     pub(crate) sums: Vec<i32>,
+    // For samples of two bytes.
+    pub(crate) wide_padded: Vec<u16>,
+    pub(crate) wide: Vec<u16>,
+    pub(crate) totals: Vec<u32>,
 }
 
 impl Model for Scratch {
@@ -24,7 +28,8 @@ impl Model for Scratch {
 
     ghost view = { λ s. s.width };
 
-    ghost invariant = { λ s. HasRows s.width (vec_len s.padded) (vec_len s.means) (vec_len s.sums) };
+    ghost invariant = { λ s. HasRows s.width (vec_len s.padded) (vec_len s.means) (vec_len s.sums)
+        (vec_len s.wide_padded) (vec_len s.wide) (vec_len s.totals) };
 }
 
 impl Scratch {
@@ -38,17 +43,22 @@ impl Scratch {
             padded: Vec::new(alloc),
             means: Vec::new(alloc),
             sums: Vec::new(alloc),
+            wide_padded: Vec::new(alloc),
+            wide: Vec::new(alloc),
+            totals: Vec::new(alloc),
         }
     }
 
-    /// The bytes of its rows: at most as many as four rows of `u32` have.
+    /// The bytes of its rows: at most as many as eight rows of `u32` have.
     pub fn bytes(&self) -> u64
         requires { self.now ≤ 65535 }
         ensures none { self.now ≡ 0 → result ≡ 0 }
-        ensures rows { 0 < self.now → result ≡ 7 * self.now + 4 }
-        ensures few { result ≤ 16 * self.now }
+        ensures rows { 0 < self.now → result ≡ 15 * self.now + 12 }
+        ensures few { result ≤ 32 * self.now }
     {
-        self.padded.len() as u64 + 2 * self.means.len() as u64 + 4 * self.sums.len() as u64
+        let narrow = self.padded.len() as u64 + 2 * self.means.len() as u64;
+        let wide = 2 * (self.wide_padded.len() as u64 + self.wide.len() as u64);
+        narrow + wide + 4 * (self.sums.len() as u64 + self.totals.len() as u64)
     }
 
     // Rows of this width. An `Err` is out of memory.
@@ -63,6 +73,9 @@ impl Scratch {
             padded: vec![in alloc; 0u8; width + 4]?,
             means: vec![in alloc; 0u16; width]?,
             sums: vec![in alloc; 0i32; width]?,
+            wide_padded: vec![in alloc; 0u16; width + 4]?,
+            wide: vec![in alloc; 0u16; width]?,
+            totals: vec![in alloc; 0u32; width]?,
         })
     }
 

@@ -1,14 +1,13 @@
 // Means of frames that follow each other.
-ghost use Rattle.std.specs.Prelude.{◌≡◌, ◌<◌, ◌≤◌, ◌+◌, ◌*◌, ◌/◌, max, map, pos, IfOk, OnErr, length, if◌then◌else◌, ◌==◌, EachIndex, slice_index};
-ghost use Rattle.fv_plane.specs.Format.{planes, plane_width, plane_height};
-ghost use Rattle.fv_plane.specs.Look.{look_in, look_at};
+ghost use Rattle.std.specs.Prelude.{◌≡◌, ◌<◌, ◌≤◌, ◌/◌, max, pos, IfOk, OnErr, length, if◌then◌else◌, ◌==◌, EachIndex, slice_index, vec_len};
+ghost use Rattle.fv_plane.specs.Format.{plane_width};
 ghost use Rattle.clip_term.specs.declared.op.SoftOp.TheVariants.{TemporalSoften};
-ghost use Rattle.clip_term.specs.Soft.{softened, samples_at};
-ghost use Rattle.flt_soft.specs.Pictures.{CanSoften, HaveShape, shape_of, soft_picture};
+ghost use Rattle.flt_soft.specs.Pictures.{AreAround, CanSoften, means_at, shape_of, soft_picture};
 
 use crate::kernels::{add_near, mean_row, soften_five, soften_three};
 use crate::rows::{RowFilter, make_by_rows, row_in};
 use crate::scratch::Scratch;
+use crate::soften_wide::{scaled, soften_wide};
 use fv_plane::Frame;
 use std::alloc::{AllocError, Global};
 
@@ -22,18 +21,12 @@ fn soften_many(
     out: &mut [u8],
 )
     requires some { 0 < threshold }
-    requires radius { 3 ≤ length inputs.now / 2 }
-    requires few { length inputs.now ≤ 15 }
-    requires odd { length inputs.now ≡ 2 * (length inputs.now / 2) + 1 }
-    requires alike { HaveShape (shape_of inputs.now) inputs.now }
+    requires many { 3 ≤ length inputs.now / 2 }
+    requires around { AreAround inputs.now plane y }
     requires narrow { (shape_of inputs.now).bits ≡ 8 }
-    requires plane { plane < planes (shape_of inputs.now).kind }
-    requires inside { y < plane_height (shape_of inputs.now) plane }
     requires whole { length out.old ≡ plane_width (shape_of inputs.now) plane }
     requires sums { length sums.old ≡ length out.old }
-    ensures { EachIndex out.new (λ x. slice_index out.new x ≡ softened (length inputs.now / 2) threshold
-        (look_at (map look_in inputs.now) (length inputs.now / 2) plane x y)
-        (samples_at (map look_in inputs.now) plane x y)) }
+    ensures { EachIndex out.new (λ x. slice_index out.new x ≡ means_at inputs.now threshold plane x y) }
 {
     let row = row_in(inputs, inputs.len() / 2, plane, y);
     sums.fill(0);
@@ -46,6 +39,47 @@ fn soften_many(
         11 => mean_row::<11>(sums, out),
         13 => mean_row::<13>(sums, out),
         _ => mean_row::<15>(sums, out),
+    }
+}
+
+// A row of means of samples of eight bits. The row of sums may be wider.
+fn soften_narrow(
+    inputs: &[Frame],
+    plane: u32,
+    y: u32,
+    threshold: u8,
+    sums: &mut Vec<u16>,
+    out: &mut [u8],
+)
+    requires some { 0 < threshold }
+    requires around { AreAround inputs.now plane y }
+    requires narrow { (shape_of inputs.now).bits ≡ 8 }
+    requires whole { length out.old ≡ plane_width (shape_of inputs.now) plane }
+    requires sums { length out.old ≤ vec_len sums.old }
+    ensures row { EachIndex out.new (λ x. slice_index out.new x ≡ means_at inputs.now threshold plane x y) }
+    ensures sums { vec_len sums.new ≡ vec_len sums.old }
+{
+    match inputs.len() {
+        3 => soften_three(
+            row_in(inputs, 0, plane, y),
+            row_in(inputs, 1, plane, y),
+            row_in(inputs, 2, plane, y),
+            threshold,
+            out,
+        ),
+        5 => soften_five(
+            row_in(inputs, 0, plane, y),
+            row_in(inputs, 1, plane, y),
+            row_in(inputs, 2, plane, y),
+            row_in(inputs, 3, plane, y),
+            row_in(inputs, 4, plane, y),
+            threshold,
+            out,
+        ),
+        _ => {
+            let (sums, _) = sums.as_mut_slice().split_at_mut(out.len());
+            soften_many(inputs, plane, y, threshold, sums, out);
+        }
     }
 }
 
@@ -82,27 +116,15 @@ impl RowFilter for SoftenRows {
         out: &mut [u8],
     ) {
         let threshold = self.threshold(plane);
-        match self.radius {
-            1 => soften_three(
-                row_in(inputs, 0, plane, y),
-                row_in(inputs, 1, plane, y),
-                row_in(inputs, 2, plane, y),
-                threshold,
-                out,
-            ),
-            2 => soften_five(
-                row_in(inputs, 0, plane, y),
-                row_in(inputs, 1, plane, y),
-                row_in(inputs, 2, plane, y),
-                row_in(inputs, 3, plane, y),
-                row_in(inputs, 4, plane, y),
-                threshold,
-                out,
-            ),
-            _ => {
-                let (sums, _) = scratch.means.as_mut_slice().split_at_mut(out.len());
-                soften_many(inputs, plane, y, threshold, sums, out);
-            }
+        let shape = inputs[0].shape();
+        if shape.bits == 8 {
+            soften_narrow(inputs, plane, y, threshold, &mut scratch.means, out);
+        } else {
+            let threshold = scaled(threshold, shape);
+            let middle = &mut scratch.wide;
+            let row = &mut scratch.wide_padded;
+            let sums = &mut scratch.totals;
+            soften_wide(inputs, plane, y, threshold, middle, row, sums, out);
         }
     }
 }

@@ -6,4 +6,4 @@ use Rattle.flt_soft.proofs.convolve.convolve_row.Goals as goal
 
 pub returns-else-weights-eq9 : goal.returns-else-weights-eq9
 returns-else-weights-eq9 c =
-    λ x h. c.convolve_wide.ensures x h ∙ ap (λ b. convolved b c.args.weights.now c.args.input.now.shape (look_in c.args.input.now) c.args.plane x c.args.y) (to_z-of_z w32 c.args.bias c.ranges.bias)
+    λ x h. c.convolve_in_32_bits.ensures x h ∙ ap (λ b. convolved b c.args.weights.now c.args.input.now.shape (look_in c.args.input.now) c.args.plane x c.args.y) (to_z-of_z w32 c.args.bias c.ranges.bias)

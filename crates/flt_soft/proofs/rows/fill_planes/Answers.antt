@@ -5,13 +5,12 @@ use Rattle.fv_plane.specs.Bytes.{row_of_bytes}
 use Rattle.fv_plane.specs.Format.{planes, plane_width, plane_height, row_bytes}
 use Rattle.fv_plane.specs.Look.{Look, look_in, picture_from}
 use Rattle.fv_plane.specs.Picture.{Picture}
-use Rattle.fv_plane.proofs.CallerLemmas.{eight_bits, fit_narrow}
 use Rattle.fv_plane.proofs.FillLemmas.{filled_put, filled_plane, filled_done}
 use Rattle.fv_plane.proofs.WholePlaneLemmas.{rows_listed, filled_whole, row_seen}
 use Rattle.clip_term.specs.Soft.{soft_at}
 use Rattle.clip_term.specs.Terms.{no_picture}
 use Rattle.flt_soft.specs.Pictures.{keeps_plane, shape_of, soft_picture}
-use Rattle.flt_soft.proofs.PictureLemmas.{first_shape, kept_samples, made_again, shape_same, some_pictures, width_at_most, none_filled}
+use Rattle.flt_soft.proofs.PictureLemmas.{first_shape, kept_samples, made_again, made_fits, shape_same, some_pictures, width_at_most, none_filled}
 use Rattle.flt_soft.proofs.rows.fill_planes.Goals as goal
 
 pub loop-plane-init : goal.loop-plane-init
@@ -142,14 +141,10 @@ returns-clause-made g c =
     ∙ ap (λ (s : Shape). picture_from s (soft_at filter s (map look_in inputs))) shape in
     whole
 
-pub fill_row-requires-clause-narrow : goal.fill_row-requires-clause-narrow
-fill_row-requires-clause-narrow g c =
-    let inputs : List Picture = c.args.inputs.now in
-    let some : 0 < length inputs = some_pictures (g.F.RowFilter.op c.args.filter.now) inputs c.requires.able in
-    let first = c.index-inputs-0.result in
-    ap (λ (s : Shape). s.bits) (sym (first_shape inputs first some c.index-inputs-0.is)) ∙ eight_bits first.shape c.shape-shape.ensures.sizes.legal
-
 pub put_row-requires-clause-fits : goal.put_row-requires-clause-fits
 put_row-requires-clause-fits g c =
-    let made = c.loop-y.made.shape in
-    fit_narrow made c.fill_row.new.out (ap (λ (s : Shape). s.bits) (c.loop-y.invariant.filled.same ∙ c.shape-shape.ensures.shape) ∙ eight_bits c.index-inputs-0.result.shape c.shape-shape.ensures.sizes.legal)
+    let filter = g.F.RowFilter.op c.args.filter.now in
+    let inputs : List Picture = c.args.inputs.now in
+    let some : 0 < length inputs = some_pictures filter inputs c.requires.able in
+    let shape : c.shape-shape.result ≡ shape_of inputs = c.shape-shape.ensures.shape ∙ first_shape inputs c.index-inputs-0.result some c.index-inputs-0.is in
+    made_fits filter inputs c.loop-y.made.shape c.loop-plane.plane c.loop-y.y c.fill_row.new.out c.requires.able c.see_pictures.ensures (c.loop-y.invariant.filled.same ∙ shape) c.fill_row.ensures.row

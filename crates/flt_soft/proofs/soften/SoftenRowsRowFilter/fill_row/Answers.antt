@@ -1,51 +1,47 @@
-use Rattle.std.proofs.Common.{◌≡◌, ◌∙◌, ◌/◌, ap, sym, arith, length, map, pos}
+use Rattle.std.proofs.Common.{◌≡◌, ◌<◌, ◌∙◌, ◌*◌, ◌==◌, List, false, if◌then◌else◌, ap, sym, arith, length, pos, ne_eqb}
 use Rattle.clip_term.specs.declared.op.SoftOp.TheVariants.{TemporalSoften}
-use Rattle.fv_plane.specs.Look.{look_in, look_at}
-use Rattle.clip_term.specs.Soft.{softened, samples_at}
-use Rattle.flt_soft.specs.Pictures.{shape_of}
-use Rattle.flt_soft.proofs.PictureLemmas.{narrow_made}
-use Rattle.flt_soft.proofs.SoftenLemmas.{narrow_threshold, softened_listed, three_is, five_is}
+use Rattle.fv_plane.specs.declared.format.Shape.{Shape}
+use Rattle.fv_plane.specs.Bytes.{wide_bytes}
+use Rattle.fv_plane.specs.Format.{plane_width, scale}
+use Rattle.fv_plane.specs.Picture.{Picture}
+use Rattle.fv_plane.proofs.CallerLemmas.{bytes_of_narrow, bytes_of_wide}
+use Rattle.flt_soft.specs.Pictures.{row_made, shape_of}
+use Rattle.flt_soft.proofs.PictureLemmas.{first_shape, narrow_width, some_pictures}
+use Rattle.flt_soft.proofs.SoftenLemmas.{means_listed, means_made, narrow_threshold, some_scaled, some_threshold}
 use Rattle.flt_soft.proofs.soften.SoftenRowsRowFilter.fill_row.Goals as goal
 
-pub returns-in-1-clause-row : goal.returns-in-1-clause-row
-returns-in-1-clause-row c =
+pub soften_wide-requires-clause-some : goal.soften_wide-requires-clause-some
+soften_wide-requires-clause-some c =
     let filter = c.args.self.now in
-    let inputs = c.args.inputs.now in
-    let p = c.args.plane in
-    let y = c.args.y in
-    let t = c.threshold-threshold.result in
-    let one : filter.radius ≡ 1 = c.in-1.is in
-    let count : length inputs ≡ 3 = omega (arith, one, c.requires.able.asked) in
-    softened_listed filter.radius filter.luma filter.chroma t inputs p y (length c.args.out.now) c.soften_three.new.out (narrow_threshold (shape_of inputs) t _ c.requires.narrow c.threshold-threshold.ensures) c.soften_three.auto.out
-    (λ x h. c.soften_three.ensures x h
-    ∙ three_is t inputs p x y c.row_in.result.now c.row_in-in-1.result.now c.row_in-in-1-2.result.now count c.row_in.ensures.row c.row_in-in-1.ensures.row c.row_in-in-1-2.ensures.row
-    ∙ ap (λ r. softened r t (look_at (map look_in inputs) r p x y) (samples_at (map look_in inputs) p x y)) (sym one))
-    ∙ narrow_made (TemporalSoften (pos filter.radius) (pos filter.luma) (pos filter.chroma)) inputs p y (length c.args.out.now) c.requires.narrow c.requires.whole
+    rw c.scaled-threshold.ensures
+    (some_scaled c.shape-shape.result c.threshold-threshold.result (rw c.threshold-threshold.ensures (some_threshold filter.radius filter.luma filter.chroma c.args.plane c.requires.changed)))
 
-pub returns-in-2-clause-row : goal.returns-in-2-clause-row
-returns-in-2-clause-row c =
+pub returns-then-shape-eq8-clause-row : goal.returns-then-shape-eq8-clause-row
+returns-then-shape-eq8-clause-row c =
     let filter = c.args.self.now in
-    let inputs = c.args.inputs.now in
+    let inputs : List Picture = c.args.inputs.now in
     let p = c.args.plane in
-    let y = c.args.y in
     let t = c.threshold-threshold.result in
-    let two : filter.radius ≡ 2 = c.in-2.is in
-    let count : length inputs ≡ 5 = omega (arith, two, c.requires.able.asked) in
-    softened_listed filter.radius filter.luma filter.chroma t inputs p y (length c.args.out.now) c.soften_five.new.out (narrow_threshold (shape_of inputs) t _ c.requires.narrow c.threshold-threshold.ensures) c.soften_five.auto.out
-    (λ x h. c.soften_five.ensures x h
-    ∙ five_is t inputs p x y c.row_in-in-2.result.now c.row_in-in-2-2.result.now c.row_in-in-2-3.result.now c.row_in-in-2-4.result.now c.row_in-in-2-5.result.now count
-    c.row_in-in-2.ensures.row c.row_in-in-2-2.ensures.row c.row_in-in-2-3.ensures.row c.row_in-in-2-4.ensures.row c.row_in-in-2-5.ensures.row
-    ∙ ap (λ r. softened r t (look_at (map look_in inputs) r p x y) (samples_at (map look_in inputs) p x y)) (sym two))
-    ∙ narrow_made (TemporalSoften (pos filter.radius) (pos filter.luma) (pos filter.chroma)) inputs p y (length c.args.out.now) c.requires.narrow c.requires.whole
+    let op = TemporalSoften (pos filter.radius) (pos filter.luma) (pos filter.chroma) in
+    let some : 0 < length inputs = some_pictures op inputs c.requires.able in
+    let same : c.shape-shape.result ≡ shape_of inputs = c.shape-shape.ensures.shape ∙ first_shape inputs c.index-inputs-0.result some c.index-inputs-0.is in
+    let narrow : (shape_of inputs).bits ≡ 8 = ap (λ (s : Shape). s.bits) (sym same) ∙ c.if-shape-eq8.true in
+    let long : length c.soften_narrow.new.out ≡ plane_width (shape_of inputs) p = c.soften_narrow.auto.out ∙ narrow_width (shape_of inputs) p (length c.args.out.now) narrow c.requires.whole in
+    means_listed inputs t p c.args.y c.soften_narrow.new.out long c.soften_narrow.ensures.row
+    ∙ means_made filter.radius filter.luma filter.chroma t inputs p c.args.y (omega (arith, c.requires.able.asked)) (narrow_threshold (shape_of inputs) t _ narrow c.threshold-threshold.ensures)
+    ∙ sym (bytes_of_narrow (shape_of inputs) (row_made op inputs p c.args.y) narrow)
 
-pub returns-in_default-clause-row : goal.returns-in_default-clause-row
-returns-in_default-clause-row c =
+pub returns-else-shape-eq8-clause-row : goal.returns-else-shape-eq8-clause-row
+returns-else-shape-eq8-clause-row c =
     let filter = c.args.self.now in
-    let inputs = c.args.inputs.now in
+    let inputs : List Picture = c.args.inputs.now in
     let p = c.args.plane in
-    let y = c.args.y in
-    let t = c.threshold-threshold.result in
-    let half : length inputs / 2 ≡ filter.radius = omega (arith, c.requires.able.asked) in
-    softened_listed filter.radius filter.luma filter.chroma t inputs p y (length c.args.out.now) c.soften_many.new.out (narrow_threshold (shape_of inputs) t _ c.requires.narrow c.threshold-threshold.ensures) c.soften_many.auto.out
-    (λ x h. c.soften_many.ensures x h ∙ ap (λ r. softened r t (look_at (map look_in inputs) r p x y) (samples_at (map look_in inputs) p x y)) half)
-    ∙ narrow_made (TemporalSoften (pos filter.radius) (pos filter.luma) (pos filter.chroma)) inputs p y (length c.args.out.now) c.requires.narrow c.requires.whole
+    let t = c.scaled-threshold.result in
+    let op = TemporalSoften (pos filter.radius) (pos filter.luma) (pos filter.chroma) in
+    let some : 0 < length inputs = some_pictures op inputs c.requires.able in
+    let same : c.shape-shape.result ≡ shape_of inputs = c.shape-shape.ensures.shape ∙ first_shape inputs c.index-inputs-0.result some c.index-inputs-0.is in
+    let wide : ((shape_of inputs).bits == 8) ≡ false = ap (λ (s : Shape). s.bits == 8) (sym same) ∙ ne_eqb c.shape-shape.result.bits 8 c.if-shape-eq8.false in
+    let is : t ≡ (if p == 0 then filter.luma else filter.chroma) * scale (shape_of inputs)
+    = c.scaled-threshold.ensures ∙ ap (λ n. n * scale c.shape-shape.result) c.threshold-threshold.ensures ∙ ap (λ (s : Shape). (if p == 0 then filter.luma else filter.chroma) * scale s) same in
+    c.soften_wide.ensures.made ∙ ap wide_bytes (means_made filter.radius filter.luma filter.chroma t inputs p c.args.y (omega (arith, c.requires.able.asked)) is)
+    ∙ sym (bytes_of_wide (shape_of inputs) (row_made op inputs p c.args.y) wide)

@@ -9,7 +9,7 @@ use Rattle.clip_term.specs.Soft.{place, side_of, weighed, divisor_of, sample_fro
 use Rattle.flt_soft.specs.Squares.{shown, weighed_around}
 use Rattle.flt_soft.proofs.NarrowLemmas.{divisor_size, square_is}
 use Rattle.flt_soft.proofs.PictureLemmas.{few_columns, narrow_convolved, some_columns}
-use Rattle.flt_soft.proofs.convolve.convolve_narrow.Goals as goal
+use Rattle.flt_soft.proofs.convolve.convolve_in_16_bits.Goals as goal
 use mir.Val.{to_z, of_z}
 
 pub ending_of-ending-requires-clause-small : goal.ending_of-ending-requires-clause-small

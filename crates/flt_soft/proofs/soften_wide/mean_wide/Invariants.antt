@@ -1,0 +1,12 @@
+use Rattle.std.proofs.Common.{◌≡◌, ◌*◌, ◌/◌, ◌≤◌, ◌<◌, ℕ, take, map, length, get_or}
+use Rattle.std.specs.List.{sum}
+use Rattle.fv_plane.specs.Look.{look_in, look_at}
+use Rattle.flt_soft.proofs.SoftenLemmas.{nears}
+use Rattle.flt_soft.proofs.soften_wide.mean_wide.Given as goal
+
+abbrev pub invariant-loop-i : goal.invariant-loop-i
+invariant-loop-i l = record {
+  made : (x : ℕ) → x < length l.sums → get_or l.sums x 0
+      ≡ sum (take l.i (nears l.threshold (look_at (map look_in l.inputs) (length l.inputs / 2) l.plane x l.y) l.inputs l.plane x l.y));
+  few : (x : ℕ) → get_or l.sums x 0 ≤ 65535 * l.i;
+}

@@ -1,0 +1,207 @@
+// Sums of the samples around a place, where a sample has two bytes.
+ghost use Rattle.std.specs.Prelude.{◌≡◌, ◌<◌, ◌≤◌, ◌+◌, ◌*◌, ◌⊎◌, ℕ, pos, ◌*ℤ◌, length, EachIndex, slice_index, slice_index_or, vec_len};
+ghost use Rattle.fv_plane.specs.Bytes.{wide_bytes};
+ghost use Rattle.fv_plane.specs.Format.{IsLegal, planes, plane_width, plane_height, sample_bytes, scale};
+ghost use Rattle.fv_plane.specs.Look.{look_in, row_from};
+ghost use Rattle.fv_plane.specs.Picture.{row_of};
+ghost use Rattle.clip_term.specs.Soft.{side_of, weighed, convolved};
+ghost use Rattle.flt_soft.specs.Rows.{extended, AreWeights, IsBias, IsWithin, AreWithin};
+
+use crate::convolve::{divisor_of, place, weight};
+use crate::wide_reciprocal::wide_reciprocal_of;
+use crate::wide_sums::{add_five, add_three, show_row};
+use fv_plane::{Frame, Shape, write_samples};
+
+// Reads a row, and repeats its first and last sample before and after it.
+fn read_padded(input: &Frame, plane: u32, y: u32, count: usize, padded: &mut [u16])
+    requires wide { sample_bytes input.now.shape ≡ 2 }
+    requires plane { plane < planes input.now.shape.kind }
+    requires inside { y < plane_height input.now.shape plane }
+    requires few { count ≤ 2 }
+    requires whole { length padded.old ≡ plane_width input.now.shape plane + 2 * count }
+    ensures { padded.new ≡ extended count (row_of input.now.planes plane y) }
+{
+    let width = input.shape().plane_width(plane) as usize;
+    let (start, rest) = padded.split_at_mut(count);
+    let (middle, end) = rest.split_at_mut(width);
+    input.read_row(plane, y, middle);
+    start.fill(middle[0]);
+    end.fill(middle[width - 1]);
+}
+
+// The sums of the nine samples around each place of a row.
+fn sum_nine(
+    input: &Frame,
+    plane: u32,
+    y: u32,
+    weights: &[i32],
+    padded: &mut [u16],
+    sums: &mut [i32],
+)
+    requires wide { sample_bytes input.now.shape ≡ 2 }
+    requires plane { plane < planes input.now.shape.kind }
+    requires inside { y < plane_height input.now.shape plane }
+    requires nine { length weights.now ≡ 9 }
+    requires weights { AreWeights weights.now }
+    requires sums { length sums.old ≡ plane_width input.now.shape plane }
+    requires padded { length padded.old ≡ length sums.old + 2 }
+    ensures sums { (x : ℕ) → x < length sums.new → slice_index_or sums.new x (pos 0)
+        ≡ weighed 3 0 weights.now input.now.shape (look_in input.now) plane x y }
+    ensures size { AreWithin 1677696000 sums.new }
+{
+    let height = input.shape().plane_height(plane);
+    sums.fill(0);
+    for i in 0..3 {
+        read_padded(input, plane, place(y, i, 1, height), 1, padded);
+        let k = 3 * i as usize;
+        add_three(
+            padded,
+            weight(weights, k),
+            weight(weights, k + 1),
+            weight(weights, k + 2),
+            sums,
+        );
+    }
+}
+
+// The sums of the 25 samples around each place of a row.
+fn sum_of_25(
+    input: &Frame,
+    plane: u32,
+    y: u32,
+    weights: &[i32],
+    padded: &mut [u16],
+    sums: &mut [i32],
+)
+    requires wide { sample_bytes input.now.shape ≡ 2 }
+    requires plane { plane < planes input.now.shape.kind }
+    requires inside { y < plane_height input.now.shape plane }
+    requires all { length weights.now ≡ 25 }
+    requires weights { AreWeights weights.now }
+    requires sums { length sums.old ≡ plane_width input.now.shape plane }
+    requires padded { length padded.old ≡ length sums.old + 4 }
+    ensures sums { (x : ℕ) → x < length sums.new → slice_index_or sums.new x (pos 0)
+        ≡ weighed 5 0 weights.now input.now.shape (look_in input.now) plane x y }
+    ensures size { AreWithin 1677696000 sums.new }
+{
+    let height = input.shape().plane_height(plane);
+    sums.fill(0);
+    for i in 0..5 {
+        read_padded(input, plane, place(y, i, 2, height), 2, padded);
+        let k = 5 * i as usize;
+        add_five(
+            padded,
+            weight(weights, k),
+            weight(weights, k + 1),
+            weight(weights, k + 2),
+            weight(weights, k + 3),
+            weight(weights, k + 4),
+            sums,
+        );
+    }
+}
+
+// The sums of the samples around each place of a row.
+fn sum_around(
+    input: &Frame,
+    plane: u32,
+    y: u32,
+    weights: &[i32],
+    padded: &mut [u16],
+    sums: &mut [i32],
+)
+    requires wide { sample_bytes input.now.shape ≡ 2 }
+    requires plane { plane < planes input.now.shape.kind }
+    requires inside { y < plane_height input.now.shape plane }
+    requires square { (length weights.now ≡ 9) ⊎ (length weights.now ≡ 25) }
+    requires weights { AreWeights weights.now }
+    requires sums { length sums.old ≡ plane_width input.now.shape plane }
+    requires padded { length padded.old ≡ length sums.old + 4 }
+    ensures sums { (x : ℕ) → x < length sums.new → slice_index_or sums.new x (pos 0)
+        ≡ weighed (side_of weights.now) 0 weights.now input.now.shape (look_in input.now) plane x y }
+    ensures size { AreWithin 1677696000 sums.new }
+{
+    if weights.len() == 9 {
+        let (padded, _) = padded.split_at_mut(sums.len() + 2);
+        sum_nine(input, plane, y, weights, padded, sums);
+    } else {
+        sum_of_25(input, plane, y, weights, padded, sums);
+    }
+}
+
+// The bias for samples of this shape.
+fn scaled_bias(bias: i32, shape: Shape) -> i32
+    requires legal { IsLegal shape }
+    requires bias { IsBias bias }
+    ensures value { result ≡ bias *ℤ pos (scale shape) }
+    ensures size { IsWithin 65280 result }
+{
+    bias * shape.scale() as i32
+}
+
+// A row of the picture that is made.
+fn convolve_row(
+    input: &Frame,
+    plane: u32,
+    y: u32,
+    bias: i32,
+    weights: &[i32],
+    padded: &mut [u16],
+    sums: &mut [i32],
+    out: &mut [u16],
+)
+    requires wide { sample_bytes input.now.shape ≡ 2 }
+    requires plane { plane < planes input.now.shape.kind }
+    requires inside { y < plane_height input.now.shape plane }
+    requires square { (length weights.now ≡ 9) ⊎ (length weights.now ≡ 25) }
+    requires weights { AreWeights weights.now }
+    requires bias { IsBias bias }
+    requires whole { length out.old ≡ plane_width input.now.shape plane }
+    requires sums { length sums.old ≡ length out.old }
+    requires padded { length padded.old ≡ length out.old + 4 }
+    ensures { EachIndex out.new (λ x. slice_index out.new x
+        ≡ convolved bias weights.now input.now.shape (look_in input.now) plane x y) }
+{
+    let shape = input.shape();
+    sum_around(input, plane, y, weights, padded, sums);
+    let divisor = divisor_of(weights);
+    let by = wide_reciprocal_of(divisor.unsigned_abs());
+    let bias = scaled_bias(bias, shape);
+    show_row(sums, divisor, by, bias, shape.largest_sample(), out);
+}
+
+/// The bytes of a row of the picture that is made. The rows to work in may be wider.
+pub fn convolve_wide(
+    input: &Frame,
+    plane: u32,
+    y: u32,
+    bias: i32,
+    weights: &[i32],
+    padded: &mut Vec<u16>,
+    samples: &mut Vec<u16>,
+    sums: &mut Vec<i32>,
+    out: &mut [u8],
+)
+    requires wide { sample_bytes input.now.shape ≡ 2 }
+    requires plane { plane < planes input.now.shape.kind }
+    requires inside { y < plane_height input.now.shape plane }
+    requires square { (length weights.now ≡ 9) ⊎ (length weights.now ≡ 25) }
+    requires weights { AreWeights weights.now }
+    requires bias { IsBias bias }
+    requires whole { length out.old ≡ plane_width input.now.shape plane * 2 }
+    requires padded { plane_width input.now.shape plane + 4 ≤ vec_len padded.old }
+    requires samples { plane_width input.now.shape plane ≤ vec_len samples.old }
+    requires sums { plane_width input.now.shape plane ≤ vec_len sums.old }
+    ensures row { out.new ≡ wide_bytes (row_from (convolved bias weights.now input.now.shape (look_in input.now))
+        plane (plane_width input.now.shape plane) y) }
+    ensures padded { vec_len padded.new ≡ vec_len padded.old }
+    ensures samples { vec_len samples.new ≡ vec_len samples.old }
+    ensures sums { vec_len sums.new ≡ vec_len sums.old }
+{
+    let width = out.len() / 2;
+    let (padded, _) = padded.as_mut_slice().split_at_mut(width + 4);
+    let (samples, _) = samples.as_mut_slice().split_at_mut(width);
+    let (sums, _) = sums.as_mut_slice().split_at_mut(width);
+    convolve_row(input, plane, y, bias, weights, padded, sums, samples);
+    write_samples(samples, out);
+}

@@ -1,0 +1,83 @@
+// Means of frames that follow each other, where a sample has two bytes.
+ghost use Rattle.std.specs.Prelude.{◌≡◌, ◌<◌, ◌≤◌, ◌*◌, length, EachIndex, slice_index, vec_len};
+ghost use Rattle.fv_plane.specs.Bytes.{wide_bytes};
+ghost use Rattle.fv_plane.specs.Format.{IsLegal, plane_width, sample_bytes, scale};
+ghost use Rattle.flt_soft.specs.Pictures.{AreAround, means_at, row_of_means, shape_of};
+
+use crate::rows::read_row_in;
+use crate::wide::{add_near, mean_row};
+use fv_plane::{Frame, Shape, write_samples};
+
+// A row of means of samples of two bytes, by their sums, in the place of `row`.
+fn mean_wide(
+    inputs: &[Frame],
+    plane: u32,
+    y: u32,
+    threshold: u16,
+    middle: &mut [u16],
+    row: &mut [u16],
+    sums: &mut [u32],
+)
+    requires some { 0 < threshold }
+    requires around { AreAround inputs.now plane y }
+    requires wide { sample_bytes (shape_of inputs.now) ≡ 2 }
+    requires middle { length middle.old ≡ plane_width (shape_of inputs.now) plane }
+    requires row { length row.old ≡ length middle.old }
+    requires sums { length sums.old ≡ length middle.old }
+    ensures { EachIndex row.new (λ x. slice_index row.new x ≡ means_at inputs.now threshold plane x y) }
+{
+    read_row_in(inputs, inputs.len() / 2, plane, y, middle);
+    sums.fill(0);
+    for i in 0..inputs.len() {
+        read_row_in(inputs, i, plane, y, row);
+        add_near(middle, row, threshold, sums);
+    }
+    match inputs.len() {
+        3 => mean_row::<3>(sums, row),
+        5 => mean_row::<5>(sums, row),
+        7 => mean_row::<7>(sums, row),
+        9 => mean_row::<9>(sums, row),
+        11 => mean_row::<11>(sums, row),
+        13 => mean_row::<13>(sums, row),
+        _ => mean_row::<15>(sums, row),
+    }
+}
+
+/// The bytes of that row. The rows to work in may be wider.
+pub fn soften_wide(
+    inputs: &[Frame],
+    plane: u32,
+    y: u32,
+    threshold: u16,
+    middle: &mut Vec<u16>,
+    row: &mut Vec<u16>,
+    sums: &mut Vec<u32>,
+    out: &mut [u8],
+)
+    requires some { 0 < threshold }
+    requires around { AreAround inputs.now plane y }
+    requires wide { sample_bytes (shape_of inputs.now) ≡ 2 }
+    requires whole { length out.old ≡ plane_width (shape_of inputs.now) plane * 2 }
+    requires middle { plane_width (shape_of inputs.now) plane ≤ vec_len middle.old }
+    requires row { plane_width (shape_of inputs.now) plane ≤ vec_len row.old }
+    requires sums { plane_width (shape_of inputs.now) plane ≤ vec_len sums.old }
+    ensures made { out.new ≡ wide_bytes (row_of_means inputs.now threshold plane y) }
+    ensures middle { vec_len middle.new ≡ vec_len middle.old }
+    ensures row { vec_len row.new ≡ vec_len row.old }
+    ensures sums { vec_len sums.new ≡ vec_len sums.old }
+{
+    let width = out.len() / 2;
+    let (middle, _) = middle.as_mut_slice().split_at_mut(width);
+    let (row, _) = row.as_mut_slice().split_at_mut(width);
+    let (sums, _) = sums.as_mut_slice().split_at_mut(width);
+    mean_wide(inputs, plane, y, threshold, middle, row, sums);
+    write_samples(row, out);
+}
+
+/// A threshold of eight bits for samples of this shape.
+pub fn scaled(threshold: u8, shape: Shape) -> u16
+    requires { IsLegal shape }
+    ensures { result ≡ threshold * scale shape }
+{
+    threshold as u16 * shape.scale()
+}
