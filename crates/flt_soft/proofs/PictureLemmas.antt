@@ -25,7 +25,7 @@ use Rattle.clip_term.proofs.BoundedLemmas as bounds
 use Rattle.clip_term.proofs.BoundedLemmas.{AllBounded, IsBounded}
 use Rattle.flt_soft.specs.Pictures.{CanSoften, HaveShape, asked_count, bytes_made, keeps_plane, row_made, shape_of}
 use Rattle.flt_soft.proofs.SoftenLemmas.{look_seen}
-use Rattle.flt_soft.proofs.WeightLemmas.{times_one}
+use Rattle.flt_rows.proofs.WeightLemmas.{times_one}
 
 -- a filter asks a frame
 pub some_asked : (filter : SoftOp) → 0 < asked_count filter

@@ -1,4 +1,2 @@
 pub mod Pictures
-pub mod Rows
 pub mod Scratch
-pub mod Squares

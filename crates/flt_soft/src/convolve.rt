@@ -5,16 +5,16 @@ ghost use Rattle.fv_plane.specs.Look.{look_in};
 ghost use Rattle.clip_term.specs.declared.op.SoftOp.TheVariants.{GeneralConvolution};
 ghost use Rattle.clip_term.specs.Soft.{place, side_of, weighed, total, divisor_of, convolved};
 ghost use Rattle.flt_soft.specs.Pictures.{CanSoften, shape_of, soft_picture};
-ghost use Rattle.flt_soft.specs.Rows.{IsWeight, AreWeights, IsBias, IsSmall, AreSmall};
-ghost use Rattle.flt_soft.specs.Squares.{size_of_all, entries_of, IsEnding};
+ghost use Rattle.flt_rows.specs.Rows.{IsWeight, AreWeights, IsBias, IsSmall, AreSmall};
+ghost use Rattle.flt_rows.specs.Squares.{size_of_all, entries_of, IsEnding};
 
 use crate::convolve_wide::convolve_wide;
-use crate::kernels::{add_five, add_three, pad_row, show_row};
-use crate::narrow::{self, Ending, Square, Weights, narrow_reciprocal_of};
-use crate::reciprocal::reciprocal_of;
 use crate::rows::{RowFilter, make_by_rows, narrow_row};
 use crate::scratch::Scratch;
 use clip_term::Matrix;
+use flt_rows::kernels::{add_five, add_three, pad_row, show_row};
+use flt_rows::narrow::{self, Ending, Square, Weights, narrow_reciprocal_of};
+use flt_rows::reciprocal::reciprocal_of;
 use fv_plane::Frame;
 use std::alloc::{AllocError, Global};
 

@@ -5,11 +5,11 @@ ghost use Rattle.fv_plane.specs.Format.{IsLegal, planes, plane_width, plane_heig
 ghost use Rattle.fv_plane.specs.Look.{look_in, row_from};
 ghost use Rattle.fv_plane.specs.Picture.{row_of};
 ghost use Rattle.clip_term.specs.Soft.{side_of, weighed, convolved};
-ghost use Rattle.flt_soft.specs.Rows.{extended, AreWeights, IsBias, IsWithin, AreWithin};
+ghost use Rattle.flt_rows.specs.Rows.{extended, AreWeights, IsBias, IsWithin, AreWithin};
 
 use crate::convolve::{divisor_of, place, weight};
-use crate::wide_reciprocal::wide_reciprocal_of;
-use crate::wide_sums::{add_five, add_three, show_row};
+use flt_rows::wide_reciprocal::wide_reciprocal_of;
+use flt_rows::wide_sums::{add_five, add_three, show_row};
 use fv_plane::{Frame, Shape, write_samples};
 
 // Reads a row, and repeats its first and last sample before and after it.

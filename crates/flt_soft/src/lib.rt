@@ -6,18 +6,12 @@
 
 mod convolve;
 mod convolve_wide;
-mod kernels;
 mod make;
 mod matrix;
-mod narrow;
-mod reciprocal;
 mod rows;
 mod scratch;
 mod soften;
 mod soften_wide;
-mod wide;
-mod wide_reciprocal;
-mod wide_sums;
 
 pub use clip_check::check_soft;
 pub use make::make_soft;

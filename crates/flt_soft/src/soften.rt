@@ -4,10 +4,10 @@ ghost use Rattle.fv_plane.specs.Format.{plane_width};
 ghost use Rattle.clip_term.specs.declared.op.SoftOp.TheVariants.{TemporalSoften};
 ghost use Rattle.flt_soft.specs.Pictures.{AreAround, CanSoften, means_at, shape_of, soft_picture};
 
-use crate::kernels::{add_near, mean_row, soften_five, soften_three};
 use crate::rows::{RowFilter, make_by_rows, row_in};
 use crate::scratch::Scratch;
 use crate::soften_wide::{scaled, soften_wide};
+use flt_rows::kernels::{add_near, mean_row, soften_five, soften_three};
 use fv_plane::Frame;
 use std::alloc::{AllocError, Global};
 

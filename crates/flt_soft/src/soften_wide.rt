@@ -5,7 +5,7 @@ ghost use Rattle.fv_plane.specs.Format.{IsLegal, plane_width, sample_bytes, scal
 ghost use Rattle.flt_soft.specs.Pictures.{AreAround, means_at, row_of_means, shape_of};
 
 use crate::rows::read_row_in;
-use crate::wide::{add_near, mean_row};
+use flt_rows::wide::{add_near, mean_row};
 use fv_plane::{Frame, Shape, write_samples};
 
 // A row of means of samples of two bytes, by their sums, in the place of `row`.

@@ -6,8 +6,8 @@ use Rattle.fv_plane.specs.declared.format.Shape.{Shape}
 use Rattle.fv_plane.specs.Format.{plane_height}
 use Rattle.fv_plane.specs.Look.{look_in}
 use Rattle.clip_term.specs.Soft.{place, side_of, weighed, divisor_of, sample_from}
-use Rattle.flt_soft.specs.Squares.{shown, weighed_around}
-use Rattle.flt_soft.proofs.NarrowLemmas.{divisor_size, square_is}
+use Rattle.flt_rows.specs.Squares.{shown, weighed_around}
+use Rattle.flt_rows.proofs.NarrowLemmas.{divisor_size, square_is}
 use Rattle.flt_soft.proofs.PictureLemmas.{few_columns, narrow_convolved, some_columns}
 use Rattle.flt_soft.proofs.convolve.convolve_in_16_bits.Goals as goal
 use mir.Val.{to_z, of_z}

@@ -1,8 +1,8 @@
 use Rattle.std.proofs.Common.{◌≡◌, get_or, arith, w32}
 use Rattle.std.specs.Prelude.{ℤ, pos, unsigned_abs}
 use Rattle.std.proofs.lemmas.Int.{ints}
-use Rattle.flt_soft.proofs.NarrowLemmas.{size_more}
-use Rattle.flt_soft.proofs.WeightLemmas.{size_of_weight}
+use Rattle.flt_rows.proofs.NarrowLemmas.{size_more}
+use Rattle.flt_rows.proofs.WeightLemmas.{size_of_weight}
 use Rattle.flt_soft.proofs.convolve.size_of_all.Goals as goal
 use mir.Val.{to_z, of_z}
 

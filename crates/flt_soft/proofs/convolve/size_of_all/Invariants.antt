@@ -1,5 +1,5 @@
 use Rattle.std.proofs.Common.{◌≡◌, ◌+◌, ◌*◌, ◌≤◌, drop}
-use Rattle.flt_soft.specs.Squares.{size_of_all}
+use Rattle.flt_rows.specs.Squares.{size_of_all}
 use Rattle.flt_soft.proofs.convolve.size_of_all.Given as goal
 
 abbrev pub invariant-loop-weight : goal.invariant-loop-weight

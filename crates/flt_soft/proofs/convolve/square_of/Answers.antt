@@ -1,4 +1,4 @@
-use Rattle.flt_soft.proofs.NarrowLemmas.{nine_are}
+use Rattle.flt_rows.proofs.NarrowLemmas.{nine_are}
 use Rattle.flt_soft.proofs.convolve.square_of.Goals as goal
 
 pub returns : goal.returns

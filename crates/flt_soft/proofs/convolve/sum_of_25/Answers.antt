@@ -5,9 +5,9 @@ use Rattle.fv_plane.specs.declared.format.Shape.{Shape}
 use Rattle.fv_plane.specs.Format.{plane_width, plane_height}
 use Rattle.fv_plane.specs.Look.{look_in}
 use Rattle.clip_term.specs.Soft.{place, weighed}
-use Rattle.flt_soft.specs.Rows.{extended, weighed_five}
+use Rattle.flt_rows.specs.Rows.{extended, weighed_five}
 use Rattle.flt_soft.proofs.PictureLemmas.{narrow_few}
-use Rattle.flt_soft.proofs.WeightLemmas.{of_25_more, weighed_within, within_same, sums_small}
+use Rattle.flt_rows.proofs.WeightLemmas.{of_25_more, weighed_within, within_same, sums_small}
 use Rattle.flt_soft.proofs.convolve.sum_of_25.Goals as goal
 use mir.Syntax.{w16}
 use mir.Val.{to_z, of_z}

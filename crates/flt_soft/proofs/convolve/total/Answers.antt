@@ -1,7 +1,7 @@
 use Rattle.std.proofs.Common.{arith}
 use Rattle.std.specs.Prelude.{pos}
 use Rattle.std.proofs.lemmas.Int.{ints}
-use Rattle.flt_soft.proofs.WeightLemmas.{total_more}
+use Rattle.flt_rows.proofs.WeightLemmas.{total_more}
 use Rattle.flt_soft.proofs.convolve.total.Goals as goal
 
 pub loop-weight-preserved : goal.loop-weight-preserved

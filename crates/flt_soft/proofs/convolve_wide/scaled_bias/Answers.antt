@@ -2,7 +2,7 @@
 use Rattle.std.proofs.Common.{◌≡◌, ◌∙◌, ◌≤◌, ap, arith, w32, pos, ◌*ℤ◌}
 use Rattle.std.proofs.lemmas.Int.{ints, to_z-of_z, fits_signed_mul}
 use Rattle.flt_soft.proofs.PictureLemmas.{scale_few}
-use Rattle.flt_soft.proofs.WeightLemmas.{bias_within, size_of_bias}
+use Rattle.flt_rows.proofs.WeightLemmas.{bias_within, size_of_bias}
 use Rattle.flt_soft.proofs.convolve_wide.scaled_bias.Goals as goal
 use mir.Val.{to_z, of_z, SFits}
 

@@ -10,7 +10,7 @@ use Rattle.fv_plane.proofs.CallerLemmas.{bytes_of_wide}
 use Rattle.clip_term.specs.Soft.{convolved}
 use Rattle.flt_soft.specs.Pictures.{row_made, shape_of}
 use Rattle.flt_soft.proofs.PictureLemmas.{convolved_listed, convolved_made, first_shape, narrow_made, some_pictures}
-use Rattle.flt_soft.proofs.WeightLemmas.{weights_are}
+use Rattle.flt_rows.proofs.WeightLemmas.{weights_are}
 use Rattle.flt_soft.proofs.convolve.ConvolveRowsRowFilter.fill_row.Goals as goal
 use mir.Val.{SFits}
 

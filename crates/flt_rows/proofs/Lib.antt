@@ -1,0 +1,4 @@
+pub mod DivideLemmas
+pub mod NarrowLemmas
+pub mod RowLemmas
+pub mod WeightLemmas
