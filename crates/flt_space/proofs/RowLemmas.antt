@@ -63,11 +63,11 @@ narrow_kept op shape narrow = bits_kept op shape ∙ narrow
 pub wide_kept : (op : SpaceOp) (shape : Shape) → (shape.bits == 8) ≡ false → ((space_shape op shape).bits == 8) ≡ false
 wide_kept op shape wide = rw (bits_kept op shape) wide
 
--- where a sample has two bytes, they are made from samples
+-- where a sample has two bytes, the samples of a row are made
 pub wide_row : (shape : Shape) (p : ℕ) → (shape.bits == 8) ≡ false → wide_width shape p ≡ plane_width shape p
 wide_row shape p wide = second_of (shape.bits == 8) 0 (plane_width shape p) wide
 
--- and twice as many
+-- and then twice as many bytes
 pub wide_row_bytes : (shape : Shape) (p : ℕ) → (shape.bits == 8) ≡ false → row_bytes shape p ≡ wide_width shape p * 2
 wide_row_bytes shape p wide = ap (λ n. plane_width shape p * n) (two_bytes shape wide) ∙ ap (λ n. n * 2) (sym (wide_row shape p wide))
 

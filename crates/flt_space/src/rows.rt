@@ -54,7 +54,7 @@ fn wide_width(shape: Shape, plane: u32) -> usize
     }
 }
 
-// Writes the bytes of a row of a plane that isn't kept.
+// Writes the bytes of a row of a plane that isn't kept. Samples of two bytes are made in `samples` first.
 fn fill_bytes<F: RowFilter>(
     filter: &F,
     input: &Frame,
