@@ -6,7 +6,7 @@ pub add-requires-clause-sound : goal.add-requires-clause-sound
 add-requires-clause-sound c = (
   refl,
   record {
-    shape = record { some_width = omega arith; some_height = omega arith; most_width = omega arith; most_height = omega arith; whole_width = refl; whole_height = refl; most_bytes = omega arith };
+    shape = record { depth = refl; some_width = omega arith; some_height = omega arith; most_width = omega arith; most_height = omega arith; whole_width = refl; whole_height = refl; most_bytes = omega arith };
     some = omega arith;
     most = omega arith;
     rate = record { some_num = omega arith; some_den = omega arith; most_num = omega arith; most_den = omega arith; lowest = (one-dvd 25, one-dvd 1, λ d first second. second) };
