@@ -27,6 +27,7 @@ other_rows = record {
   matrix_with_a_sign_alone = refl;
   matrix_with_a_plus = refl;
   format_in_any_case = refl;
+  format_of_ten_bits = refl;
   format_unknown = refl;
   modes = refl;
   made_of_two_frames = refl;

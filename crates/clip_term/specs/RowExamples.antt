@@ -1,7 +1,7 @@
 -- Rows that are about an info, a text or a maker, each computed.
 use Rattle.std.specs.Prelude.{◌≡◌, [], ◌∷◌, pos, negsuc, Ok, Err, true, false}
 use Rattle.std.specs.Prelude.{codes, Some, None}
-use Rattle.fv_plane.specs.declared.format.PixelType.TheVariants.{Y8, YV411}
+use Rattle.fv_plane.specs.declared.format.PixelType.TheVariants.{Y8, YV12, YV411}
 use Rattle.clip_term.specs.declared.fault.FilterFault.TheVariants.{BadRange, BadText, TooLarge, LengthLimit, NotWholeChroma, EmptyClip}
 use Rattle.clip_term.specs.declared.op.TimeOp.TheVariants as t
 use Rattle.clip_term.specs.declared.op.JoinOp.TheVariants as j
@@ -41,6 +41,7 @@ pub record OtherRows : Type 0 where
   pub matrix_with_a_sign_alone : matrix_named (codes "1 2 3 4 - 6 7 8 9") ≡ None
   pub matrix_with_a_plus : matrix_named (codes "1 2 3 4 +5 6 7 8 9") ≡ None
   pub format_in_any_case : format_named (codes "yV411") ≡ Some (record { kind = YV411; bits = 8 })
+  pub format_of_ten_bits : format_named (codes "yuv420p10") ≡ Some (record { kind = YV12; bits = 10 })
   pub format_unknown : format_named (codes "YV13") ≡ None
   -- modes
   pub modes : (declared_mode filter.Y4MSource ∷ declared_mode filter.Limiter ∷ declared_mode filter.TemporalSoften ∷ declared_mode filter.Crop ∷ []) ≡ (Some 3 ∷ None ∷ Some 2 ∷ Some 1 ∷ [])

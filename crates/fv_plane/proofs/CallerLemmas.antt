@@ -164,13 +164,6 @@ row_again shape row = row-bytes_of_row shape row
 pub scaled : (shape : Shape) (n : ℕ) → has_depth shape.kind shape.bits ≡ true → n ≤ 255 → n * scale shape ≤ largest_sample shape
 scaled shape n is small = picture.scaled shape n is small
 
-eight_by : (kind : PixelType) (bits : ℕ) → has_depth kind bits ≡ true → bits ≡ 8
-eight_by Y8 bits is = eqb-true bits 8 is
-eight_by YV12 bits is = eqb-true bits 8 is
-eight_by YV16 bits is = eqb-true bits 8 is
-eight_by YV24 bits is = eqb-true bits 8 is
-eight_by YV411 bits is = eqb-true bits 8 is
-
 two_bytes_by : (b : Bool) → size_by b ≡ 2 → b ≡ false
 two_bytes_by true is = absurd (omega arith)
 two_bytes_by false is = refl
@@ -186,10 +179,6 @@ two_by false is = refl
 -- and samples of more have two bytes
 pub two_bytes : (shape : Shape) → (shape.bits == 8) ≡ false → sample_bytes shape ≡ 2
 two_bytes shape is = two_by (shape.bits == 8) is
-
--- the samples of a legal frame have eight bits
-pub eight_bits : (shape : Shape) → IsLegal shape → shape.bits ≡ 8
-eight_bits shape legal = eight_by shape.kind shape.bits legal.depth
 
 -- a sample has more than eight bits, or eight
 pub depth_cases : (shape : Shape) → (shape.bits ≡ 8) ⊎ ((shape.bits == 8) ≡ false)

@@ -21,31 +21,31 @@ of_8_bits YV24 = refl
 of_8_bits YV411 = refl
 
 of_10_bits : (kind : PixelType) → has_depth kind 10 ≡ true → Found kind 10
-of_10_bits Y8 is = cc
-of_10_bits YV12 is = cc
-of_10_bits YV16 is = cc
-of_10_bits YV24 is = cc
+of_10_bits Y8 is = refl
+of_10_bits YV12 is = refl
+of_10_bits YV16 is = refl
+of_10_bits YV24 is = refl
 of_10_bits YV411 is = cc
 
 of_12_bits : (kind : PixelType) → has_depth kind 12 ≡ true → Found kind 12
-of_12_bits Y8 is = cc
-of_12_bits YV12 is = cc
-of_12_bits YV16 is = cc
-of_12_bits YV24 is = cc
+of_12_bits Y8 is = refl
+of_12_bits YV12 is = refl
+of_12_bits YV16 is = refl
+of_12_bits YV24 is = refl
 of_12_bits YV411 is = cc
 
 of_14_bits : (kind : PixelType) → has_depth kind 14 ≡ true → Found kind 14
-of_14_bits Y8 is = cc
-of_14_bits YV12 is = cc
-of_14_bits YV16 is = cc
-of_14_bits YV24 is = cc
+of_14_bits Y8 is = refl
+of_14_bits YV12 is = refl
+of_14_bits YV16 is = refl
+of_14_bits YV24 is = refl
 of_14_bits YV411 is = cc
 
 of_16_bits : (kind : PixelType) → has_depth kind 16 ≡ true → Found kind 16
-of_16_bits Y8 is = cc
-of_16_bits YV12 is = cc
-of_16_bits YV16 is = cc
-of_16_bits YV24 is = cc
+of_16_bits Y8 is = refl
+of_16_bits YV12 is = refl
+of_16_bits YV16 is = refl
+of_16_bits YV24 is = refl
 of_16_bits YV411 is = cc
 
 pub formats_are_named : FormatsAreNamed

@@ -78,7 +78,7 @@ impl Format {
     ghost use Rattle.fv_plane.specs.FormatNames.{name_of};
 
     /// Each format once.
-    pub const ALL: [Format; 5] = [
+    pub const ALL: [Format; 21] = [
         Format {
             kind: PixelType::Y8,
             bits: 8,
@@ -98,6 +98,70 @@ impl Format {
         Format {
             kind: PixelType::YV411,
             bits: 8,
+        },
+        Format {
+            kind: PixelType::Y8,
+            bits: 10,
+        },
+        Format {
+            kind: PixelType::YV12,
+            bits: 10,
+        },
+        Format {
+            kind: PixelType::YV16,
+            bits: 10,
+        },
+        Format {
+            kind: PixelType::YV24,
+            bits: 10,
+        },
+        Format {
+            kind: PixelType::Y8,
+            bits: 12,
+        },
+        Format {
+            kind: PixelType::YV12,
+            bits: 12,
+        },
+        Format {
+            kind: PixelType::YV16,
+            bits: 12,
+        },
+        Format {
+            kind: PixelType::YV24,
+            bits: 12,
+        },
+        Format {
+            kind: PixelType::Y8,
+            bits: 14,
+        },
+        Format {
+            kind: PixelType::YV12,
+            bits: 14,
+        },
+        Format {
+            kind: PixelType::YV16,
+            bits: 14,
+        },
+        Format {
+            kind: PixelType::YV24,
+            bits: 14,
+        },
+        Format {
+            kind: PixelType::Y8,
+            bits: 16,
+        },
+        Format {
+            kind: PixelType::YV12,
+            bits: 16,
+        },
+        Format {
+            kind: PixelType::YV16,
+            bits: 16,
+        },
+        Format {
+            kind: PixelType::YV24,
+            bits: 16,
         },
     ];
 
