@@ -1,8 +1,8 @@
 -- No sample that a row makes is over the greatest one, where no sample that it takes is.
-use Rattle.std.proofs.Common.{◌≡◌, ℕ, zero, suc, ◌+◌, ◌-◌, ◌*◌, ◌/◌, ◌%◌, ◌≤◌, List, [], ◌∷◌, length, map, arith, Bool, true, false}
+use Rattle.std.proofs.Common.{◌≡◌, ℕ, zero, suc, ◌+◌, ◌-◌, ◌*◌, ◌/◌, ◌%◌, ◌^◌, ◌≤◌, List, [], ◌∷◌, length, map, refl, ap, arith, Bool, true, false}
 use Rattle.std.specs.Prelude.{ℤ, pos, ◌+ℤ◌, ◌*ℤ◌, int_div, if◌then◌else◌, ◌==◌, nat_lt, nat_le, ◌&&◌, min}
 use Rattle.std.specs.List.{fold, sum}
-use Rattle.std.proofs.lemmas.Nat.{div_below}
+use Rattle.std.proofs.lemmas.Nat.{div_below, shl_below, pow_pos}
 use Rattle.std.proofs.lemmas.Bool.Decides.{nat_tests}
 use Rattle.std.proofs.lemmas.Int.{ints}
 use Rattle.fv_plane.specs.declared.format.Info.{Info}
@@ -16,7 +16,7 @@ use Rattle.clip_term.specs.declared.op.Matrix.{Matrix}
 use Rattle.clip_term.specs.declared.op.SoftOp.TheVariants as soft_op
 use Rattle.fv_plane.specs.Look.{Look, look_at, across, down}
 use Rattle.clip_term.specs.Refusals.{nat_of, below, part_of, paint}
-use Rattle.clip_term.specs.Space.{space_shape, space_refusals, space_at, is_within, is_among, limited, swapped, bad_bounds}
+use Rattle.clip_term.specs.Space.{space_shape, space_refusals, space_at, is_within, is_among, limited, swapped, converted, bad_bounds}
 use Rattle.clip_term.specs.Join.{join_at, beside, beneath}
 use Rattle.clip_term.specs.Soft.{soft_at, near, samples_at, side_of, weighed, divisor_of}
 use Rattle.fv_plane.proofs.CallerLemmas as plane
@@ -40,6 +40,23 @@ part_few c p = if_few (p == 0) (c / 65536 % 256) (if p == 1 then c / 256 % 256 e
 
 high_few : (low high : ℤ) → bad_bounds low high ≡ false → nat_of high ≤ 255
 high_few low high e = grind (arith, ints, nat_tests)
+
+raised_few : (old new n : ℕ) → nat_le old new ≡ true → n ≤ 2 ^ old - 1 → n * 2 ^ (new - old) ≤ 2 ^ new - 1
+raised_few old new n e few =
+    let some = pow_pos old in
+    let sum : old + (new - old) ≡ new = grind (arith, nat_tests) in
+    let below = shl_below n old (new - old) (omega arith) in
+    let same = ap (λ k. 2 ^ k) sum in
+    omega arith
+
+converted_by : (t : Bool) (old new n : ℕ) → nat_le old new ≡ t → n ≤ 2 ^ old - 1
+    → (if t then n * 2 ^ (new - old) else min (2 ^ new - 1) ((n + 2 ^ (old - new - 1)) / 2 ^ (old - new))) ≤ 2 ^ new - 1
+converted_by true old new n e few = raised_few old new n e few
+converted_by false old new n e few = omega arith
+
+-- no sample of other bits is over the greatest one of these
+pub converted_few : (old new n : ℕ) → n ≤ 2 ^ old - 1 → converted old new n ≤ 2 ^ new - 1
+converted_few old new n few = converted_by (nat_le old new) old new n refl few
 
 pub space_bounded : (inner : SpaceOp) (shape : Shape) (from : Look) → IsLegal shape → Passed (space_refusals inner shape) → IsBounded shape from → IsBounded (space_shape inner shape) (space_at inner shape from)
 space_bounded (space_op.Crop left top width height) shape from legal told few = record { at = λ p x y. few.at p (x + across shape p (nat_of left)) (y + down shape p (nat_of top)) }
@@ -79,6 +96,9 @@ space_bounded space_op.SwapUV shape from legal told few = record { at = λ p x y
 space_bounded space_op.UToY8 shape from legal told few = record { at = λ p x y. few.at 1 x y }
 space_bounded space_op.VToY8 shape from legal told few = record { at = λ p x y. few.at 2 x y }
 space_bounded space_op.ConvertToY8 shape from legal told few = record { at = λ p x y. few.at 0 x y }
+space_bounded (space_op.ConvertBits bits) shape from legal told few = record {
+  at = λ p x y. converted_few shape.bits (nat_of bits) (from p x y) (few.at p x y);
+}
 
 -- GROUP JOIN
 

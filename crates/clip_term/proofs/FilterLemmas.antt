@@ -49,6 +49,7 @@ by_number filter.MergeChroma = refl
 by_number filter.YToUV = refl
 by_number filter.TemporalSoften = refl
 by_number filter.GeneralConvolution = refl
+by_number filter.ConvertBits = refl
 
 some_same : {A : Type 0} (a b : A) → Some a ≡ Some b → a ≡ b
 some_same a b e = cc

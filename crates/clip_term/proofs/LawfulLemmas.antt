@@ -248,6 +248,13 @@ space_sized space_op.VToY8 shape fits told = record {
   whole_height = omega arith;
 }
 space_sized space_op.ConvertToY8 shape fits told = record { depth = luma_depth shape.kind shape.bits fits.depth; some_width = fits.some_width; some_height = fits.some_height; whole_width = omega arith; whole_height = omega arith }
+space_sized (space_op.ConvertBits bits) shape fits told = record {
+  depth = not_false (has_depth shape.kind (nat_of bits)) told.1.0;
+  some_width = fits.some_width;
+  some_height = fits.some_height;
+  whole_width = fits.whole_width;
+  whole_height = fits.whole_height;
+}
 
 -- GROUP JOIN
 

@@ -1,5 +1,5 @@
 -- Each is computed.
-use Rattle.std.proofs.Common.{◌≡◌, [], ◌∷◌, refl}
+use Rattle.std.proofs.Common.{refl}
 use Rattle.clip_term.specs.Terms.{term_sample, term_samples, info_of, infos_of}
 use Rattle.fv_plane.specs.Look.{picture_from}
 use Rattle.fv_plane.specs.Rate.{gcd}
@@ -53,4 +53,15 @@ space_rows = record {
   limiter_of_ten_bits = refl;
   borders_of_ten_bits = refl;
   luma_of_ten_bits = refl;
+  ten_bits_to_eight = refl;
+  ten_bits_to_twelve = refl;
+  ten_bits_to_sixteen = refl;
+  ten_bits_to_ten = refl;
+  ten_bits_to_nine = refl;
+  eight_bits_there_and_back = refl;
+  fewer_bits_than_none = refl;
+  yv411_to_eight_bits = refl;
+  yv411_to_ten_bits = refl;
+  yv411_to_eleven_bits = refl;
+  sixteen_bits_too_large = refl;
 }

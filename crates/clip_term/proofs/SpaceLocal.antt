@@ -11,7 +11,7 @@ use Rattle.clip_term.specs.declared.op.SpaceOp.{SpaceOp}
 use Rattle.clip_term.specs.declared.op.SpaceOp.TheVariants as op
 use Rattle.fv_plane.specs.Look.{Look, across, down}
 use Rattle.clip_term.specs.Refusals.{nat_of, below, above, same_kind, paint}
-use Rattle.clip_term.specs.Space.{space_refusals, space_shape, space_at, size_from, is_no_part, cut_refusals, is_within, is_among, limited, swapped, luma_of}
+use Rattle.clip_term.specs.Space.{space_refusals, space_shape, space_at, size_from, is_no_part, cut_refusals, is_within, is_among, limited, swapped, converted, luma_of}
 use Rattle.fv_plane.proofs.LookLemmas.{Inside, Agree}
 use Rattle.clip_term.proofs.PassedLemmas.{Passed, or_false, if_same, same_number}
 
@@ -213,3 +213,6 @@ space_local op.UToY8 shape a b passed agree = record {
 }
 space_local op.VToY8 shape a b passed agree = record { same = λ p x y i. agree.same 2 x y (luma_inside shape 2 p x y (chroma_there shape.kind passed.0) i) }
 space_local op.ConvertToY8 shape a b passed agree = record { same = λ p x y i. agree.same 0 x y (luma_inside shape 0 p x y (luma_there shape.kind) i) }
+space_local (op.ConvertBits bits) shape a b passed agree = record {
+  same = λ p x y i. ap (λ v. converted shape.bits (nat_of bits) v) (agree.same p x y (record { plane = i.plane; across = i.across; down = i.down }));
+}

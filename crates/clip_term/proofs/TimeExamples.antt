@@ -1,5 +1,5 @@
 -- Each is computed.
-use Rattle.std.proofs.Common.{◌≡◌, [], ◌∷◌, refl}
+use Rattle.std.proofs.Common.{refl}
 use Rattle.clip_term.specs.Terms.{term_sample, term_samples, info_of, infos_of}
 use Rattle.fv_plane.specs.Look.{picture_from}
 use Rattle.fv_plane.specs.Rate.{gcd}

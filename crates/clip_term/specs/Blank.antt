@@ -1,6 +1,6 @@
 -- BlankClip: its arguments, their refusals in argument order, and the clip that they make (AviSynth+ wiki, "BlankClip").
 use Rattle.std.specs.Prelude.{ℕ, ◌*◌, Bool, false, not, ◌||◌, if◌then◌else◌, ◌==◌, ℤ, List, [], ◌∷◌, Option, Some, None, Result, is_some, is_none}
-use Rattle.std.specs.Option.{option_map, unwrap_or}
+use Rattle.std.specs.Option.{unwrap_or}
 use Rattle.fv_plane.specs.declared.format.Info.{Info}
 use Rattle.fv_plane.specs.declared.format.Shape.{Shape}
 use Rattle.fv_plane.specs.declared.format.Colour.{Colour}

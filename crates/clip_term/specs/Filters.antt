@@ -66,6 +66,7 @@ row_of filter.MergeChroma = row 37 (codes "MergeChroma") (Some 1)
 row_of filter.YToUV = row 38 (codes "YToUV") (Some 1)
 row_of filter.TemporalSoften = row 39 (codes "TemporalSoften") (Some 2)
 row_of filter.GeneralConvolution = row 40 (codes "GeneralConvolution") None
+row_of filter.ConvertBits = row 41 (codes "ConvertBits") (Some 1)
 
 abbrev pub number_of : Filter → ℕ
 number_of one = (row_of one).number

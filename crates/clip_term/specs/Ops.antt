@@ -48,6 +48,7 @@ space_filter s.SwapUV = filter.SwapUV
 space_filter s.UToY8 = filter.UToY8
 space_filter s.VToY8 = filter.VToY8
 space_filter s.ConvertToY8 = filter.ConvertToY8
+space_filter (s.ConvertBits bits) = filter.ConvertBits
 
 abbrev pub join_filter : JoinOp → Filter
 join_filter j.StackHorizontal = filter.StackHorizontal

@@ -1,10 +1,10 @@
--- The filters that change a picture (AviSynth+ wiki, "Geometric deformation filters" and "Color conversion and
--- adjustment filters"). The shape is that of the clip, p is a plane.
-use Rattle.std.specs.Prelude.{ℕ, ◌+◌, ◌-◌, ◌*◌, min, max, Bool, not, ◌&&◌, ◌||◌, if◌then◌else◌, ◌==◌, nat_lt, nat_le, ℤ, pos, ◌+ℤ◌, ◌-ℤ◌, int_lt, List, [], ◌∷◌, Result}
+-- The filters that change a picture (AviSynth+ wiki, "Geometric deformation filters", "Color conversion and adjustment
+-- filters" and "ConvertBits"). The shape is that of the clip, p is a plane.
+use Rattle.std.specs.Prelude.{ℕ, ◌+◌, ◌-◌, ◌*◌, ◌/◌, ◌^◌, min, max, Bool, not, ◌&&◌, ◌||◌, if◌then◌else◌, ◌==◌, nat_lt, nat_le, ℤ, pos, ◌+ℤ◌, ◌-ℤ◌, int_lt, List, [], ◌∷◌, Result}
 use Rattle.fv_plane.specs.declared.format.Info.{Info}
 use Rattle.fv_plane.specs.declared.format.Shape.{Shape}
 use Rattle.fv_plane.specs.declared.format.PixelType.TheVariants.{Y8, YV16, YV411}
-use Rattle.fv_plane.specs.Format.{largest_sample, scale, plane_width, plane_height}
+use Rattle.fv_plane.specs.Format.{is_depth, has_depth, largest_sample, scale, plane_width, plane_height}
 use Rattle.clip_term.specs.declared.fault.FilterFault.{FilterFault}
 use Rattle.clip_term.specs.declared.fault.FilterFault.TheVariants.{BadRange, NotWholeChroma, OutOfPicture, TurnFormat, NeedsChroma, DepthRefused}
 use Rattle.clip_term.specs.declared.op.Channels.{Channels}
@@ -58,6 +58,16 @@ limited low high sample = min (max sample low) high
 abbrev pub swapped : ℕ → ℕ
 swapped p = if p == 1 then 2 else if p == 2 then 1 else p
 
+-- ConvertBits
+abbrev pub no_depth : ℤ → Bool
+no_depth bits = below bits 0 || not (is_depth (nat_of bits))
+
+-- a sample of `old` bits as one of `new` bits: to fewer bits it is rounded, a half upwards
+abbrev pub converted : ℕ → ℕ → ℕ → ℕ
+converted old new sample =
+    if nat_le old new then sample * 2 ^ (new - old)
+    else min (2 ^ new - 1) ((sample + 2 ^ (old - new - 1)) / 2 ^ (old - new))
+
 -- Refusals.
 
 abbrev pub space_refusals : SpaceOp → Shape → Refusals FilterFault
@@ -88,8 +98,10 @@ space_refusals op.SwapUV shape = []
 space_refusals op.UToY8 shape = (NeedsChroma, same_kind shape.kind Y8) ∷ (DepthRefused, not (shape.bits == 8)) ∷ []
 space_refusals op.VToY8 shape = (NeedsChroma, same_kind shape.kind Y8) ∷ (DepthRefused, not (shape.bits == 8)) ∷ []
 space_refusals op.ConvertToY8 shape = (DepthRefused, not (shape.bits == 8)) ∷ []
+space_refusals (op.ConvertBits bits) shape =
+    (BadRange, no_depth bits) ∷ (DepthRefused, not (has_depth shape.kind (nat_of bits))) ∷ []
 
--- Size.
+-- Size, and the bits of a sample.
 
 abbrev pub luma_of : Shape → ℕ → Shape
 luma_of shape p = record shape { kind = Y8; width = plane_width shape p; height = plane_height shape p }
@@ -105,6 +117,7 @@ space_shape op.TurnRight shape = sized shape shape.height shape.width
 space_shape op.UToY8 shape = luma_of shape 1
 space_shape op.VToY8 shape = luma_of shape 2
 space_shape op.ConvertToY8 shape = luma_of shape 0
+space_shape (op.ConvertBits bits) shape = record shape { bits = nat_of bits }
 space_shape _ shape = shape
 
 abbrev pub check_space : SpaceOp → List Info → Result Info FilterFault
@@ -142,6 +155,7 @@ space_at op.SwapUV shape from p x y = from (swapped p) x y
 space_at op.UToY8 shape from p x y = from 1 x y
 space_at op.VToY8 shape from p x y = from 2 x y
 space_at op.ConvertToY8 shape from p x y = from 0 x y
+space_at (op.ConvertBits bits) shape from p x y = converted shape.bits (nat_of bits) (from p x y)
 
 -- what a filter makes of a picture
 abbrev pub space_picture : SpaceOp → Picture → Picture

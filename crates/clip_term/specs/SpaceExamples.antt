@@ -1,6 +1,6 @@
 -- The group Space: worked rows, each computed.
 use Rattle.std.specs.Prelude.{◌≡◌, [], ◌∷◌, pos, negsuc, Ok, Err, true, false}
-use Rattle.std.specs.Prelude.{Some}
+use Rattle.std.specs.Prelude.{codes, Some}
 use Rattle.fv_plane.specs.declared.format.PixelType.TheVariants.{Y8, YV12, YV16, YV24, YV411}
 use Rattle.fv_plane.specs.declared.format.Field.TheVariants.{Progressive, Top}
 use Rattle.fv_plane.specs.declared.format.Tag.TheVariants.{Jpeg, Mpeg2}
@@ -140,3 +140,23 @@ pub record SpaceRows : Type 0 where
   pub borders_of_ten_bits : rendered (one (space (s.AddBorders (pos 1) (pos 0) (pos 0) (pos 0) (pos 66051))) d10)
       ≡ Ok (record d10_told { shape = record d10_told.shape { width = 3 } }, (4 ∷ 513 ∷ 1023 ∷ []) ∷ [])
   pub luma_of_ten_bits : rendered (one (space s.ConvertToY8) d10) ≡ Err DepthRefused
+  -- Y4MSource("d10.y4m").ConvertBits(8), (12), (16), (10) and (9)
+  pub ten_bits_to_eight : rendered (one (space (s.ConvertBits (pos 8))) d10)
+      ≡ Ok (record d10_told { shape = record d10_told.shape { bits = 8 } }, (128 ∷ 255 ∷ []) ∷ [])
+  pub ten_bits_to_twelve : rendered (one (space (s.ConvertBits (pos 12))) d10)
+      ≡ Ok (record d10_told { shape = record d10_told.shape { bits = 12 } }, (2052 ∷ 4092 ∷ []) ∷ [])
+  pub ten_bits_to_sixteen : rendered (one (space (s.ConvertBits (pos 16))) d10)
+      ≡ Ok (record d10_told { shape = record d10_told.shape { bits = 16 } }, (32832 ∷ 65472 ∷ []) ∷ [])
+  pub ten_bits_to_ten : rendered (one (space (s.ConvertBits (pos 10))) d10) ≡ Ok (d10_told, (513 ∷ 1023 ∷ []) ∷ [])
+  pub ten_bits_to_nine : rendered (one (space (s.ConvertBits (pos 9))) d10) ≡ Err BadRange
+  -- Y4MSource("q8.y4m").ConvertBits(10).ConvertBits(8)
+  pub eight_bits_there_and_back : rendered (one (space (s.ConvertBits (pos 8))) (one (space (s.ConvertBits (pos 10))) q8)) ≡ rendered q8
+  -- Y4MSource("q8.y4m").ConvertBits(0-8)
+  pub fewer_bits_than_none : rendered (one (space (s.ConvertBits (negsuc 7))) q8) ≡ Err BadRange
+  -- Y4MSource("a11.y4m").ConvertBits(8), (10) and (11)
+  pub yv411_to_eight_bits : rendered (one (space (s.ConvertBits (pos 8))) a11) ≡ rendered a11
+  pub yv411_to_ten_bits : rendered (one (space (s.ConvertBits (pos 10))) a11) ≡ Err DepthRefused
+  pub yv411_to_eleven_bits : rendered (one (space (s.ConvertBits (pos 11))) a11) ≡ Err BadRange
+  -- BlankClip(width=4096, height=4096, pixel_type="Y8").ConvertBits(16)
+  pub sixteen_bits_too_large : rendered (one (space (s.ConvertBits (pos 16))) (blank_clip (record none_given { width = Some (pos 4096); height = Some (pos 4096); pixel_type = Some (codes "Y8") })))
+      ≡ Err TooLarge

@@ -44,6 +44,7 @@ pub enum Filter {
     YToUV,
     TemporalSoften,
     GeneralConvolution,
+    ConvertBits,
 }
 
 impl Filter {
@@ -51,7 +52,7 @@ impl Filter {
     ghost use Rattle.clip_term.specs.Filters.{IsMode, declared_mode, filter_named, has_name, name_of, number_of};
 
     /// Each filter once. The number of a filter is its place here.
-    pub const ALL: [Filter; 41] = [
+    pub const ALL: [Filter; 42] = [
         Filter::Y4MSource,
         Filter::BlankClip,
         Filter::Trim,
@@ -93,6 +94,7 @@ impl Filter {
         Filter::YToUV,
         Filter::TemporalSoften,
         Filter::GeneralConvolution,
+        Filter::ConvertBits,
     ];
 
     /// The place of the filter in `ALL`.
@@ -150,6 +152,7 @@ impl Filter {
             Filter::YToUV => "YToUV",
             Filter::TemporalSoften => "TemporalSoften",
             Filter::GeneralConvolution => "GeneralConvolution",
+            Filter::ConvertBits => "ConvertBits",
         }
     }
 
@@ -198,7 +201,8 @@ impl Filter {
             | Filter::Merge
             | Filter::MergeLuma
             | Filter::MergeChroma
-            | Filter::YToUV => Some(1),
+            | Filter::YToUV
+            | Filter::ConvertBits => Some(1),
         }
     }
 

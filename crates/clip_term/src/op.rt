@@ -97,6 +97,9 @@ pub enum SpaceOp {
     UToY8,
     VToY8,
     ConvertToY8,
+    ConvertBits {
+        bits: i32,
+    },
 }
 
 /// What is made of a frame of each clip.
@@ -181,6 +184,7 @@ impl SpaceOp {
             SpaceOp::UToY8 => Filter::UToY8,
             SpaceOp::VToY8 => Filter::VToY8,
             SpaceOp::ConvertToY8 => Filter::ConvertToY8,
+            SpaceOp::ConvertBits { .. } => Filter::ConvertBits,
         }
     }
 }
