@@ -1,13 +1,14 @@
 // The checks of the group Space.
-ghost use Rattle.std.specs.Prelude.{◌≡◌, ◌-ℤ◌, pos, List, length, IfOk, ◌∷◌, [], ◌||◌, ◌==◌, not};
+ghost use Rattle.std.specs.Prelude.{◌≡◌, ◌-ℤ◌, pos, List, length, IfOk, None, ◌∷◌, [], ◌||◌, ◌==◌, not, false};
 ghost use Rattle.fv_plane.specs.declared.format.Info.{Info};
 ghost use Rattle.fv_plane.specs.Info.{IsLawful};
+ghost use Rattle.fv_plane.specs.Format.{has_depth};
 ghost use Rattle.fv_plane.specs.Refusals.{first_fault};
 ghost use Rattle.fv_plane.specs.declared.format.PixelType.TheVariants.{Y8, YV16, YV411};
 ghost use Rattle.clip_term.specs.declared.fault.FilterFault.TheVariants.{BadRange, TurnFormat, NeedsChroma, DepthRefused};
 ghost use Rattle.clip_term.specs.declared.op.SpaceOp.TheVariants as op;
-ghost use Rattle.clip_term.specs.Refusals.{beyond, is_whole, are_whole, same_kind, sized};
-ghost use Rattle.clip_term.specs.Space.{size_from, cut_refusals, bad_bounds, is_no_part, is_outside, cover_more, bad_borders, luma_of, space_refusals, space_shape, check_space};
+ghost use Rattle.clip_term.specs.Refusals.{nat_of, beyond, is_whole, are_whole, same_kind, sized};
+ghost use Rattle.clip_term.specs.Space.{size_from, cut_refusals, bad_bounds, is_no_part, is_outside, cover_more, bad_borders, no_depth, luma_of, space_refusals, space_shape, check_space};
 ghost use Rattle.clip_term.specs.ClipTerm.{space};
 ghost use Rattle.clip_term.specs.Terms.{IsSound, AreLawful};
 ghost use Rattle.clip_check.specs.Numbers.{shape_in};
@@ -217,6 +218,33 @@ fn limiter_fault(
     }
 }
 
+fn no_depth(bits: i32) -> bool
+    ensures { result ≡ no_depth bits }
+{
+    !matches!(bits, 8 | 10 | 12 | 14 | 16)
+}
+
+// The bits of a sample, which are one of the five numbers.
+fn depth_of(bits: i32) -> u8
+    requires { no_depth bits ≡ false }
+    ensures { result ≡ nat_of bits }
+{
+    bits.unsigned_abs() as u8
+}
+
+fn bits_fault(kind: PixelType, bits: i32) -> Option<FilterFault>
+    ensures { result
+        ≡ first_fault ((BadRange, no_depth bits) ∷ (DepthRefused, not (has_depth kind (nat_of bits))) ∷ []) }
+{
+    if no_depth(bits) {
+        Some(FilterFault::BadRange)
+    } else if kind.has_depth(depth_of(bits)) {
+        None
+    } else {
+        Some(FilterFault::DepthRefused)
+    }
+}
+
 // What the row refuses.
 fn space_fault(op: &SpaceOp, shape: Shape) -> Option<FilterFault>
     ensures { result ≡ first_fault (space_refusals op.now shape) }
@@ -252,6 +280,7 @@ fn space_fault(op: &SpaceOp, shape: Shape) -> Option<FilterFault>
         } => limiter_fault(*min_luma, *max_luma, *min_chroma, *max_chroma),
         SpaceOp::UToY8 | SpaceOp::VToY8 => chroma_fault(shape),
         SpaceOp::ConvertToY8 => depth_fault(shape),
+        SpaceOp::ConvertBits { bits } => bits_fault(shape.kind, *bits),
         SpaceOp::FlipHorizontal
         | SpaceOp::FlipVertical
         | SpaceOp::Turn180
@@ -285,8 +314,9 @@ fn luma_of(shape: Shape, plane: u32) -> Sides
     }
 }
 
-// The size of the row.
+// The size of the row, and the bits of its samples.
 fn space_sides(op: &SpaceOp, shape: Shape) -> Sides
+    requires { first_fault (space_refusals op.now shape) ≡ None }
     ensures { shape_in result ≡ space_shape op.now shape }
 {
     let whole_width = shape.width as u64;
@@ -322,6 +352,10 @@ fn space_sides(op: &SpaceOp, shape: Shape) -> Sides
         SpaceOp::UToY8 => luma_of(shape, 1),
         SpaceOp::VToY8 => luma_of(shape, 2),
         SpaceOp::ConvertToY8 => luma_of(shape, 0),
+        SpaceOp::ConvertBits { bits } => Sides {
+            bits: depth_of(*bits),
+            ..sides_of(shape)
+        },
         _ => sides_of(shape),
     }
 }
