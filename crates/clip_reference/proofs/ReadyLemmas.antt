@@ -7,7 +7,6 @@ use Rattle.fv_plane.specs.declared.format.Info.{Info}
 use Rattle.fv_plane.specs.declared.format.Colour.{Colour}
 use Rattle.fv_plane.specs.Picture.{Picture}
 use Rattle.fv_plane.specs.Look.{look_in, picture_from}
-use Rattle.fv_plane.proofs.CallerLemmas.{eight_bits}
 use Rattle.clip_term.specs.declared.fault.FilterFault.{FilterFault}
 use Rattle.fv_io.specs.declared.text.Text.{Text}
 use Rattle.clip_term.specs.declared.op.Op.{Op}
@@ -47,17 +46,17 @@ ready (plain told colour) infos info n k filter sound lawful e long = absurd fil
 ready (time inner) infos info n k filter sound lawful e long = omega arith
 ready (space inner) infos info n k filter sound lawful e long =
     let c = info_at infos 0 in
-    (omega arith, omega arith, no_fault (first_fault (space_refusals inner c.shape)) (limits c c.frames (rate_of c) (space_shape inner c.shape)) info e, eight_bits (info_at infos 0).shape (lawful 0 (omega arith)).shape)
+    (omega arith, omega arith, no_fault (first_fault (space_refusals inner c.shape)) (limits c c.frames (rate_of c) (space_shape inner c.shape)) info e, (lawful 0 (omega arith)).shape)
 ready (joined inner) infos info n k filter sound lawful e long = long ∙ length-map-range_with_len (λ i. in_range infos (from_input i n)) 0 (length infos)
 ready (soft (op.TemporalSoften radius luma chroma)) infos info n k filter sound lawful e long = (
   let one = sound.0 in omega arith,
   long ∙ length-map-range_with_len (λ i. in_range infos (from_input 0 (n + i - nat_of radius))) 0 (2 * nat_of radius + 1),
-  (let one = sound.0 in eight_bits (info_at infos 0).shape (lawful 0 (omega arith)).shape),
+  (let one = sound.0 in (lawful 0 (omega arith)).shape),
 )
 ready (soft (op.GeneralConvolution bias matrix)) infos info n k filter sound lawful e long =
     let one = sound.0 in
     let tests = both (length matrix.entries == 9 || length matrix.entries == 25) _ sound.1 in
-    (omega arith, (omega arith, small_matrix (length matrix.entries) tests.0), eight_bits (info_at infos 0).shape (lawful 0 (omega arith)).shape)
+    (omega arith, (omega arith, small_matrix (length matrix.entries) tests.0), (lawful 0 (omega arith)).shape)
 
 -- an op that is neither a source nor a clip of one colour
 pub filter_is : (code : Op) → ((name : Text) (number : ℕ) (told : Info) → code ≡ code_op.Source name number told → ⊥)

@@ -1,12 +1,17 @@
 -- What a sample of a filter rests on.
-use Rattle.std.specs.Prelude.{◌≡◌, ℕ, ◌+◌, ◌*◌, ◌<◌, ◌≤◌, List, length, None}
+use Rattle.std.specs.Prelude.{◌≡◌, ℕ, ◌+◌, ◌*◌, ◌<◌, ◌≤◌, List, [], length, map, None}
 use Rattle.fv_plane.specs.declared.format.Info.{Info}
+use Rattle.fv_plane.specs.declared.format.Shape.{Shape}
+use Rattle.fv_plane.specs.Format.{IsLegal, largest_sample}
+use Rattle.fv_plane.specs.Look.{look_in}
+use Rattle.fv_plane.specs.Picture.{Picture}
 use Rattle.fv_plane.specs.Refusals.{first_fault}
 use Rattle.clip_term.specs.declared.op.SoftOp.{SoftOp}
 use Rattle.clip_term.specs.declared.op.SoftOp.TheVariants as op
 use Rattle.clip_term.specs.Refusals.{nat_of, info_at}
 use Rattle.clip_term.specs.Space.{space_refusals}
 use Rattle.clip_term.specs.ClipTerm.{Act, source, plain, time, space, joined, soft}
+use Rattle.clip_term.specs.Terms.{sample}
 
 -- as many frames as the op asks, and a matrix of at most 25 entries
 abbrev pub HasNeighbours : SoftOp → ℕ → Type 0
@@ -26,6 +31,11 @@ IsReady (plain info colour) infos k = ⊥
 IsReady (time op) infos k = k ≡ 1
 IsReady (space op) infos k =
     (0 < length infos) × (k ≡ 1) × (first_fault (space_refusals op (info_at infos 0).shape) ≡ None)
-    × ((info_at infos 0).shape.bits ≡ 8)
+    × IsLegal (info_at infos 0).shape
 IsReady (joined op) infos k = k ≡ length infos
-IsReady (soft op) infos k = (0 < length infos) × HasNeighbours op k × ((info_at infos 0).shape.bits ≡ 8)
+IsReady (soft op) infos k = (0 < length infos) × HasNeighbours op k × IsLegal (info_at infos 0).shape
+
+-- no sample that an op makes of these pictures is over the largest one of a shape
+abbrev pub IsInRange : Act → List Info → List Picture → Shape → Type 0
+IsInRange op infos pictures shape =
+    (p x y : ℕ) → sample [] op infos 0 (map look_in pictures) p x y ≤ largest_sample shape

@@ -8,7 +8,7 @@ use clip_term::JoinOp;
 use fv_plane::{Frame, Info};
 
 /// A sample of what the op makes of a frame of each clip.
-pub fn join_sample(op: &JoinOp, infos: &[Info], frames: &[Frame], plane: u32, x: u32, y: u32) -> u8
+pub fn join_sample(op: &JoinOp, infos: &[Info], frames: &[Frame], plane: u32, x: u32, y: u32) -> u16
     requires each { length frames.now ≡ length infos.now }
     ensures { result ≡ join_at op.now infos.now (map look_in frames.now) plane x y }
 {
@@ -29,10 +29,10 @@ pub fn join_sample(op: &JoinOp, infos: &[Info], frames: &[Frame], plane: u32, x:
 }
 
 // Rounded up.
-fn average(a: u8, b: u8) -> u8
+fn average(a: u16, b: u16) -> u16
     ensures { result ≡ (a + b + 1) / 2 }
 {
-    ((a as u32 + b as u32 + 1) / 2) as u8
+    ((a as u32 + b as u32 + 1) / 2) as u16
 }
 
 // The clip whose luma becomes a plane: the clips are those of U, V and Y.
@@ -47,7 +47,7 @@ fn source_of(plane: u32) -> usize
 }
 
 // Pictures one after the other, from the left.
-fn beside(infos: &[Info], frames: &[Frame], plane: u32, x: u64, y: u64) -> u8
+fn beside(infos: &[Info], frames: &[Frame], plane: u32, x: u64, y: u64) -> u16
     requires { length frames.now ≡ length infos.now }
     ensures { result ≡ beside infos.now (map look_in frames.now) plane x y }
 {
@@ -63,7 +63,7 @@ fn beside(infos: &[Info], frames: &[Frame], plane: u32, x: u64, y: u64) -> u8
 }
 
 // Pictures one after the other, from the top.
-fn beneath(infos: &[Info], frames: &[Frame], plane: u32, x: u64, y: u64) -> u8
+fn beneath(infos: &[Info], frames: &[Frame], plane: u32, x: u64, y: u64) -> u16
     requires { length frames.now ≡ length infos.now }
     ensures { result ≡ beneath infos.now (map look_in frames.now) plane x y }
 {

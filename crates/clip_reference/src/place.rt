@@ -1,23 +1,23 @@
-// Samples by their places, and offsets and colours on a plane.
+// Samples by their places, and offsets on a plane.
 ghost use Rattle.std.specs.Prelude.{◌≡◌, map};
-ghost use Rattle.fv_plane.specs.Format.{largest_sample, scale, plane_width, plane_height};
+ghost use Rattle.fv_plane.specs.Format.{plane_width, plane_height};
 ghost use Rattle.fv_plane.specs.Look.{look_in, look_at, across, down};
 
 use fv_plane::{Frame, Shape};
 
 /// The sample at a place of a frame, and 0 outside.
-pub fn look(frame: &Frame, plane: u32, x: u64, y: u64) -> u8
+pub fn look(frame: &Frame, plane: u32, x: u64, y: u64) -> u16
     ensures { result ≡ look_in frame.now plane x y }
 {
     let shape = frame.shape();
     if plane >= shape.kind.planes() || x >= width(shape, plane) || y >= height(shape, plane) {
         return 0;
     }
-    frame.sample(plane, x as u32, y as u32) as u8
+    frame.sample(plane, x as u32, y as u32)
 }
 
 /// The sample at a place of frame `i`, and 0 where there is no such frame.
-pub fn look_at(frames: &[Frame], i: usize, plane: u32, x: u64, y: u64) -> u8
+pub fn look_at(frames: &[Frame], i: usize, plane: u32, x: u64, y: u64) -> u16
     ensures { result ≡ look_at (map look_in frames.now) i plane x y }
 {
     if i >= frames.len() {
@@ -60,20 +60,4 @@ pub fn down(shape: Shape, plane: u32, n: u32) -> u64
     } else {
         (n / shape.kind.sub_h()) as u64
     }
-}
-
-/// The largest value of a sample.
-pub fn largest_sample(shape: Shape) -> u8
-    requires { shape.bits ≡ 8 }
-    ensures { result ≡ largest_sample shape }
-{
-    255
-}
-
-/// The factor from a value of eight bits to a sample.
-pub fn scale(shape: Shape) -> u8
-    requires { shape.bits ≡ 8 }
-    ensures { result ≡ scale shape }
-{
-    1
 }

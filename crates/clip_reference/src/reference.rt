@@ -31,7 +31,10 @@ pub fn reference_frame(alloc: Global, term: &Term, n: u32, book: &Book) -> Resul
     let mut frames = Vec::new(alloc);
     for origin in &origins {
         let input = &term.inputs[origin.input as usize];
-        frames.push(reference_frame(alloc, input, origin.number, book)?)?;
+        let frame = reference_frame(alloc, input, origin.number, book)?;
+        // Called for what its contract says.
+        let _ = frame.shape();
+        frames.push(frame)?;
     }
     match check(&term.op, &infos) {
         Ok(info) => made(alloc, &term.op, &infos, info, &frames),

@@ -1,19 +1,19 @@
 // The samples of what a frame becomes.
 ghost use Rattle.std.specs.Prelude.{◌≡◌, ◌+◌, ◌-◌, ◌*◌, ◌≤◌, ◌&&◌, None, pos, if◌then◌else◌, ◌==◌};
-ghost use Rattle.fv_plane.specs.Format.{largest_sample, scale, plane_width, plane_height};
+ghost use Rattle.fv_plane.specs.Format.{IsLegal, largest_sample, scale, plane_width, plane_height};
 ghost use Rattle.fv_plane.specs.Look.{look_in, across, down};
 ghost use Rattle.fv_plane.specs.Refusals.{first_fault};
 ghost use Rattle.clip_term.specs.Refusals.{nat_of, paint};
 ghost use Rattle.clip_term.specs.Space.{space_at, space_refusals, is_within, is_among, limited, swapped};
 
-use crate::place::{across, down, height, largest_sample, look, scale, width};
+use crate::place::{across, down, height, look, width};
 use clip_term::{Channels, SpaceOp, part_of};
 use fv_plane::{Frame, Shape};
 
 /// A sample of what the op makes of a frame of this shape.
-pub fn space_sample(op: &SpaceOp, shape: Shape, input: &Frame, plane: u32, x: u32, y: u32) -> u8
+pub fn space_sample(op: &SpaceOp, shape: Shape, input: &Frame, plane: u32, x: u32, y: u32) -> u16
     requires accepted { first_fault (space_refusals op.now shape) ≡ None }
-    requires narrow { shape.bits ≡ 8 }
+    requires legal { IsLegal shape }
     ensures { result ≡ space_at op.now shape (look_in input.now) plane x y }
 {
     let column = x as u64;
@@ -65,7 +65,7 @@ pub fn space_sample(op: &SpaceOp, shape: Shape, input: &Frame, plane: u32, x: u3
 }
 
 // The sample of a picture that is cut at the left and the top.
-fn cropped(shape: Shape, input: &Frame, left: i32, top: i32, plane: u32, x: u32, y: u32) -> u8
+fn cropped(shape: Shape, input: &Frame, left: i32, top: i32, plane: u32, x: u32, y: u32) -> u16
     ensures { result ≡ space_at (SpaceOp.Crop left top (pos 0) (pos 0)) shape (look_in input.now) plane x y }
 {
     let column = x as u64 + across(shape, plane, left.unsigned_abs());
@@ -83,8 +83,8 @@ fn bordered(
     plane: u32,
     x: u32,
     y: u32,
-) -> u8
-    requires { shape.bits ≡ 8 }
+) -> u16
+    requires { IsLegal shape }
     ensures { result
         ≡ space_at (SpaceOp.AddBorders left top (pos 0) (pos 0) colour) shape (look_in input.now) plane x y }
 {
@@ -100,7 +100,7 @@ fn bordered(
     )
 }
 
-fn upside_down(shape: Shape, input: &Frame, plane: u32, x: u64, y: u64) -> u8
+fn upside_down(shape: Shape, input: &Frame, plane: u32, x: u64, y: u64) -> u16
     ensures { result ≡ space_at SpaceOp.Turn180 shape (look_in input.now) plane x y }
 {
     let column = opposite(width(shape, plane), x);
@@ -109,8 +109,8 @@ fn upside_down(shape: Shape, input: &Frame, plane: u32, x: u64, y: u64) -> u8
 }
 
 // The sample, or the colour where the picture is covered.
-fn painted(uncovered: bool, sample: u8, colour: i32, shape: Shape, plane: u32) -> u8
-    requires { shape.bits ≡ 8 }
+fn painted(uncovered: bool, sample: u16, colour: i32, shape: Shape, plane: u32) -> u16
+    requires { IsLegal shape }
     ensures { result ≡ (if uncovered then sample else paint colour shape plane) }
 {
     if uncovered {
@@ -133,11 +133,19 @@ fn is_within(start: u64, end: u64, at: u64) -> bool
     start <= at && at < end
 }
 
-fn paint(colour: i32, shape: Shape, plane: u32) -> u8
-    requires { shape.bits ≡ 8 }
+// A value of eight bits, as a sample.
+fn scaled(value: u8, shape: Shape) -> u16
+    requires { IsLegal shape }
+    ensures { result ≡ value * scale shape }
+{
+    value as u16 * shape.scale()
+}
+
+fn paint(colour: i32, shape: Shape, plane: u32) -> u16
+    requires { IsLegal shape }
     ensures { result ≡ paint colour shape plane }
 {
-    part_of(colour.unsigned_abs(), plane) * scale(shape)
+    scaled(part_of(colour.unsigned_abs(), plane), shape)
 }
 
 // Whether borders leave a place to the picture.
@@ -186,14 +194,14 @@ fn is_open(
     is_open_across(shape, x1, x2, plane, x) && is_open_down(shape, top, bottom, plane, y)
 }
 
-fn grey(shape: Shape, plane: u32, sample: u8) -> u8
-    requires { shape.bits ≡ 8 }
+fn grey(shape: Shape, plane: u32, sample: u16) -> u16
+    requires { IsLegal shape }
     ensures { result ≡ (if plane == 0 then sample else 128 * scale shape) }
 {
     if plane == 0 {
         sample
     } else {
-        128 * scale(shape)
+        scaled(128, shape)
     }
 }
 
@@ -209,25 +217,26 @@ fn is_among(channels: Channels, plane: u32) -> bool
     }
 }
 
-fn inverted(channels: Channels, shape: Shape, plane: u32, sample: u8) -> u8
-    requires { shape.bits ≡ 8 }
+fn inverted(channels: Channels, shape: Shape, plane: u32, sample: u16) -> u16
+    requires { IsLegal shape }
     ensures { result ≡ (if is_among channels plane then largest_sample shape - sample else sample) }
 {
     if is_among(channels, plane) {
-        largest_sample(shape) - sample
+        shape.largest_sample().saturating_sub(sample)
     } else {
         sample
     }
 }
 
-fn limited(shape: Shape, low: i32, high: i32, sample: u8) -> u8
+fn limited(shape: Shape, low: i32, high: i32, sample: u16) -> u16
+    requires low { nat_of low ≤ 255 }
     requires high { nat_of high ≤ 255 }
-    requires narrow { shape.bits ≡ 8 }
+    requires legal { IsLegal shape }
     ensures { result ≡ limited (nat_of low * scale shape) (nat_of high * scale shape) sample }
 {
-    let low = low.unsigned_abs() as u64 * scale(shape) as u64;
-    let high = high.unsigned_abs() as u64 * scale(shape) as u64;
-    (sample as u64).max(low).min(high) as u8
+    let low = scaled(low.unsigned_abs() as u8, shape);
+    let high = scaled(high.unsigned_abs() as u8, shape);
+    sample.max(low).min(high)
 }
 
 // The planes of chroma exchanged.

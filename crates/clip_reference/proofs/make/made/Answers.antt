@@ -1,46 +1,59 @@
-use Rattle.std.proofs.Common.{rules, ◌≡◌, ◌∙◌, ℕ, List, [], length, map, ap, refl}
+use Rattle.std.proofs.Common.{rules, ◌≡◌, ◌∙◌, ◌*◌, ℕ, List, [], length, map, ap, sym, refl}
 use Rattle.std.proofs.lemmas.Result.{IfOk-weaker}
-use Rattle.fv_plane.specs.Format.{plane_width}
+use Rattle.fv_plane.specs.Format.{sample_bytes}
 use Rattle.fv_plane.specs.Picture.{Picture}
 use Rattle.fv_plane.specs.Bytes.{row_of_bytes}
 use Rattle.fv_plane.specs.Look.{Look, look_in, row_from, picture_from}
 use Rattle.clip_term.specs.ClipTerm.{act_of}
 use Rattle.clip_term.specs.Terms.{sample, make}
-use Rattle.fv_plane.proofs.CallerLemmas.{eight_bits, fit_narrow, narrow_of_bytes}
 use Rattle.fv_plane.proofs.FillLemmas.{filled_put, filled_plane, filled_done}
+use Rattle.fv_plane.proofs.WholePlaneLemmas.{rows_listed}
 use Rattle.clip_reference.proofs.ReadyLemmas.{made_same}
+use Rattle.clip_reference.proofs.RowLemmas.{row_fits, bytes_fit, bytes_again}
 use Rattle.clip_reference.proofs.make.made.Goals as goal
 
-pub put_row-requires-clause-fits : goal.put_row-requires-clause-fits
-put_row-requires-clause-fits c = fit_narrow c.loop-y.made.shape c.fill_row.new.row (eight_bits c.loop-y.made.shape c.loop-y.invariant.filled.sizes.legal)
+pub write_row-requires-clause-whole : goal.write_row-requires-clause-whole
+write_row-requires-clause-whole c =
+    c.loop-y.invariant.row ∙ ap (λ n. n * sample_bytes c.args.info.shape) (sym (c.fill_row.auto.row ∙ c.loop-y.invariant.samples))
 
--- a row of the plane has as many samples as bytes
+pub write_row-requires-clause-fits : goal.write_row-requires-clause-fits
+write_row-requires-clause-fits c =
+    let at : Look = sample [] (act_of c.args.op.now) c.args.infos.now 0 (map look_in c.args.frames.now) in
+    row_fits at c.args.info.shape c.loop-plane.plane (length c.loop-y.samples) c.loop-y.y c.fill_row.new.row c.requires.fits c.fill_row.ensures
+
+pub put_row-requires-clause-fits : goal.put_row-requires-clause-fits
+put_row-requires-clause-fits c =
+    let at : Look = sample [] (act_of c.args.op.now) c.args.infos.now 0 (map look_in c.args.frames.now) in
+    let shape = c.args.info.shape in
+    bytes_fit shape c.loop-y.made.shape c.fill_row.new.row c.write_row.new.bytes c.loop-y.invariant.filled.same c.write_row.ensures
+    (row_fits at shape c.loop-plane.plane (length c.loop-y.samples) c.loop-y.y c.fill_row.new.row c.requires.fits c.fill_row.ensures)
+
 pub loop-y-preserved : goal.loop-y-preserved
 loop-y-preserved c =
     let shape = c.args.info.shape in
     let at : Look = sample [] (act_of c.args.op.now) c.args.infos.now 0 (map look_in c.args.frames.now) in
     let p = c.loop-plane.plane in
     record {
-      long = c.fill_row.auto.row ∙ c.loop-y.invariant.long;
-      filled = filled_put (λ q z. row_from at q (plane_width shape q) z) shape c.loop-y.made c.put_row.new.self p c.loop-y.y (row_of_bytes c.loop-y.made.shape c.fill_row.new.row) c.loop-y.invariant.filled
+      samples = c.fill_row.auto.row ∙ c.loop-y.invariant.samples;
+      row = c.write_row.auto.bytes ∙ c.loop-y.invariant.row;
+      filled = filled_put (rows_listed shape at) shape c.loop-y.made c.put_row.new.self p c.loop-y.y (row_of_bytes c.loop-y.made.shape c.write_row.new.bytes) c.loop-y.invariant.filled
           c.put_row.ensures.sizes c.put_row.ensures.shape c.put_row.ensures.rows
-          (narrow_of_bytes c.loop-y.made.shape c.fill_row.new.row (eight_bits c.loop-y.made.shape c.loop-y.invariant.filled.sizes.legal) ∙ c.fill_row.ensures
-          ∙ ap (λ width. row_from at p width c.loop-y.y) c.loop-y.invariant.long) (search rules) (search rules);
+          (bytes_again shape c.loop-y.made.shape c.fill_row.new.row c.write_row.new.bytes c.loop-y.invariant.filled.same c.write_row.ensures ∙ c.fill_row.ensures
+          ∙ ap (λ width. row_from at p width c.loop-y.y) c.loop-y.invariant.samples) (search rules) (search rules);
     }
 
 pub loop-plane-preserved : goal.loop-plane-preserved
 loop-plane-preserved c =
     let shape = c.args.info.shape in
     let at : Look = sample [] (act_of c.args.op.now) c.args.infos.now 0 (map look_in c.args.frames.now) in
-    filled_plane (λ q z. row_from at q (plane_width shape q) z) shape c.loop-y.made c.loop-plane.plane c.loop-y.y (search rules) c.loop-y.invariant.filled
+    filled_plane (rows_listed shape at) shape c.loop-y.made c.loop-plane.plane c.loop-y.y (search rules) c.loop-y.invariant.filled
 
 pub returns : goal.returns
 returns c =
     let info = c.args.info in
     let at : Look = sample [] (act_of c.args.op.now) c.args.infos.now 0 (map look_in c.args.frames.now) in
     let whole : c.loop-plane.made ≡ picture_from info.shape at
-    = filled_done (λ q z. row_from at q (plane_width info.shape q) z) info.shape c.loop-plane.made at c.loop-plane.plane 0
-    c.loop-plane.invariant (search rules) (search rules) (λ p z there inside. refl) in
+    = filled_done (rows_listed info.shape at) info.shape c.loop-plane.made at c.loop-plane.plane 0 c.loop-plane.invariant (search rules) (search rules) (λ p z there inside. refl) in
     IfOk-weaker c.finish.result (λ frame. frame ≡ c.loop-plane.made)
     (λ frame. (book : List (List Picture)) (n : ℕ) → frame ≡ make book (act_of c.args.op.now) c.args.infos.now info n c.args.frames.now)
     (λ frame e book n. e ∙ whole ∙ made_same (act_of c.args.op.now) c.args.infos.now info c.args.frames.now (length c.args.frames.now) c.requires.ready book n)

@@ -1,7 +1,8 @@
 use Rattle.std.proofs.Common.{◌≡◌, ◌∙◌, List, ◌++◌, ◌∷◌, [], length, sym, ap, map, refl, arith, take, Ok, Err, ℕ, ◌<◌, get_or}
 use Rattle.std.proofs.lemmas.List.{take_all, map_more, length-map}
+use Rattle.std.proofs.lemmas.List.Elements.{All-push}
 use Rattle.std.proofs.lemmas.Result.{IfOk-weaker}
-use Rattle.fv_plane.specs.Picture.{Picture, blank}
+use Rattle.fv_plane.specs.Picture.{Picture, IsPicture, blank}
 use Rattle.fv_plane.specs.declared.format.Info.{Info}
 use Rattle.fv_plane.specs.declared.format.Shape.{Shape}
 use Rattle.clip_term.specs.declared.term.Term.{out-Term}
@@ -10,6 +11,7 @@ use Rattle.clip_term.specs.declared.op.Origin.{Origin}
 use Rattle.clip_term.specs.Terms.{asked, asked_picture, check, make, frame_in, term_picture, term_pictures}
 use Rattle.clip_term.proofs.LawfulLemmas.{checks_lawful}
 use Rattle.clip_reference.proofs.ReadyLemmas.{ready, filter_is}
+use Rattle.clip_reference.proofs.RangeLemmas.{made_in_range}
 use Rattle.clip_reference.proofs.SizeLemmas.{fewer}
 use Rattle.clip_reference.proofs.TermLemmas.{node, accepted, gathered, inputs_ok, turn, is_blank, no_refusal, made_whole, source_frame, source_picture}
 use Rattle.clip_reference.proofs.reference.+reference_frame.Goals as goal
@@ -97,9 +99,13 @@ loop-origin-preserved t c =
     let d : Origin = record { input = 0; number = 0 } in
     let at = turn c.args.book.now op ts infos c.args.n g origins same i d c.loop-origin-test.true c.index-input.result.now _ c.index-input.ensures in
     let f = asked_picture (term_pictures c.args.book.now (clips (map term_of ts))) in
-    let put : c.push.new.self.items ≡ c.loop-origin.frames.items ++ c.in_ok-reference_frame.field-0 ∷ [] = c.in_ok-push.ensures.items in
-    put ∙ ap (λ l. l ++ c.in_ok-reference_frame.field-0 ∷ []) c.loop-origin.invariant
-    ∙ ap (λ p. map f (take i origins) ++ p ∷ []) (c.in_ok-reference_frame.ensures ∙ sym at.picture) ∙ sym (map_more f origins i d c.loop-origin-test.true)
+    let frames = c.loop-origin.frames.items in
+    let put : c.push.new.self.items ≡ frames ++ c.in_ok-frame.frame ∷ [] = c.in_ok-push.ensures.items in
+    record {
+      made = put ∙ ap (λ l. l ++ c.in_ok-frame.frame ∷ []) c.loop-origin.invariant.made
+          ∙ ap (λ p. map f (take i origins) ++ p ∷ []) (c.in_ok-frame.ensures ∙ sym at.picture) ∙ sym (map_more f origins i d c.loop-origin-test.true);
+      sizes = rw put (All-push IsPicture frames c.in_ok-frame.frame c.loop-origin.invariant.sizes c.shape.ensures.sizes);
+    }
 
 pub made-requires : goal.made-requires
 made-requires t c =
@@ -112,11 +118,13 @@ made-requires t c =
     let k = g.known in
     let f = asked_picture (term_pictures c.args.book.now (clips (map term_of ts))) in
     let checked : check op infos ≡ Ok c.in-Ok.info = ap (check op) (sym c.deref-3.ensures.value) ∙ sym c.check.ensures.exact ∙ c.in-Ok.is in
-    let all : c.loop-origin.frames.items ≡ map f origins = c.loop-origin.invariant ∙ ap (map f) (take_all c.loop-origin.origin-index origins c.loop-origin-test.false) in
+    let all : c.loop-origin.frames.items ≡ map f origins = c.loop-origin.invariant.made ∙ ap (map f) (take_all c.loop-origin.origin-index origins c.loop-origin-test.false) in
     let long : length c.loop-origin.frames.items ≡ length (asked op infos c.args.n) = ap length all ∙ length-map origins f ∙ ap length same in
+    let filter = filter_is (out-Term c.args.term.now).op c.in_default.not-Source c.in_default-op.not-Blank in
     rw (c.deref-in-Ok.ensures.value, c.deref-in-Ok-2.ensures.value) (record {
       legal = (checks_lawful op infos c.in-Ok.info k.sound k.lawful checked).shape;
-      ready = ready op infos c.in-Ok.info c.args.n (length c.loop-origin.frames.items) (filter_is (out-Term c.args.term.now).op c.in_default.not-Source c.in_default-op.not-Blank) k.sound k.lawful checked long;
+      ready = ready op infos c.in-Ok.info c.args.n (length c.loop-origin.frames.items) filter k.sound k.lawful checked long;
+      fits = made_in_range c.args.book.now (clips (map term_of ts)) op infos c.in-Ok.info c.args.n c.loop-origin.frames.items g.all filter k.sound k.lawful checked (all ∙ ap (map f) same) c.loop-origin.invariant.sizes;
     })
 
 pub unreachable-requires : goal.unreachable-requires
@@ -144,7 +152,7 @@ returns t c =
     let f = asked_picture (term_pictures book (clips (map term_of ts))) in
     let checked : check op infos ≡ Ok c.in-Ok.info = ap (check op) (sym c.deref-3.ensures.value) ∙ sym c.check.ensures.exact ∙ c.in-Ok.is in
     let all : c.deref-in-Ok-2.result.now ≡ map f (asked op infos n)
-    = c.deref-in-Ok-2.ensures.value ∙ c.loop-origin.invariant ∙ ap (map f) (take_all c.loop-origin.origin-index origins c.loop-origin-test.false ∙ same) in
+    = c.deref-in-Ok-2.ensures.value ∙ c.loop-origin.invariant.made ∙ ap (map f) (take_all c.loop-origin.origin-index origins c.loop-origin-test.false ∙ same) in
     let law = made_whole book c.args.term.now n infos c.in-Ok.info c.deref-in-Ok-2.result.now c.requires.sound g.all checked all in
     IfOk-weaker c.made.result (λ frame. (b : List (List Picture)) (m : ℕ) → frame ≡ make b op c.deref-in-Ok.result.now c.in-Ok.info m c.deref-in-Ok-2.result.now)
     (λ frame. frame ≡ term_picture book (term_of c.args.term.now) n)

@@ -16,8 +16,9 @@ returns c =
     let sum : to_z w64 (of_z w64 c.weighed-sum.result) ≡ all = omega (arith, ints, c.weighed-sum.ensures.value) in
     let divisor : to_z w64 (of_z w64 c.divisor_of.result) ≡ divisor_of matrix = omega (arith, ints, c.divisor_of.ensures.value) in
     let bias : to_z w32 (of_z w32 c.args.bias) ≡ c.args.bias = omega (arith, ints) in
-    let whole : to_z w64 (of_z w64 (to_z w64 (of_z w64 c.mean.result) +ℤ to_z w64 (of_z w64 c.scaled.result))) ≡ c.mean.result +ℤ c.scaled.result = omega (arith, ints) in
+    let whole : to_z w64 (of_z w64 (to_z w64 (of_z w64 c.mean.result) +ℤ to_z w64 (of_z w64 c.times.result))) ≡ c.mean.result +ℤ c.times.result = omega (arith, ints) in
     let divided : c.mean.result ≡ int_div all (divisor_of matrix)
     = c.mean.ensures.value ∙ ap (λ z. int_div z (to_z w64 (of_z w64 c.divisor_of.result))) sum ∙ ap (λ z. int_div all z) divisor in
-    let scaled : c.scaled.result ≡ c.args.bias *ℤ pos (scale shape) = c.scaled.ensures.value ∙ ap (λ z. z *ℤ pos (scale shape)) bias in
+    let scaled : c.times.result ≡ c.args.bias *ℤ pos (scale shape)
+    = c.times.ensures.value ∙ ap (λ z. z *ℤ pos c.scale.result) bias ∙ ap (λ factor. c.args.bias *ℤ pos factor) c.scale.ensures in
     rw (c.sample_from.ensures, c.largest_sample.ensures, whole, divided, scaled) refl

@@ -7,5 +7,5 @@ use Rattle.clip_reference.proofs.soft.softened.Given as goal
 abbrev pub invariant-loop-frame : goal.invariant-loop-frame
 invariant-loop-frame l = record {
   made : l.sum ≡ sum (map (near l.threshold l.middle) (samples_at (map look_in (take l.frame-index l.frames)) l.plane l.x l.y));
-  few : l.sum ≤ 255 * l.frame-index;
+  few : l.sum ≤ 65535 * l.frame-index;
 }

@@ -23,8 +23,8 @@ loop-k-preserved c =
     let row_is : c.place-row.result ≡ row = c.place-row.ensures ∙ ap (λ size. place c.args.y (k / side) (side / 2) size) c.height.ensures in
     let at : ℕ → ℕ → ℕ = λ x y. look_in c.args.input.now p x y in
     let sample : c.look.result ≡ at column row = c.look.ensures ∙ ap (λ x. at x c.place-row.result) column_is ∙ ap (λ y. at column y) row_is in
-    let here : c.weight-sum.result ≡ entry *ℤ pos (at column row)
-    = c.weight-sum.ensures.value ∙ ap (λ e. e *ℤ pos c.look.result) read ∙ ap (λ v. entry *ℤ pos v) sample in
+    let here : c.times-sum.result ≡ entry *ℤ pos (at column row)
+    = c.times-sum.ensures.value ∙ ap (λ e. e *ℤ pos c.look.result) read ∙ ap (λ v. entry *ℤ pos v) sample in
     record {
       made = omega (arith, ints, more, here, c.loop-k.invariant.made);
       low = omega (arith, ints);

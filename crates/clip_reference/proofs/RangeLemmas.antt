@@ -1,0 +1,158 @@
+-- No sample that a filter makes of the frames that it asks is over the largest one.
+use Rattle.std.proofs.Common.{◌≡◌, ℕ, zero, suc, ◌+◌, ◌-◌, ◌*◌, ◌^◌, ◌<◌, ◌≤◌, List, [], ◌∷◌, length, map, get_or, refl, ap, ◌∙◌, arith, subst, Ok, All}
+use Rattle.std.specs.Prelude.{slice_index_or, ◌==◌}
+use Rattle.std.specs.List.{list_all}
+use Rattle.std.proofs.lemmas.List.{length-map}
+use Rattle.std.proofs.lemmas.List.Elements.{All-nil, All-cons, All-head, All-tail}
+use Rattle.std.proofs.lemmas.List.FromFn.{length-map-range_with_len}
+use Rattle.std.proofs.lemmas.List.Sums.{AllPass-from_list_all}
+use Rattle.fv_plane.specs.declared.format.Info.{Info}
+use Rattle.fv_plane.specs.declared.format.Shape.{Shape}
+use Rattle.fv_plane.specs.Format.{largest_sample}
+use Rattle.fv_plane.specs.Picture.{Picture, IsPicture}
+use Rattle.fv_plane.specs.Look.{Look, look_at, look_in, picture_from}
+use Rattle.clip_term.specs.declared.op.Origin.{Origin}
+use Rattle.clip_term.specs.declared.op.JoinOp.{JoinOp}
+use Rattle.clip_term.specs.declared.op.JoinOp.TheVariants as join_op
+use Rattle.clip_term.specs.declared.op.SoftOp.TheVariants as soft_op
+use Rattle.clip_term.specs.Refusals.{info_at, no_info, rate_of, nat_of, limits, same_format}
+use Rattle.clip_term.specs.Time.{source_number, from_input, in_range, time_refusals, time_length, time_rate}
+use Rattle.clip_term.specs.Space.{space_refusals, space_shape, space_at}
+use Rattle.clip_term.specs.Join.{join_refusals, join_length, join_shape}
+use Rattle.clip_term.specs.Soft.{soft_refusals, soft_at}
+use Rattle.clip_term.specs.ClipTerm.{Act, source, plain, time, space, joined, soft, ClipTerms, no_terms, and_term}
+use Rattle.clip_term.specs.Terms.{IsSound, AreLawful, IsAsked, check, asked, info_of, infos_of, ok_or, term_pictures, asked_picture, no_picture}
+use Rattle.clip_term.proofs.AskedLemmas.{asks_in_range}
+use Rattle.clip_term.proofs.BoundedLemmas as bounds
+use Rattle.clip_term.proofs.PassedLemmas.{Passed, passed, limits_shape, both_ok, agreed, not_false, same_format_is, same_number}
+use Rattle.clip_term.proofs.TimeLocal.{time_local}
+use Rattle.clip_reference.specs.Ready.{IsFilter, IsInRange}
+
+-- the frame that shows what is asked has the shape of the input
+abbrev ShowsInputs : List Info → (Origin → Picture) → Type 0
+ShowsInputs infos shown = (o : Origin) → (shown o).shape ≡ (info_at infos o.input).shape
+
+shape_asked : (book : List (List Picture)) (row : ClipTerms) (infos : List Info) → infos_of row ≡ Ok infos → (i n : ℕ)
+    → (slice_index_or (term_pictures book row) i (λ k. no_picture) n).shape ≡ (info_at infos i).shape
+unfolding infos_of picture_from
+shape_asked book no_terms infos e i n = let none : [] ≡ infos = cc in ap (λ ds. (info_at ds i).shape) none
+shape_asked book (and_term term rest) infos e zero n =
+    let both = both_ok (info_of term) (infos_of rest) infos e in
+    rw (← both.whole) (ap (λ r. (ok_or no_info r).shape) both.first_is)
+shape_asked book (and_term term rest) infos e (suc i) n =
+    let both = both_ok (info_of term) (infos_of rest) infos e in
+    rw (← both.whole) (shape_asked book rest both.others both.others_are i n)
+
+-- the frames of the inputs' terms do
+shows_inputs : (book : List (List Picture)) (row : ClipTerms) (infos : List Info) → infos_of row ≡ Ok infos → ShowsInputs infos (asked_picture (term_pictures book row))
+shows_inputs book row infos e o = shape_asked book row infos e o.input o.number
+
+-- the inputs that are asked have samples of so many bits
+abbrev HaveBits : List Info → ℕ → List Origin → Type 0
+HaveBits infos bits os = All (λ (o : Origin). (info_at infos o.input).shape.bits ≡ bits) os
+
+one_has : (infos : List Info) (bits : ℕ) (o : Origin) → (info_at infos o.input).shape.bits ≡ bits → HaveBits infos bits (o ∷ [])
+one_has infos bits o is = All-cons (λ (q : Origin). (info_at infos q.input).shape.bits ≡ bits) o [] is (All-nil (λ (q : Origin). (info_at infos q.input).shape.bits ≡ bits))
+
+all_have : (infos : List Info) (bits : ℕ) (os : List Origin) → All (IsAsked infos) os → ((i : ℕ) → i < length infos → (info_at infos i).shape.bits ≡ bits) → HaveBits infos bits os
+all_have infos bits os are each = λ k d h. each (get_or os k d).input (are k d h).input
+
+-- so no sample of the frames is over the largest one
+all_bounded : (infos : List Info) (shown : Origin → Picture) → ShowsInputs infos shown → (shape : Shape) (os : List Origin) → HaveBits infos shape.bits os → All IsPicture (map shown os)
+    → bounds.AllBounded shape (map look_in (map shown os))
+all_bounded infos shown shows shape [] bits are = bounds.none
+all_bounded infos shown shows shape (o ∷ os) bits are =
+    let P : Origin → Type 0 = λ q. (info_at infos q.input).shape.bits ≡ shape.bits in
+    let same : (shown o).shape.bits ≡ shape.bits = ap (λ (s : Shape). s.bits) (shows o) ∙ All-head P o os bits in
+    let is = All-head IsPicture (shown o) (map shown os) are in
+    bounds.more (record { at = λ p x y. subst (λ n. look_in (shown o) p x y ≤ 2 ^ n - 1) same (is.bounded p x y) })
+    (all_bounded infos shown shows shape os (All-tail P o os bits) (All-tail IsPicture (shown o) (map shown os) are))
+
+-- GROUP JOIN
+
+-- clips that are joined have samples of the bits of the first one's
+joined_bits : (inner : JoinOp) (infos : List Info) → Passed (join_refusals inner (info_at infos 0) infos) → (i : ℕ) → i < length infos → (info_at infos i).shape.bits ≡ (info_at infos 0).shape.bits
+joined_bits join_op.StackHorizontal infos told i h =
+    let c = info_at infos 0 in
+    let test = λ (d : Info). same_format d.shape c.shape in
+    (same_format_is (info_at infos i).shape c.shape (AllPass-from_list_all test infos (not_false (list_all test infos) told.0) i no_info h)).1
+joined_bits join_op.StackVertical infos told i h =
+    let c = info_at infos 0 in
+    let test = λ (d : Info). same_format d.shape c.shape in
+    (same_format_is (info_at infos i).shape c.shape (AllPass-from_list_all test infos (not_false (list_all test infos) told.0) i no_info h)).1
+joined_bits join_op.YToUV infos told i h =
+    let c = info_at infos 0 in
+    let test = λ (d : Info). d.shape.bits == c.shape.bits in
+    same_number (info_at infos i).shape.bits c.shape.bits (AllPass-from_list_all test infos (not_false (list_all test infos) told.0) i no_info h)
+joined_bits join_op.Merge infos told i h = ap (λ (s : Shape). s.bits) (agreed infos told i h)
+joined_bits join_op.MergeLuma infos told i h = ap (λ (s : Shape). s.bits) (agreed infos told i h)
+joined_bits join_op.MergeChroma infos told i h = ap (λ (s : Shape). s.bits) (agreed infos told i h)
+
+-- and so has what they are joined to
+join_bits : (inner : JoinOp) (c : Info) (infos : List Info) → c.shape.bits ≡ (join_shape inner c infos).bits
+join_bits join_op.StackHorizontal c infos = refl
+join_bits join_op.StackVertical c infos = refl
+join_bits join_op.YToUV c infos = refl
+join_bits _ c infos = refl
+
+-- ANY FILTER
+
+in_range_made : (op : Act) (infos : List Info) (info : Info) (n : ℕ) (shown : Origin → Picture) → ShowsInputs infos shown → IsFilter op → IsSound op (length infos) → AreLawful infos → check op infos ≡ Ok info
+    → All IsPicture (map shown (asked op infos n)) → IsInRange op infos (map shown (asked op infos n)) info.shape
+in_range_made (source name number told) infos info n shown shows filter sound lawful e are = absurd filter
+in_range_made (plain told colour) infos info n shown shows filter sound lawful e are = absurd filter
+in_range_made (time inner) infos info n shown shows filter sound lawful e are =
+    let c = info_at infos 0 in
+    let o = source_number inner infos n in
+    let rest = limits c (time_length inner c infos) (time_rate inner c infos) c.shape in
+    let told = passed (time_refusals inner c infos) rest info e in
+    let within = All-head (IsAsked infos) o [] (asks_in_range (time inner) infos n sound lawful) in
+    let same = time_local inner infos n told.0 within.input ∙ limits_shape c (time_length inner c infos) (time_rate inner c infos) c.shape info told.1 in
+    let all = all_bounded infos shown shows info.shape (o ∷ []) (one_has infos info.shape.bits o (ap (λ (s : Shape). s.bits) same)) are in
+    λ p x y. (bounds.bounded_at all 0).at p x y
+in_range_made (space inner) infos info n shown shows filter sound lawful e are =
+    let c = info_at infos 0 in
+    let shape = space_shape inner c.shape in
+    let told = passed (space_refusals inner c.shape) (limits c c.frames (rate_of c) shape) info e in
+    let o = in_range infos (from_input 0 n) in
+    let from : Look = look_at (map look_in (map shown (o ∷ []))) 0 in
+    let all = all_bounded infos shown shows c.shape (o ∷ []) (one_has infos c.shape.bits o refl) are in
+    let few = bounds.space_bounded inner c.shape from (lawful 0 (omega arith)).shape told.0 (bounds.bounded_at all 0) in
+    λ p x y. subst (λ (s : Shape). space_at inner c.shape from p x y ≤ largest_sample s) (limits_shape c c.frames (rate_of c) shape info told.1) (few.at p x y)
+in_range_made (joined inner) infos info n shown shows filter sound lawful e are =
+    let c = info_at infos 0 in
+    let shape = join_shape inner c infos in
+    let told = passed (join_refusals inner c infos) (limits c (join_length inner c infos) (rate_of c) shape) info e in
+    let made = limits_shape c (join_length inner c infos) (rate_of c) shape info told.1 in
+    let os = asked (joined inner) infos n in
+    let bits = all_have infos info.shape.bits os (asks_in_range (joined inner) infos n sound lawful)
+    (λ i h. joined_bits inner infos told.0 i h ∙ join_bits inner c infos ∙ ap (λ (s : Shape). s.bits) made) in
+    let few = bounds.join_bounded inner info.shape infos (map look_in (map shown os)) (all_bounded infos shown shows info.shape os bits are) in
+    λ p x y. few.at p x y
+in_range_made (soft (soft_op.TemporalSoften radius luma chroma)) infos info n shown shows filter sound lawful e are =
+    let c = info_at infos 0 in
+    let inner = soft_op.TemporalSoften radius luma chroma in
+    let told = passed (soft_refusals inner) (limits c c.frames (rate_of c) c.shape) info e in
+    let os = asked (soft inner) infos n in
+    let looks : List Look = map look_in (map shown os) in
+    let one = sound.0 in
+    let bits = all_have infos c.shape.bits os (asks_in_range (soft inner) infos n sound lawful)
+    (λ i h. let first : i ≡ 0 = omega arith in ap (λ k. (info_at infos k).shape.bits) first) in
+    let long : length looks ≡ 2 * nat_of radius + 1
+    = length-map (map shown os) look_in ∙ length-map os shown ∙ length-map-range_with_len (λ k. in_range infos (from_input 0 (n + k - nat_of radius))) 0 (2 * nat_of radius + 1) in
+    let few = bounds.soften_bounded c.shape radius luma chroma looks long (all_bounded infos shown shows c.shape os bits are) in
+    λ p x y. subst (λ (s : Shape). soft_at inner c.shape looks p x y ≤ largest_sample s) (limits_shape c c.frames (rate_of c) c.shape info told.1) (few.at p x y)
+in_range_made (soft (soft_op.GeneralConvolution bias matrix)) infos info n shown shows filter sound lawful e are =
+    let c = info_at infos 0 in
+    let inner = soft_op.GeneralConvolution bias matrix in
+    let told = passed (soft_refusals inner) (limits c c.frames (rate_of c) c.shape) info e in
+    let looks : List Look = map look_in (map shown (asked (soft inner) infos n)) in
+    let few = bounds.convolve_bounded c.shape bias matrix looks in
+    λ p x y. subst (λ (s : Shape). soft_at inner c.shape looks p x y ≤ largest_sample s) (limits_shape c c.frames (rate_of c) c.shape info told.1) (few.at p x y)
+
+-- so what a term's filter makes of its inputs' frames is in range
+pub made_in_range : (book : List (List Picture)) (row : ClipTerms) (op : Act) (infos : List Info) (info : Info) (n : ℕ) (pictures : List Picture) → infos_of row ≡ Ok infos → IsFilter op → IsSound op (length infos)
+    → AreLawful infos → check op infos ≡ Ok info → pictures ≡ map (asked_picture (term_pictures book row)) (asked op infos n) → All IsPicture pictures → IsInRange op infos pictures info.shape
+made_in_range book row op infos info n pictures told filter sound lawful e same are =
+    let shown = asked_picture (term_pictures book row) in
+    rw same (in_range_made op infos info n shown (shows_inputs book row infos told) filter sound lawful e (rw same at are))

@@ -1,5 +1,0 @@
-use Rattle.std.proofs.Common.{refl}
-use Rattle.clip_reference.proofs.place.largest_sample.Goals as goal
-
-pub returns : goal.returns
-returns c = rw c.requires refl
