@@ -1,11 +1,28 @@
 // `Merge`: the mean of two pictures, sample by sample.
-ghost use Rattle.std.specs.Prelude.{◌≡◌, IfOk};
+ghost use Rattle.std.specs.Prelude.{◌≡◌, ◌%◌, IfOk, length};
+ghost use Rattle.std.specs.Simd.Lanes.{zip2};
+ghost use Rattle.fv_plane.specs.Bytes.{bytes_of_row, row_of_bytes};
+ghost use Rattle.fv_plane.specs.Format.{sample_bytes};
 ghost use Rattle.fv_plane.specs.Look.{picture_from};
-ghost use Rattle.flt_merge.specs.Rows.{look_of_means};
+ghost use Rattle.flt_merge.specs.Rows.{mean, look_of_means};
 
-use crate::kernels::merge_row;
-use fv_plane::{Frame, FrameBuilder};
+use crate::kernels::{merge_row, merge_wide_row};
+use fv_plane::{Frame, FrameBuilder, Shape};
 use std::alloc::{AllocError, Global};
+
+// Writes the bytes of the means of two rows.
+fn fill_means(shape: Shape, a: &[u8], b: &[u8], out: &mut [u8])
+    requires a { length a.now ≡ length out.old }
+    requires b { length b.now ≡ length out.old }
+    requires whole { length out.old % sample_bytes shape ≡ 0 }
+    ensures { out.new ≡ bytes_of_row shape (zip2 mean (row_of_bytes shape a.now) (row_of_bytes shape b.now)) }
+{
+    if shape.bits == 8 {
+        merge_row(a, b, out);
+    } else {
+        merge_wide_row(a, b, out);
+    }
+}
 
 /// The mean of two pictures of one shape, sample by sample. An `Err` is out of memory.
 pub fn merge(alloc: Global, a: &Frame, b: &Frame) -> Result<Frame, AllocError>
@@ -20,7 +37,7 @@ pub fn merge(alloc: Global, a: &Frame, b: &Frame) -> Result<Frame, AllocError>
         let mut buffer = vec![in alloc; 0u8; shape.row_bytes(plane) as usize]?;
         let row = buffer.as_mut_slice();
         for y in 0..shape.plane_height(plane) {
-            merge_row(a.row(plane, y), b.row(plane, y), row);
+            fill_means(shape, a.row(plane, y), b.row(plane, y), row);
             made.put_row(plane, y, row);
         }
     }

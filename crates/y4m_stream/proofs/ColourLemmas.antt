@@ -161,31 +161,31 @@ reads_8 tag YV24 = named YV24 8 tag refl (λ is. let e : YV24 ≡ YV12 = is.0 in
 reads_8 tag YV411 = named YV411 8 tag refl (λ is. let e : YV411 ≡ YV12 = is.0 in let no : ⊥ = cc in no)
 
 reads_10 : (tag : Tag) (kind : PixelType) → has_depth kind 10 ≡ true → Reads tag kind 10
-reads_10 tag Y8 is = (let no : ⊥ = cc in absurd no)
-reads_10 tag YV12 is = (let no : ⊥ = cc in absurd no)
-reads_10 tag YV16 is = (let no : ⊥ = cc in absurd no)
-reads_10 tag YV24 is = (let no : ⊥ = cc in absurd no)
+reads_10 tag Y8 is = named Y8 10 tag refl (λ both. let e : Y8 ≡ YV12 = both.0 in let no : ⊥ = cc in no)
+reads_10 tag YV12 is = named YV12 10 tag refl (λ both. let no : ⊥ = omega (arith, both.1) in no)
+reads_10 tag YV16 is = named YV16 10 tag refl (λ both. let e : YV16 ≡ YV12 = both.0 in let no : ⊥ = cc in no)
+reads_10 tag YV24 is = named YV24 10 tag refl (λ both. let e : YV24 ≡ YV12 = both.0 in let no : ⊥ = cc in no)
 reads_10 tag YV411 is = (let no : ⊥ = cc in absurd no)
 
 reads_12 : (tag : Tag) (kind : PixelType) → has_depth kind 12 ≡ true → Reads tag kind 12
-reads_12 tag Y8 is = (let no : ⊥ = cc in absurd no)
-reads_12 tag YV12 is = (let no : ⊥ = cc in absurd no)
-reads_12 tag YV16 is = (let no : ⊥ = cc in absurd no)
-reads_12 tag YV24 is = (let no : ⊥ = cc in absurd no)
+reads_12 tag Y8 is = named Y8 12 tag refl (λ both. let e : Y8 ≡ YV12 = both.0 in let no : ⊥ = cc in no)
+reads_12 tag YV12 is = named YV12 12 tag refl (λ both. let no : ⊥ = omega (arith, both.1) in no)
+reads_12 tag YV16 is = named YV16 12 tag refl (λ both. let e : YV16 ≡ YV12 = both.0 in let no : ⊥ = cc in no)
+reads_12 tag YV24 is = named YV24 12 tag refl (λ both. let e : YV24 ≡ YV12 = both.0 in let no : ⊥ = cc in no)
 reads_12 tag YV411 is = (let no : ⊥ = cc in absurd no)
 
 reads_14 : (tag : Tag) (kind : PixelType) → has_depth kind 14 ≡ true → Reads tag kind 14
-reads_14 tag Y8 is = (let no : ⊥ = cc in absurd no)
-reads_14 tag YV12 is = (let no : ⊥ = cc in absurd no)
-reads_14 tag YV16 is = (let no : ⊥ = cc in absurd no)
-reads_14 tag YV24 is = (let no : ⊥ = cc in absurd no)
+reads_14 tag Y8 is = named Y8 14 tag refl (λ both. let e : Y8 ≡ YV12 = both.0 in let no : ⊥ = cc in no)
+reads_14 tag YV12 is = named YV12 14 tag refl (λ both. let no : ⊥ = omega (arith, both.1) in no)
+reads_14 tag YV16 is = named YV16 14 tag refl (λ both. let e : YV16 ≡ YV12 = both.0 in let no : ⊥ = cc in no)
+reads_14 tag YV24 is = named YV24 14 tag refl (λ both. let e : YV24 ≡ YV12 = both.0 in let no : ⊥ = cc in no)
 reads_14 tag YV411 is = (let no : ⊥ = cc in absurd no)
 
 reads_16 : (tag : Tag) (kind : PixelType) → has_depth kind 16 ≡ true → Reads tag kind 16
-reads_16 tag Y8 is = (let no : ⊥ = cc in absurd no)
-reads_16 tag YV12 is = (let no : ⊥ = cc in absurd no)
-reads_16 tag YV16 is = (let no : ⊥ = cc in absurd no)
-reads_16 tag YV24 is = (let no : ⊥ = cc in absurd no)
+reads_16 tag Y8 is = named Y8 16 tag refl (λ both. let e : Y8 ≡ YV12 = both.0 in let no : ⊥ = cc in no)
+reads_16 tag YV12 is = named YV12 16 tag refl (λ both. let no : ⊥ = omega (arith, both.1) in no)
+reads_16 tag YV16 is = named YV16 16 tag refl (λ both. let e : YV16 ≡ YV12 = both.0 in let no : ⊥ = cc in no)
+reads_16 tag YV24 is = named YV24 16 tag refl (λ both. let e : YV24 ≡ YV12 = both.0 in let no : ⊥ = cc in no)
 reads_16 tag YV411 is = (let no : ⊥ = cc in absurd no)
 
 pub colour_read : (format : Format) (tag : Tag) → has_depth format.kind format.bits ≡ true → OwnName format.kind format.bits tag → colourspace_named (colourspace_name format tag) ≡ Some (format, tag)

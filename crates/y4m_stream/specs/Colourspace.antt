@@ -43,11 +43,21 @@ Colourspace = Format × Tag
 abbrev pub narrow : PixelType → Format
 narrow kind = record { kind = kind; bits = 8 }
 
+-- and of more
+abbrev pub deep : PixelType → ℕ → Format
+deep kind bits = record { kind = kind; bits = bits }
+
+-- each format of as many bits; 4:1:1 has no more than eight
+abbrev pub deep_colourspaces : ℕ → List Colourspace
+deep_colourspaces bits =
+    (deep YV12 bits, Jpeg) ∷ (deep YV16 bits, Jpeg) ∷ (deep YV24 bits, Jpeg) ∷ (deep Y8 bits, Jpeg) ∷ []
+
 -- all that have a name of their own
 abbrev pub colourspaces : List Colourspace
 colourspaces =
     (narrow YV12, Jpeg) ∷ (narrow YV12, Mpeg2) ∷ (narrow YV12, Paldv) ∷ (narrow YV12, Plain) ∷ (narrow YV16, Jpeg)
-    ∷ (narrow YV24, Jpeg) ∷ (narrow YV411, Jpeg) ∷ (narrow Y8, Jpeg) ∷ []
+    ∷ (narrow YV24, Jpeg) ∷ (narrow YV411, Jpeg) ∷ (narrow Y8, Jpeg)
+    ∷ (deep_colourspaces 10 ++ deep_colourspaces 12 ++ deep_colourspaces 14 ++ deep_colourspaces 16)
 
 abbrev pub has_name : List ℕ → Colourspace → Bool
 has_name name (format, tag) = bytes_eq name (colourspace_name format tag)

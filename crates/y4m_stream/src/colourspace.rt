@@ -7,7 +7,7 @@ ghost use Rattle.y4m_stream.specs.Colourspace.{narrow_name, deep_name, colourspa
 use fv_plane::{Format, PixelType, Tag};
 
 /// All formats, and places of their chroma samples, that have a name of their own.
-const COLOURSPACES: [(Format, Tag); 8] = [
+const COLOURSPACES: [(Format, Tag); 24] = [
     (
         Format {
             kind: PixelType::YV12,
@@ -61,6 +61,118 @@ const COLOURSPACES: [(Format, Tag); 8] = [
         Format {
             kind: PixelType::Y8,
             bits: 8,
+        },
+        Tag::Jpeg,
+    ),
+    (
+        Format {
+            kind: PixelType::YV12,
+            bits: 10,
+        },
+        Tag::Jpeg,
+    ),
+    (
+        Format {
+            kind: PixelType::YV16,
+            bits: 10,
+        },
+        Tag::Jpeg,
+    ),
+    (
+        Format {
+            kind: PixelType::YV24,
+            bits: 10,
+        },
+        Tag::Jpeg,
+    ),
+    (
+        Format {
+            kind: PixelType::Y8,
+            bits: 10,
+        },
+        Tag::Jpeg,
+    ),
+    (
+        Format {
+            kind: PixelType::YV12,
+            bits: 12,
+        },
+        Tag::Jpeg,
+    ),
+    (
+        Format {
+            kind: PixelType::YV16,
+            bits: 12,
+        },
+        Tag::Jpeg,
+    ),
+    (
+        Format {
+            kind: PixelType::YV24,
+            bits: 12,
+        },
+        Tag::Jpeg,
+    ),
+    (
+        Format {
+            kind: PixelType::Y8,
+            bits: 12,
+        },
+        Tag::Jpeg,
+    ),
+    (
+        Format {
+            kind: PixelType::YV12,
+            bits: 14,
+        },
+        Tag::Jpeg,
+    ),
+    (
+        Format {
+            kind: PixelType::YV16,
+            bits: 14,
+        },
+        Tag::Jpeg,
+    ),
+    (
+        Format {
+            kind: PixelType::YV24,
+            bits: 14,
+        },
+        Tag::Jpeg,
+    ),
+    (
+        Format {
+            kind: PixelType::Y8,
+            bits: 14,
+        },
+        Tag::Jpeg,
+    ),
+    (
+        Format {
+            kind: PixelType::YV12,
+            bits: 16,
+        },
+        Tag::Jpeg,
+    ),
+    (
+        Format {
+            kind: PixelType::YV16,
+            bits: 16,
+        },
+        Tag::Jpeg,
+    ),
+    (
+        Format {
+            kind: PixelType::YV24,
+            bits: 16,
+        },
+        Tag::Jpeg,
+    ),
+    (
+        Format {
+            kind: PixelType::Y8,
+            bits: 16,
         },
         Tag::Jpeg,
     ),

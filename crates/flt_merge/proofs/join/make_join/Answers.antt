@@ -4,7 +4,7 @@ use Rattle.clip_term.specs.declared.op.JoinOp.{JoinOp}
 use Rattle.clip_term.specs.declared.op.JoinOp.TheVariants as op
 use Rattle.clip_term.proofs.PassedLemmas.{same_number}
 use Rattle.flt_merge.specs.Joined.{join_picture, CanJoin}
-use Rattle.flt_merge.proofs.JoinLemmas.{two_are, three_are, luma_agree, merge_luma_is, chroma_fits, have_width, have_height}
+use Rattle.flt_merge.proofs.JoinLemmas.{two_are, three_are, luma_agree, chroma_agree, means_agree, merge_luma_is, chroma_fits, have_width, have_height}
 use Rattle.flt_merge.proofs.join.make_join.Goals as goal
 use Rattle.flt_merge.proofs.join.make_join.Goals.{After-index-inputs-2}
 
@@ -13,6 +13,33 @@ stack_horizontal-requires-clause-alike c = have_height c.args.inputs.now (subst 
 
 pub stack_vertical-requires-clause-alike : goal.stack_vertical-requires-clause-alike
 stack_vertical-requires-clause-alike c = have_width c.args.inputs.now (subst (λ (o : JoinOp). CanJoin o c.args.inputs.now) c.in-StackVertical.is c.requires)
+
+pub merge-requires : goal.merge-requires
+merge-requires c =
+    let inputs : List Picture = c.args.inputs.now in
+    let a : Picture = c.index-inputs-0.result in
+    let b : Picture = c.index-inputs-1.result in
+    let can : CanJoin op.Merge inputs = subst (λ (o : JoinOp). CanJoin o inputs) c.in-Merge.is c.requires in
+    let two = two_are inputs a b (same_number (length inputs) 2 can.inputs) c.index-inputs-0.is c.index-inputs-1.is in
+    means_agree a b (subst (λ (l : List Picture). CanJoin op.Merge l) two can)
+
+pub luma_and_chroma-requires : goal.luma_and_chroma-requires
+luma_and_chroma-requires c =
+    let inputs : List Picture = c.args.inputs.now in
+    let a : Picture = c.index-inputs-0-in-MergeLuma.result in
+    let b : Picture = c.index-inputs-1-in-MergeLuma.result in
+    let can : CanJoin op.MergeLuma inputs = subst (λ (o : JoinOp). CanJoin o inputs) c.in-MergeLuma.is c.requires in
+    let two = two_are inputs a b (same_number (length inputs) 2 can.inputs) c.index-inputs-0-in-MergeLuma.is c.index-inputs-1-in-MergeLuma.is in
+    sym (luma_agree a b (subst (λ (l : List Picture). CanJoin op.MergeLuma l) two can))
+
+pub luma_and_chroma-requires-in-MergeChroma : goal.luma_and_chroma-requires-in-MergeChroma
+luma_and_chroma-requires-in-MergeChroma c =
+    let inputs : List Picture = c.args.inputs.now in
+    let a : Picture = c.index-inputs-0-in-MergeChroma.result in
+    let b : Picture = c.index-inputs-1-in-MergeChroma.result in
+    let can : CanJoin op.MergeChroma inputs = subst (λ (o : JoinOp). CanJoin o inputs) c.in-MergeChroma.is c.requires in
+    let two = two_are inputs a b (same_number (length inputs) 2 can.inputs) c.index-inputs-0-in-MergeChroma.is c.index-inputs-1-in-MergeChroma.is in
+    chroma_agree a b (subst (λ (l : List Picture). CanJoin op.MergeChroma l) two can)
 
 -- the pictures that YToUV joins
 three : (c : After-index-inputs-2) → c.args.inputs.now ≡ c.index-inputs-0-in-YToUV.result ∷ c.index-inputs-1-in-YToUV.result ∷ c.index-inputs-2.result ∷ []
