@@ -2,13 +2,15 @@
 """Renders every filter over pictures at random in each format, and compares each stream with a second reading of the rules.
 
 The rules are written here a second time, in plain Python, sample by sample. Sizes are odd in the chroma planes, down to one
-column and one row. Each refusal of a filter is asked for too, and its line is compared.
+column and one row. Samples have 8 bits, and in a second pass 10 to 16. Each refusal of a filter is asked for too, and its line
+is compared.
 
 The program is built first, unless the environment names one as AVSSERVE.
 """
 
 import os
 import random
+import struct
 import subprocess
 import sys
 import tempfile
@@ -16,7 +18,7 @@ from fractions import Fraction
 
 ROOT = os.path.dirname(os.path.dirname(os.path.abspath(__file__)))
 PROGRAM = os.environ.get("AVSSERVE", os.path.join(ROOT, "bin", "avsserve"))
-# name in scripts: name in streams, subsampling across and down (none: luma alone)
+# name in scripts: name in streams, subsampling across and down (none: luma alone). Above 8 bits the bits follow a `p`, or `mono`.
 FORMATS = {
     "Y8": ("mono", None),
     "YV12": ("420jpeg", (2, 2)),
@@ -33,17 +35,25 @@ SIZES = {
 }
 # Wider than the blocks in which samples are moved, and no multiple of them.
 BLOCKS = [("Y8", 131, 70), ("Y8", 16, 33), ("Y8", 80, 16), ("YV12", 160, 98), ("YV16", 96, 40), ("YV24", 65, 17), ("YV411", 128, 20)]
+# Formats and sizes of more than 8 bits, as many as go through each filter in a few seconds.
+DEEP = [("Y8", 10, 7, 5), ("YV12", 10, 6, 4), ("YV16", 12, 6, 3), ("YV24", 14, 5, 3), ("Y8", 16, 5, 3), ("YV12", 16, 2, 6)]
+DEEP_BLOCKS = [("Y8", 10, 131, 70), ("YV12", 12, 160, 98), ("YV24", 16, 65, 17)]
 BLACK = 0x108080
+
+
+def row_bytes(row, bits):
+    """A byte a sample, or two, the low one first."""
+    return bytes(row) if bits == 8 else struct.pack(f"<{len(row)}H", *row)
 
 
 class Clip:
     """Frames are lists of planes, planes are lists of rows, rows are lists of samples."""
 
-    def __init__(self, kind, width, height, frames, rate=Fraction(25)):
-        self.kind, self.width, self.height, self.frames, self.rate = kind, width, height, frames, rate
+    def __init__(self, kind, width, height, frames, rate=Fraction(25), bits=8):
+        self.kind, self.width, self.height, self.frames, self.rate, self.bits = kind, width, height, frames, rate, bits
 
     def also(self, **changes):
-        made = Clip(self.kind, self.width, self.height, self.frames, self.rate)
+        made = Clip(self.kind, self.width, self.height, self.frames, self.rate, self.bits)
         made.__dict__.update(changes)
         return made
 
@@ -57,12 +67,24 @@ class Clip:
     def at(self, n):
         return self.frames[min(n, len(self.frames) - 1)]
 
+    @property
+    def scale(self):
+        """What a value of 8 bits is multiplied by."""
+        return 1 << self.bits - 8
+
+    @property
+    def largest(self):
+        return (1 << self.bits) - 1
+
     def stream(self):
-        head = f"YUV4MPEG2 W{self.width} H{self.height} F{self.rate.numerator}:{self.rate.denominator} Ip A1:1 C{FORMATS[self.kind][0]}\n"
+        name = FORMATS[self.kind][0]
+        if self.bits > 8:
+            name = f"mono{self.bits}" if self.kind == "Y8" else f"{name[:3]}p{self.bits}"
+        head = f"YUV4MPEG2 W{self.width} H{self.height} F{self.rate.numerator}:{self.rate.denominator} Ip A1:1 C{name}\n"
         parts = [head.encode()]
         for frame in self.frames:
             parts.append(b"FRAME\n")
-            parts += [bytes(row) for plane in frame for row in plane]
+            parts += [row_bytes(row, self.bits) for plane in frame for row in plane]
         return b"".join(parts)
 
 
@@ -72,16 +94,16 @@ def planes_of(kind, width, height):
     return [(width, height)] + ([(width // chroma[0], height // chroma[1])] * 2 if chroma else [])
 
 
-def at_random(dice, kind, width, height, count):
+def at_random(dice, kind, width, height, count, bits=8):
     frames = [
-        [[[dice.randrange(256) for _ in range(w)] for _ in range(h)] for w, h in planes_of(kind, width, height)]
+        [[[dice.randrange(1 << bits) for _ in range(w)] for _ in range(h)] for w, h in planes_of(kind, width, height)]
         for _ in range(count)
     ]
-    return Clip(kind, width, height, frames)
+    return Clip(kind, width, height, frames, bits=bits)
 
 
-def parts(colour):
-    return [colour >> 16 & 255, colour >> 8 & 255, colour & 255]
+def parts(clip, colour):
+    return [(colour >> shift & 255) * clip.scale for shift in (16, 8, 0)]
 
 
 def steps(clip, p):
@@ -105,7 +127,7 @@ def bordered(clip, left, top, right, bottom, colour):
         made = []
         for p, plane in enumerate(frame):
             a, d = steps(clip, p)
-            c = parts(colour)[p]
+            c = parts(clip, colour)[p]
             wide = (left + clip.width + right) // a
             made.append(
                 [[c] * wide] * (top // d)
@@ -135,16 +157,19 @@ def turned_right(plane):
     return [[plane[y][x] for y in reversed(range(len(plane)))] for x in range(len(plane[0]))]
 
 
-def limited(low, high, chroma_low, chroma_high):
+def limited(clip, low, high, chroma_low, chroma_high):
     def change(p, plane):
         a, b = (low, high) if p == 0 else (chroma_low, chroma_high)
-        return [[min(max(x, a), b) for x in row] for row in plane]
+        return [[min(max(x, a * clip.scale), b * clip.scale) for x in row] for row in plane]
 
-    return each(change)
+    return clip.of(each(change))
 
 
-def inverted(letters):
-    return each(lambda p, plane: [[255 - x for x in row] for row in plane] if "YUV"[p] in letters else plane)
+def inverted(clip, letters):
+    def change(p, plane):
+        return [[clip.largest - x for x in row] for row in plane] if "YUV"[p] in letters else plane
+
+    return clip.of(each(change))
 
 
 def every(clip, step, offsets):
@@ -197,7 +222,7 @@ def softened(clip, radius, luma, chroma):
         near = [clip.at(max(n + k, 0)) for k in range(-radius, radius + 1)]
         made = []
         for p, plane in enumerate(clip.frames[n]):
-            most = luma if p == 0 else chroma
+            most = (luma if p == 0 else chroma) * clip.scale
 
             def mean(x, y, p=p, most=most):
                 middle = clip.frames[n][p][y][x]
@@ -226,7 +251,7 @@ def convolved(clip, bias, matrix):
             quotient = abs(total) // abs(divisor)
             if (total < 0) != (divisor < 0):
                 quotient = -quotient
-            return min(max(quotient + bias, 0), 255)
+            return min(max(quotient + bias * clip.scale, 0), clip.largest)
 
         return [[sample(x, y) for x in range(w)] for y in range(h)]
 
@@ -263,8 +288,8 @@ def soft_rows(dice, c):
 
 def range_rows(c, d):
     yield 'c.ApplyRange(1, 2, "FlipVertical")', ranged(c, c.of(each(lambda p, plane: plane[::-1])), 1, 2)
-    yield 'c.ApplyRange(0, 4, "Invert", "Y")', c.of(inverted("Y"))
-    yield 'c.ApplyRange(3, 3, "Limiter", 100, 120)', ranged(c, c.of(limited(100, 120, 16, 240)), 3, 3)
+    yield 'c.ApplyRange(0, 4, "Invert", "Y")', inverted(c, "Y")
+    yield 'c.ApplyRange(3, 3, "Limiter", 100, 120)', ranged(c, limited(c, 100, 120, 16, 240), 3, 3)
     yield 'c.ApplyRange(2, 4, "Trim", 0, -3)', ranged(c, c.shown([0, 1, 2]), 2, 4)
     turned = ranged(c, c.of(each(lambda p, plane: [row[::-1] for row in plane])), 1, 1)
     yield 'c.ApplyRange(0, 2, "ApplyRange", 1, 1, "FlipHorizontal")', ranged(c, turned, 0, 2)
@@ -321,18 +346,19 @@ def space_rows(c):
     if kind not in ("YV16", "YV411"):
         yield "c.TurnLeft", c.of(each(lambda p, plane: turned_left(plane)), width=h, height=w)
         yield "c.TurnRight", c.of(each(lambda p, plane: turned_right(plane)), width=h, height=w)
-    grey = c.of(each(lambda p, plane: plane if p == 0 else [[128] * len(row) for row in plane]))
+    grey = c.of(each(lambda p, plane: plane if p == 0 else [[128 * c.scale] * len(row) for row in plane]))
     yield "c.Greyscale", grey
     yield "c.Grayscale", grey
-    yield "c.Invert", c.of(inverted("YUV"))
-    yield 'c.Invert("uu")', c.of(inverted("U"))
-    yield 'c.Invert(channels="vY")', c.of(inverted("YV"))
+    yield "c.Invert", inverted(c, "YUV")
+    yield 'c.Invert("uu")', inverted(c, "U")
+    yield 'c.Invert(channels="vY")', inverted(c, "YV")
     yield 'c.Invert("")', c
-    yield "c.Limiter", c.of(limited(16, 235, 16, 240))
-    yield "c.Limiter(100, 120, max_chroma=200)", c.of(limited(100, 120, 16, 200))
+    yield "c.Limiter", limited(c, 16, 235, 16, 240)
+    yield "c.Limiter(100, 120, max_chroma=200)", limited(c, 100, 120, 16, 200)
     yield "c.SwapUV", c.of(lambda frame: frame[:1] + frame[1:][::-1])
-    yield "c.ConvertToY8", c.of(lambda frame: frame[:1], kind="Y8")
-    if kind != "Y8":
+    if c.bits == 8:
+        yield "c.ConvertToY8", c.of(lambda frame: frame[:1], kind="Y8")
+    if kind != "Y8" and c.bits == 8:
         small = dict(kind="Y8", width=w // a, height=h // d)
         yield "c.UToY8", c.of(lambda frame: frame[1:2], **small)
         yield "c.VToY8", c.of(lambda frame: frame[2:], **small)
@@ -351,15 +377,16 @@ def join_rows(c, d):
 
 def plane_rows(dice):
     """YToUV, with each format that it gives."""
-    for kind in ("YV24", "YV16", "YV12", "YV411"):
+    for kind, bits in (("YV24", 8), ("YV16", 8), ("YV12", 8), ("YV411", 8), ("YV24", 10), ("YV16", 16), ("YV12", 12)):
         a, d = FORMATS[kind][1]
-        u, v = at_random(dice, "Y8", 3, 2, 2), at_random(dice, "Y8", 3, 2, 3)
-        y = at_random(dice, "Y8", 3 * a, 2 * d, 4)
+        u, v = at_random(dice, "Y8", 3, 2, 2, bits), at_random(dice, "Y8", 3, 2, 3, bits)
+        y = at_random(dice, "Y8", 3 * a, 2 * d, 4, bits)
         frames = [[y.at(n)[0], u.at(n)[0], v.at(n)[0]] for n in range(2)]
-        yield (u, v, y), Clip(kind, 3 * a, 2 * d, frames)
+        yield (u, v, y), Clip(kind, 3 * a, 2 * d, frames, bits=bits)
 
 
-# Calls on c, of 6x4 and five frames in YV12, d, of the same in YV24, e, of 8x4 in YV12, and g, of luma alone and one frame.
+# Calls on c, of 6x4 and five frames in YV12, d, of the same in YV24, e, of 8x4 in YV12, and g, of luma alone and one frame; h is
+# as c and i as g, of 10 bits.
 REFUSALS = [
     ("c.Trim(5, 0)", "BadRange"),
     ("c.Trim(-1, 0)", "BadRange"),
@@ -449,6 +476,28 @@ REFUSALS = [
     ('c.ApplyRange(0, 9, "Nothing")', "UnknownName"),
     ('c.ApplyRange(0, 9, "Trim")', "NoMatch"),
     ("c.ApplyRange(0, 9)", "NoMatch"),
+    ("h.ConvertToY8", "DepthRefused"),
+    ("h.UToY8", "DepthRefused"),
+    ("h.VToY8", "DepthRefused"),
+    ("i.ConvertToY8", "DepthRefused"),
+    ("i.UToY8", "NeedsChroma"),
+    ("YToUV(i, i, h.Crop(0, 0, 4, 2))", "SizeDiffers"),
+    ("YToUV(i, i, StackHorizontal(i, i, i, i))", "DepthRefused"),
+    ("YToUV(g, g, i)", "FormatDiffers"),
+    ("YToUV(g, i, c)", "FormatDiffers"),
+    ("Interleave(c, h)", "FormatDiffers"),
+    ("c + h", "FormatDiffers"),
+    ("Merge(c, h)", "FormatDiffers"),
+    ("MergeLuma(h, c)", "FormatDiffers"),
+    ("StackVertical(c, h)", "FormatDiffers"),
+    ("StackHorizontal(h, e)", "FormatDiffers"),
+    ('h.ApplyRange(0, 1, "ConvertToY8")', "DepthRefused"),
+    ("h.Limiter(0, 256)", "BadRange"),
+    ("h.AddBorders(0, 0, 0, 0, $1000000)", "BadRange"),
+    ("h.TemporalSoften(1, 256, 0)", "BadRange"),
+    ('BlankClip(pixel_type="YUV411P10")', "BadText"),
+    ('BlankClip(pixel_type="YUV420P9")', "BadText"),
+    ('BlankClip(width=2900, height=2900, pixel_type="YUV444P16")', "TooLarge"),
     ("c.TemporalSoften(8, 0, 0)", "BadRange"),
     ("c.TemporalSoften(-1, 0, 0)", "BadRange"),
     ("c.TemporalSoften(1, 256, 0)", "BadRange"),
@@ -521,15 +570,29 @@ def main():
             for call, want in space_rows(c):
                 done = run(folder, f"{before}{call}\n")
                 report.compare(f"{kind} {width}x{height} {call}", done, 0, want.stream(), "")
+        for kind, bits, width, height in DEEP:
+            c, d = at_random(dice, kind, width, height, 5, bits), at_random(dice, kind, width, height, 3, bits)
+            before = put(folder, c=c, d=d)
+            rows = [*time_rows(c, d), *space_rows(c), *join_rows(c, d), *soft_rows(dice, c), *range_rows(c, d)]
+            for call, want in rows:
+                done = run(folder, f"{before}{call}\n")
+                report.compare(f"{kind} of {bits} bits {width}x{height} {call}", done, 0, want.stream(), "")
+        for kind, bits, width, height in DEEP_BLOCKS:
+            c, d = at_random(dice, kind, width, height, 3, bits), at_random(dice, kind, width, height, 2, bits)
+            before = put(folder, c=c, d=d)
+            for call, want in [*space_rows(c), *join_rows(c, d), *soft_rows(dice, c)]:
+                done = run(folder, f"{before}{call}\n")
+                report.compare(f"{kind} of {bits} bits {width}x{height} {call}", done, 0, want.stream(), "")
         for (u, v, y), want in plane_rows(dice):
             done = run(folder, put(folder, u=u, v=v, y=y) + "YToUV(u, v, y)\n")
             report.compare(f"YToUV to {want.kind}", done, 0, want.stream(), "")
         c, d = at_random(dice, "YV12", 6, 4, 5), at_random(dice, "YV24", 6, 4, 5)
         e, f = at_random(dice, "YV12", 8, 4, 5), at_random(dice, "YV16", 2, 2, 1)
-        before = put(folder, c=c, d=d, e=e, f=f, g=at_random(dice, "Y8", 1, 1, 1))
+        g, h, i = at_random(dice, "Y8", 1, 1, 1), at_random(dice, "YV12", 6, 4, 5, 10), at_random(dice, "Y8", 1, 1, 1, 10)
+        before = put(folder, c=c, d=d, e=e, f=f, g=g, h=h, i=i)
         for call, kind in REFUSALS:
             done = run(folder, f"{before}{call}\n")
-            report.compare(call, done, 2, b"", f"script fault: s.avs line 6: {kind}")
+            report.compare(call, done, 2, b"", f"script fault: s.avs line 8: {kind}")
     print(f"filters: {report.runs} runs, {report.wrong} wrong")
     return 1 if report.wrong else 0
 

@@ -25,6 +25,7 @@ manual.
 import os
 import re
 import shutil
+import struct
 import subprocess
 import sys
 import tempfile
@@ -166,10 +167,13 @@ def pictures(stream):
     """The planes of each frame of a stream."""
     head, left = stream.split(b"\n", 1)
     planes = planes_of(head)
-    size = sum(w * h for w, h in planes)
+    wide = re.search(rb" C(?:mono|\d+p)1\d\b", head)
+    size = sum(w * h for w, h in planes) * (2 if wide else 1)
     frames = []
     for at in range(6, len(left), 6 + size):
         frame, made = left[at : at + size], []
+        if wide:
+            frame = struct.unpack(f"<{size // 2}H", frame)
         for w, h in planes:
             made.append([frame[y * w : y * w + w] for y in range(h)])
             frame = frame[w * h :]
@@ -337,8 +341,7 @@ def names_in(paths):
     return made
 
 
-# DepthRefused can't come while all samples have eight bits.
-errors = (names_in(FAULTS) | {"NotThere", "Changed"}) - {"DepthRefused"}
+errors = names_in(FAULTS) | {"NotThere", "Changed"}
 told = set()
 
 

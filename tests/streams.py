@@ -5,6 +5,8 @@ The program is built first, unless the environment names one as AVSSERVE.
 """
 
 import os
+import re
+import struct
 import subprocess
 import sys
 import tempfile
@@ -40,6 +42,12 @@ HEADS = [
     (" W3 H1 Cmono Q! w5", "W3 H1 F25:1 I? A0:0 Cmono"),
     (" W65535 H256 Cmono", "W65535 H256 F25:1 I? A0:0 Cmono"),
 ]
+# A sample of more than 8 bits has two bytes, and its format one name.
+HEADS += [
+    (f" W4 H2 C{name}{bits}", f"W4 H2 F25:1 I? A0:0 C{name}{bits}")
+    for bits in (10, 12, 14, 16)
+    for name in ("420p", "422p", "444p", "mono")
+]
 # Luma and one plane of chroma: columns and rows of luma for a sample of chroma, or none.
 CHROMA = {"420": (2, 2), "422": (2, 1), "444": (1, 1), "411": (4, 1), "mono": None}
 
@@ -65,6 +73,13 @@ FAULTS = [
     (" W2 H2 C", "UnknownColour"),
     (" W2 H2 C410", "UnknownColour"),
     (" W0 H2 C420JPEG", "UnknownColour"),
+    (" W2 H2 C420p8", "UnknownColour"),
+    (" W2 H2 C420p9", "UnknownColour"),
+    (" W2 H2 C420P10", "UnknownColour"),
+    (" W4 H2 C411p10", "UnknownColour"),
+    (" W2 H2 C444p010", "UnknownColour"),
+    (" W3 H2 C420p10", "BadSize"),
+    (" W65535 H129 Cmono16", "TooLarge"),
     (" W0 H2", "BadSize"),
     (" W65536 H2", "BadSize"),
     (" W3 H2 C420jpeg", "BadSize"),
@@ -93,13 +108,34 @@ BODIES = [
 SMALL = b"YUV4MPEG2 W2 H2 F25:1 I? A0:0 C420jpeg\n"
 
 
-def frame_bytes(written):
-    """The bytes of a frame of a written head."""
+def bits_of(written):
+    """The bits of a sample of a written head."""
+    return int(re.search(r"(?:p|mono)(\d+)$|$", written)[1] or 8)
+
+
+def frame_samples(written):
+    """The samples of a frame of a written head."""
     words = written.split()
     width, height = int(words[0][1:]), int(words[1][1:])
     colour = words[5][1:]
-    chroma = CHROMA[colour if colour == "mono" else colour[:3]]
+    chroma = CHROMA["mono" if colour.startswith("mono") else colour[:3]]
     return width * height + (2 * (width // chroma[0]) * (height // chroma[1]) if chroma else 0)
+
+
+def frame_given(written):
+    """The bytes of a frame for a written head. Samples of two bytes are from 0 to the largest of 16 bits."""
+    count = frame_samples(written)
+    if bits_of(written) == 8:
+        return bytes(n % 251 for n in range(count))
+    return struct.pack(f"<{count}H", *(n * 65535 // (count - 1) for n in range(count)))
+
+
+def frame_written(written):
+    """The bytes that are written for them: a sample over the largest one is the largest."""
+    given, bits = frame_given(written), bits_of(written)
+    if bits == 8:
+        return given
+    return b"".join(struct.pack("<H", min(sample, (1 << bits) - 1)) for (sample,) in struct.iter_unpack("<H", given))
 
 
 def prefixes():
@@ -120,8 +156,8 @@ def prefixes():
 def rows():
     """A name, the bytes of a file, and the stream that is written or the fault."""
     for given, written in HEADS:
-        frame = b"FRAME\n" + bytes(n % 251 for n in range(frame_bytes(written)))
-        yield given, b"YUV4MPEG2" + given.encode() + b"\n" + frame, b"YUV4MPEG2 " + written.encode() + b"\n" + frame
+        data = b"YUV4MPEG2" + given.encode() + b"\nFRAME\n" + frame_given(written)
+        yield given, data, b"YUV4MPEG2 " + written.encode() + b"\nFRAME\n" + frame_written(written)
     for given, fault in FAULTS:
         yield given, b"YUV4MPEG2" + given.encode() + b"\n", fault
     for body, want in BODIES:
