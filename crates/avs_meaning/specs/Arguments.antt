@@ -145,6 +145,7 @@ module _ (values : List Value) where
   read_space f.UToY8 = Ok (space s.UToY8)
   read_space f.VToY8 = Ok (space s.VToY8)
   read_space f.ConvertToY8 = Ok (space s.ConvertToY8)
+  read_space f.ConvertBits = Ok (space (s.ConvertBits (number 1)))
   read_space filter = read_soft filter
 
   -- by the numbers after the others, and how many frames the first clip has

@@ -26,3 +26,4 @@ clip_value c.IsYV16 info = has_format YV16 info
 clip_value c.IsYV24 info = has_format YV24 info
 clip_value c.IsYV411 info = has_format YV411 info
 clip_value c.PixelType info = Ok (v.Text (format_name info.shape))
+clip_value c.BitsPerComponent info = number (pos info.shape.bits)

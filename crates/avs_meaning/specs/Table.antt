@@ -29,6 +29,7 @@ clip_fn_name c.IsYV16 = codes "IsYV16"
 clip_fn_name c.IsYV24 = codes "IsYV24"
 clip_fn_name c.IsYV411 = codes "IsYV411"
 clip_fn_name c.PixelType = codes "PixelType"
+clip_fn_name c.BitsPerComponent = codes "BitsPerComponent"
 
 -- how a function is called in scripts
 abbrev pub name_of : Builtin → Text
@@ -73,7 +74,7 @@ other_functions =
 abbrev pub clip_functions : List ClipFn
 clip_functions =
     c.Width ∷ c.Height ∷ c.FrameCount ∷ c.FrameRateNumerator ∷ c.FrameRateDenominator ∷ c.IsY8 ∷ c.IsYV12 ∷ c.IsYV16
-    ∷ c.IsYV24 ∷ c.IsYV411 ∷ c.PixelType ∷ []
+    ∷ c.IsYV24 ∷ c.IsYV411 ∷ c.PixelType ∷ c.BitsPerComponent ∷ []
 
 -- the functions that need more than a clip's info or a filter
 abbrev pub calling_functions : List Builtin

@@ -19,6 +19,7 @@ pub enum ClipFn {
     IsYV24,
     IsYV411,
     PixelType,
+    BitsPerComponent,
 }
 
 impl ClipFn {
@@ -38,6 +39,7 @@ impl ClipFn {
             ClipFn::IsYV24 => "IsYV24",
             ClipFn::IsYV411 => "IsYV411",
             ClipFn::PixelType => "PixelType",
+            ClipFn::BitsPerComponent => "BitsPerComponent",
         }
     }
 }

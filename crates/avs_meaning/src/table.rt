@@ -17,7 +17,7 @@ const CALLING: [Builtin; 4] = [
     Builtin::Prefetch,
 ];
 
-const PLAIN: [Builtin; 45] = [
+const PLAIN: [Builtin; 46] = [
     Builtin::Clip(ClipFn::Width),
     Builtin::Clip(ClipFn::Height),
     Builtin::Clip(ClipFn::FrameCount),
@@ -29,6 +29,7 @@ const PLAIN: [Builtin; 45] = [
     Builtin::Clip(ClipFn::IsYV24),
     Builtin::Clip(ClipFn::IsYV411),
     Builtin::Clip(ClipFn::PixelType),
+    Builtin::Clip(ClipFn::BitsPerComponent),
     Builtin::Plain(PlainFn::Abs),
     Builtin::Plain(PlainFn::Sign),
     Builtin::Plain(PlainFn::Min),

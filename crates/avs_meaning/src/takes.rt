@@ -234,7 +234,7 @@ fn of_filter(alloc: Global, filter: Filter) -> Result<Vec<Signature>, AllocError
             numbered(alloc, 1, &["denominator"])?,
         ),
         Filter::Crop => alone(alloc, crop(alloc)?),
-        Filter::CropBottom => alone(alloc, numbered(alloc, 1, &[])?),
+        Filter::CropBottom | Filter::ConvertBits => alone(alloc, numbered(alloc, 1, &[])?),
         Filter::AddBorders => alone(alloc, numbered(alloc, 4, &["color_yuv"])?),
         Filter::LetterBox => alone(alloc, numbered(alloc, 2, &["x1", "x2", "color_yuv"])?),
         Filter::Invert => alone(alloc, invert(alloc)?),
