@@ -17,10 +17,11 @@ fail() {
     exit 1
 }
 
-# renders SCRIPT WIDTH HEIGHT FRAMES: this script gives so many frames of 4:2:0 of this size, at 25 a second.
+# renders SCRIPT WIDTH HEIGHT FRAMES [FORMAT BYTES]: this script gives so many frames of this size, at 25 a second, in 4:2:0 of
+# 8 bits or in this format of 4:2:0, whose samples have so many bytes each.
 renders() {
-    local script=$1 width=$2 height=$3 frames=$4 status=0
-    local samples=$((width * height * 3 / 2)) head="YUV4MPEG2 W$width H$height F25:1 Ip A1:1 C420jpeg"
+    local script=$1 width=$2 height=$3 frames=$4 format=${5:-420jpeg} bytes=${6:-1} status=0
+    local samples=$((width * height * 3 / 2 * bytes)) head="YUV4MPEG2 W$width H$height F25:1 Ip A1:1 C$format"
     "$program" render "examples/$script" >"$room/out.y4m" 2>"$room/err.txt" || status=$?
     [ "$status" = 0 ] || fail "$script: status $status, $(cat "$room/err.txt")"
     [ ! -s "$room/err.txt" ] || fail "$script: it said $(cat "$room/err.txt")"
@@ -38,6 +39,7 @@ renders() {
 }
 
 renders copy.avs 32 16 3
+renders ten_bits.avs 48 36 24 420p10 2
 renders trim_crop.avs 40 32 16
 renders wide.avs 56 32 24
 renders compare.avs 100 36 24

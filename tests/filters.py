@@ -364,6 +364,24 @@ def space_rows(c):
         yield "c.VToY8", c.of(lambda frame: frame[2:], **small)
 
 
+def converted(clip, bits):
+    def sample(x):
+        if bits >= clip.bits:
+            return x << bits - clip.bits
+        lost = clip.bits - bits
+        return min((x + (1 << lost - 1)) >> lost, (1 << bits) - 1)
+
+    return clip.of(each(lambda p, plane: [[sample(x) for x in row] for row in plane]), bits=bits)
+
+
+def depth_rows(c):
+    for bits in (8, 10, 12, 14, 16) if c.kind != "YV411" else (8,):
+        yield f"c.ConvertBits({bits})", converted(c, bits)
+    if c.kind != "YV411":
+        yield "c.ConvertBits(16).ConvertBits(10)", converted(converted(c, 16), 10)
+        yield "c.ConvertBits(12).Invert.ConvertBits(8)", converted(inverted(converted(c, 12), "YUV"), 8)
+
+
 def join_rows(c, d):
     yield "StackHorizontal(c, d)", stacked(True, c, d)
     yield "StackHorizontal(d, c, d)", stacked(True, d, c, d)
@@ -477,6 +495,16 @@ REFUSALS = [
     ('c.ApplyRange(0, 9, "Trim")', "NoMatch"),
     ("c.ApplyRange(0, 9)", "NoMatch"),
     ("h.ConvertToY8", "DepthRefused"),
+    ("c.ConvertBits", "NoMatch"),
+    ("c.ConvertBits(9)", "BadRange"),
+    ("h.ConvertBits(0)", "BadRange"),
+    ("c.ConvertBits(-8)", "BadRange"),
+    ("c.ConvertBits(18)", "BadRange"),
+    ("c.ConvertBits(4294967304)", "BadRange"),
+    ('BlankClip(pixel_type="YV411").ConvertBits(10)', "DepthRefused"),
+    ('BlankClip(pixel_type="YV411").ConvertBits(11)', "BadRange"),
+    ('BlankClip(width=4096, height=4096, pixel_type="Y8").ConvertBits(10)', "TooLarge"),
+    ('h.ApplyRange(0, 1, "ConvertBits", 8)', "FormatDiffers"),
     ("h.UToY8", "DepthRefused"),
     ("h.VToY8", "DepthRefused"),
     ("i.ConvertToY8", "DepthRefused"),
@@ -560,27 +588,27 @@ def main():
             for width, height in sizes:
                 c, d = at_random(dice, kind, width, height, 5), at_random(dice, kind, width, height, 3)
                 before = put(folder, c=c, d=d)
-                rows = [*time_rows(c, d), *space_rows(c), *join_rows(c, d), *soft_rows(dice, c), *range_rows(c, d)]
+                rows = [*time_rows(c, d), *space_rows(c), *depth_rows(c), *join_rows(c, d), *soft_rows(dice, c), *range_rows(c, d)]
                 for call, want in rows:
                     done = run(folder, f"{before}{call}\n")
                     report.compare(f"{kind} {width}x{height} {call}", done, 0, want.stream(), "")
         for kind, width, height in BLOCKS:
             c = at_random(dice, kind, width, height, 2)
             before = put(folder, c=c)
-            for call, want in space_rows(c):
+            for call, want in [*space_rows(c), *depth_rows(c)]:
                 done = run(folder, f"{before}{call}\n")
                 report.compare(f"{kind} {width}x{height} {call}", done, 0, want.stream(), "")
         for kind, bits, width, height in DEEP:
             c, d = at_random(dice, kind, width, height, 5, bits), at_random(dice, kind, width, height, 3, bits)
             before = put(folder, c=c, d=d)
-            rows = [*time_rows(c, d), *space_rows(c), *join_rows(c, d), *soft_rows(dice, c), *range_rows(c, d)]
+            rows = [*time_rows(c, d), *space_rows(c), *depth_rows(c), *join_rows(c, d), *soft_rows(dice, c), *range_rows(c, d)]
             for call, want in rows:
                 done = run(folder, f"{before}{call}\n")
                 report.compare(f"{kind} of {bits} bits {width}x{height} {call}", done, 0, want.stream(), "")
         for kind, bits, width, height in DEEP_BLOCKS:
             c, d = at_random(dice, kind, width, height, 3, bits), at_random(dice, kind, width, height, 2, bits)
             before = put(folder, c=c, d=d)
-            for call, want in [*space_rows(c), *join_rows(c, d), *soft_rows(dice, c)]:
+            for call, want in [*space_rows(c), *depth_rows(c), *join_rows(c, d), *soft_rows(dice, c)]:
                 done = run(folder, f"{before}{call}\n")
                 report.compare(f"{kind} of {bits} bits {width}x{height} {call}", done, 0, want.stream(), "")
         for (u, v, y), want in plane_rows(dice):

@@ -127,8 +127,21 @@ VALUES = [
     ('IsString("")', "true"),
     ("IsClip(BlankClip)", "true"),
     ("BlankClip(length=7).FrameCount", "7"),
+    ("BlankClip.BitsPerComponent", "8"),
+    ('BlankClip(pixel_type="Y16").BitsPerComponent + 1', "17"),
+    ("BlankClip.ConvertBits(12).BitsPerComponent()", "12"),
+    ("BlankClip.ConvertBits(12).PixelType", "YUV420P12"),
+    ('BlankClip(pixel_type="Y10").IsY8', "false"),
+    ('BlankClip(pixel_type="Y10").ConvertBits(8).IsY8', "true"),
+    ('BlankClip(pixel_type="YUV444P14").IsYV24', "false"),
     ("blankclip(WIDTH=6, height=4).width", "6"),
     ('Eval("1 + 1")', "2"),
+]
+# The name of each format of more than 8 bits, which counts in any case of letters.
+VALUES += [
+    (f'BlankClip(pixel_type="{name.lower()}{bits}").PixelType', f"{name}{bits}")
+    for name in ("Y", "YUV420P", "YUV422P", "YUV444P")
+    for bits in (10, 12, 14, 16)
 ]
 FAULTY_VALUES = [
     (f"{GREATEST} + 1", "Overflow"),
