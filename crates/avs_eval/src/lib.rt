@@ -19,4 +19,7 @@ mod statements;
 mod texts;
 mod walker;
 
+/// What a caller of `eval` names besides.
+pub use avs_meaning::{Crew, FileKind, InputFault, ScriptKind};
+pub use avs_state::{Host, HostFault};
 pub use evaluation::{Opened, eval};

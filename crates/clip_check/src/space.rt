@@ -1,5 +1,5 @@
 // The checks of the group Space.
-ghost use Rattle.std.specs.Prelude.{◌≡◌, ◌-ℤ◌, pos, List, length, IfOk, None, ◌∷◌, [], ◌||◌, ◌==◌, not, false};
+ghost use Rattle.std.specs.Prelude.{◌≡◌, ◌-ℤ◌, pos, List, length, IfOk, None, ◌∷◌, [], ◌||◌, ◌==◌, not};
 ghost use Rattle.fv_plane.specs.declared.format.Info.{Info};
 ghost use Rattle.fv_plane.specs.Info.{IsLawful};
 ghost use Rattle.fv_plane.specs.Format.{has_depth};
@@ -17,7 +17,7 @@ ghost use Rattle.clip_check.specs.Summaries.{TellsAll};
 use crate::limits::{Sides, limits, rate_of, sides_of};
 use crate::shared::{beyond, is_whole};
 use crate::summary::Summary;
-use clip_term::{FilterFault, SpaceOp, no_colour};
+use clip_term::{FilterFault, SpaceOp, depth_of, no_colour, no_depth};
 use fv_plane::{Info, PixelType, Shape};
 
 fn are_whole(shape: Shape, left: u64, top: u64, right: u64, bottom: u64) -> bool
@@ -216,20 +216,6 @@ fn limiter_fault(
     } else {
         None
     }
-}
-
-fn no_depth(bits: i32) -> bool
-    ensures { result ≡ no_depth bits }
-{
-    !matches!(bits, 8 | 10 | 12 | 14 | 16)
-}
-
-// The bits of a sample, which are one of the five numbers.
-fn depth_of(bits: i32) -> u8
-    requires { no_depth bits ≡ false }
-    ensures { result ≡ nat_of bits }
-{
-    bits.unsigned_abs() as u8
 }
 
 fn bits_fault(kind: PixelType, bits: i32) -> Option<FilterFault>

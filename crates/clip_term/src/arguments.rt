@@ -1,10 +1,11 @@
 // What arguments may be, and what they say, where several crates ask it.
-ghost use Rattle.std.specs.Prelude.{◌≡◌, ◌≤ℤ◌, pos};
+ghost use Rattle.std.specs.Prelude.{◌≡◌, ◌≤ℤ◌, pos, false};
 ghost use Rattle.std.specs.List.{list_all, list_any};
 ghost use Rattle.std.specs.Char.{to_ascii_uppercase};
 ghost use Rattle.clip_term.specs.Arguments as a;
 ghost use Rattle.clip_term.specs.Blank as b;
 ghost use Rattle.clip_term.specs.Refusals as r;
+ghost use Rattle.clip_term.specs.Space as s;
 ghost use Rattle.clip_term.specs.Terms.{is_matrix};
 ghost use Rattle.clip_term.specs.Texts as t;
 
@@ -49,6 +50,21 @@ pub fn colour_of(number: i32) -> Colour
         u: part_of(colour, 1),
         v: part_of(colour, 2),
     }
+}
+
+/// Whether a number is not the bits that a sample may have: 8, 10, 12, 14 or 16.
+pub fn no_depth(bits: i32) -> bool
+    ensures { result ≡ s.no_depth bits }
+{
+    !matches!(bits, 8 | 10 | 12 | 14 | 16)
+}
+
+/// The bits of a sample, of a number that is one of these.
+pub fn depth_of(bits: i32) -> u8
+    requires { s.no_depth bits ≡ false }
+    ensures { result ≡ r.nat_of bits }
+{
+    bits.unsigned_abs() as u8
 }
 
 // Whether the size of a number is over this.

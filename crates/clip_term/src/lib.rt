@@ -13,8 +13,8 @@ mod op;
 mod term;
 
 pub use arguments::{
-    BLACK, MAX_BIAS, MAX_WEIGHT, colour_of, is_matrix, is_no_bias, is_weight, no_colour, part_of,
-    read_channels,
+    BLACK, MAX_BIAS, MAX_WEIGHT, colour_of, depth_of, is_matrix, is_no_bias, is_weight, no_colour,
+    no_depth, part_of, read_channels,
 };
 pub use fault::FilterFault;
 pub use filter::Filter;

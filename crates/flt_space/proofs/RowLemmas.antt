@@ -1,5 +1,5 @@
 -- The rows that are made.
-use Rattle.std.proofs.Common.{◌≡◌, ℕ, ◌*◌, ◌<◌, ◌≤◌, ◌==◌, ◌∙◌, List, None, false, length, get_or, ap, sym, refl, inl, inr, arith, ne_eqb}
+use Rattle.std.proofs.Common.{◌≡◌, ℕ, ◌*◌, ◌<◌, ◌≤◌, ◌==◌, ◌∙◌, List, None, false, length, get_or, ap, sym, inl, inr, arith, ne_eqb}
 use Rattle.std.specs.List.{range_with_len}
 use Rattle.std.proofs.lemmas.List.{length-map, get_or_past}
 use Rattle.std.proofs.lemmas.List.FromFn.{get_or-map-range_with_len, length-range_with_len}
@@ -15,7 +15,6 @@ use Rattle.fv_plane.proofs.CallerLemmas.{fit_row, row_again, two_bytes}
 use Rattle.fv_plane.proofs.FillLemmas.{row_listed}
 use Rattle.fv_plane.proofs.WholePlaneLemmas.{rows_listed}
 use Rattle.clip_term.specs.declared.op.SpaceOp.{SpaceOp}
-use Rattle.clip_term.specs.declared.op.SpaceOp.TheVariants as op
 use Rattle.clip_term.specs.Space.{space_at, space_refusals, space_shape}
 use Rattle.clip_term.proofs.BoundedLemmas.{IsBounded, space_bounded}
 use Rattle.flt_space.specs.Rows.{row_made, wide_width}
@@ -36,32 +35,9 @@ made_row op input p y out long each =
 pub more_bits : (shape same : Shape) → same ≡ shape → (same.bits ≡ 8 → ⊥) → (shape.bits == 8) ≡ false
 more_bits shape same is more = ne_eqb shape.bits 8 (λ eight. more (ap (λ (s : Shape). s.bits) is ∙ eight))
 
--- a filter keeps the bits of a sample
-bits_kept : (op : SpaceOp) (shape : Shape) → (space_shape op shape).bits ≡ shape.bits
-bits_kept (op.Crop left top width height) shape = refl
-bits_kept (op.CropBottom n) shape = refl
-bits_kept (op.AddBorders left top right bottom color) shape = refl
-bits_kept (op.LetterBox top bottom x1 x2 color) shape = refl
-bits_kept op.FlipHorizontal shape = refl
-bits_kept op.FlipVertical shape = refl
-bits_kept op.Turn180 shape = refl
-bits_kept op.TurnLeft shape = refl
-bits_kept op.TurnRight shape = refl
-bits_kept op.Greyscale shape = refl
-bits_kept (op.Invert channels) shape = refl
-bits_kept (op.Limiter min_luma max_luma min_chroma max_chroma) shape = refl
-bits_kept op.SwapUV shape = refl
-bits_kept op.UToY8 shape = refl
-bits_kept op.VToY8 shape = refl
-bits_kept op.ConvertToY8 shape = refl
-
--- so what has one byte a sample still has
-pub narrow_kept : (op : SpaceOp) (shape : Shape) → shape.bits ≡ 8 → (space_shape op shape).bits ≡ 8
-narrow_kept op shape narrow = bits_kept op shape ∙ narrow
-
--- and what has two
-pub wide_kept : (op : SpaceOp) (shape : Shape) → (shape.bits == 8) ≡ false → ((space_shape op shape).bits == 8) ≡ false
-wide_kept op shape wide = rw (bits_kept op shape) wide
+-- where a filter keeps the bits, what has two bytes a sample still has
+pub wide_kept : (made shape : Shape) → made.bits ≡ shape.bits → (shape.bits == 8) ≡ false → (made.bits == 8) ≡ false
+wide_kept made shape kept wide = rw kept wide
 
 -- where a sample has two bytes, the samples of a row are made
 pub wide_row : (shape : Shape) (p : ℕ) → (shape.bits == 8) ≡ false → wide_width shape p ≡ plane_width shape p
@@ -78,10 +54,10 @@ bounded_row at shape p width y x bounded = elim (cases_lt x width) [
   | inr past ↦ rw (get_or_past (row_from at p width y) x 0 (omega (arith, length-map (range_with_len 0 width) (λ k. at p k y), length-range_with_len 0 width))) (omega arith)
 ]
 
-module _ (op : SpaceOp) (input : Picture) (shape made : Shape) (p y : ℕ) (out : List ℕ) (is : shape ≡ space_shape op input.shape) (same : made ≡ shape)
+module _ (op : SpaceOp) (input : Picture) (shape made : Shape) (p y : ℕ) (out : List ℕ) (is : shape ≡ space_shape op input.shape) (same : made ≡ shape) (kept : (space_shape op input.shape).bits ≡ input.shape.bits)
     (put : out ≡ bytes_of_row input.shape (row_made op input p y)) where
   stored : out ≡ bytes_of_row made (row_made op input p y)
-  stored = put ∙ bytes_of_row-same input.shape made (row_made op input p y) (sym (ap (λ (s : Shape). s.bits) (same ∙ is) ∙ bits_kept op input.shape))
+  stored = put ∙ bytes_of_row-same input.shape made (row_made op input p y) (sym (ap (λ (s : Shape). s.bits) (same ∙ is) ∙ kept))
 
   -- the samples of the bytes are the row
   pub made_again : row_of_bytes made out ≡ rows_listed shape (space_at op input.shape (look_in input)) p y

@@ -1,15 +1,19 @@
 -- The rows that makers put.
-use Rattle.std.specs.Prelude.{◌≡◌, ℕ, ◌+◌, ◌*◌, ◌-◌, ◌<◌, ◌==◌, if◌then◌else◌, List, ◌++◌, length, replicate, take, drop, slice_index}
+use Rattle.std.specs.Prelude.{◌≡◌, ℕ, ◌+◌, ◌*◌, ◌-◌, ◌<◌, ◌==◌, if◌then◌else◌, List, ◌++◌, length, map, replicate, take, drop, slice_index}
 use Rattle.fv_plane.specs.declared.format.Shape.{Shape}
 use Rattle.fv_plane.specs.Format.{plane_width, plane_height}
 use Rattle.fv_plane.specs.Look.{Look, look_in, row_from}
-use Rattle.fv_plane.specs.Picture.{Picture, sample_of}
+use Rattle.fv_plane.specs.Picture.{Picture, row_of, sample_of}
 use Rattle.clip_term.specs.declared.op.SpaceOp.{SpaceOp}
-use Rattle.clip_term.specs.Space.{space_at, space_shape}
+use Rattle.clip_term.specs.Space.{converted, space_at, space_shape}
 
 -- the samples of a row that a filter makes
 abbrev pub row_made : SpaceOp → Picture → ℕ → ℕ → List ℕ
 row_made op input p y = row_from (space_at op input.shape (look_in input)) p (plane_width (space_shape op input.shape) p) y
+
+-- the samples of a row in other bits
+abbrev pub row_converted : Picture → ℕ → ℕ → ℕ → List ℕ
+row_converted input bits p y = map (converted input.shape.bits bits) (row_of input.planes p y)
 
 -- the samples of a row, where they have more than eight bits
 abbrev pub wide_width : Shape → ℕ → ℕ

@@ -55,6 +55,28 @@ pub fn copy_limited(row: &[u8], low: u8, high: u8, out: &mut [u8])
     }
 }
 
+/// Each sample times a factor.
+pub fn copy_scaled(row: &[u8], factor: u16, out: &mut [u16])
+    requires same { length row.now ≡ length out.old }
+    requires small { factor ≤ 256 }
+    ensures { EachIndex out.new (λ x. slice_index out.new x ≡ slice_index row.now x * factor) }
+{
+    for x in 0..out.len() {
+        out[x] = row[x] as u16 * factor;
+    }
+}
+
+/// The samples as bytes, which hold them.
+pub fn narrow_row(row: &[u16], out: &mut [u8])
+    requires same { length row.now ≡ length out.old }
+    requires small { EachIndex row.now (λ x. slice_index row.now x ≤ 255) }
+    ensures { out.new ≡ row.now }
+{
+    for x in 0..out.len() {
+        out[x] = row[x] as u8;
+    }
+}
+
 /// The samples from right to left.
 pub fn reverse_row(row: &[u8], out: &mut [u8])
     requires { length row.now ≡ length out.old }

@@ -7,6 +7,7 @@
 mod adjust;
 mod borders;
 mod cut;
+mod depth;
 mod flip;
 mod kernels;
 mod make;

@@ -7,14 +7,15 @@ ghost use Rattle.clip_term.specs.Space.{space_picture, space_refusals, space_sha
 use crate::adjust::{greyscale, invert, limiter, swap_uv};
 use crate::borders::{add_borders, letter_box};
 use crate::cut::{convert_to_y8, crop, crop_bottom, u_to_y8, v_to_y8};
+use crate::depth::convert_bits;
 use crate::flip::{flip_horizontal, flip_vertical, turn_180};
 use crate::turn::{turn_left, turn_right};
 use clip_term::SpaceOp;
 use fv_plane::Frame;
 use std::alloc::{AllocError, Global};
 
-/// The picture that a filter makes of its input, which its check accepted. Parts, single planes, planes that stay and
-/// pictures upside down share the bytes of the input. An `Err` is out of memory, or more shares than can be counted.
+/// The picture that a filter makes of its input, which its check accepted. Parts, single planes, planes that stay, pictures
+/// upside down and pictures whose bits stay share the bytes of the input. An `Err` is out of memory, or more shares than can be counted.
 pub fn make_space(alloc: Global, op: &SpaceOp, input: &Frame) -> Result<Frame, AllocError>
     requires accepted { first_fault (space_refusals op.now input.now.shape) ≡ None }
     requires legal { IsLegal (space_shape op.now input.now.shape) }
@@ -59,5 +60,6 @@ pub fn make_space(alloc: Global, op: &SpaceOp, input: &Frame) -> Result<Frame, A
         SpaceOp::UToY8 => u_to_y8(input),
         SpaceOp::VToY8 => v_to_y8(input),
         SpaceOp::ConvertToY8 => convert_to_y8(input),
+        SpaceOp::ConvertBits { bits } => convert_bits(alloc, input, *bits),
     }
 }

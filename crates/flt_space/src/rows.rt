@@ -65,6 +65,7 @@ fn fill_bytes<F: RowFilter>(
     out: &mut [u8],
 )
     requires accepted { first_fault (space_refusals (F.op filter.now) input.now.shape) ≡ None }
+    requires bits { (space_shape (F.op filter.now) input.now.shape).bits ≡ input.now.shape.bits }
     requires changed { keeps_plane (F.op filter.now) plane ≡ false }
     requires plane { plane < planes (space_shape (F.op filter.now) input.now.shape).kind }
     requires inside { y < plane_height (space_shape (F.op filter.now) input.now.shape) plane }
@@ -91,6 +92,7 @@ fn fill_planes<F: RowFilter>(
 ) -> Result<(), AllocError>
     requires accepted { first_fault (space_refusals (F.op filter.now) input.now.shape) ≡ None }
     requires shape { shape ≡ space_shape (F.op filter.now) input.now.shape }
+    requires bits { shape.bits ≡ input.now.shape.bits }
     requires made { made.old.shape ≡ shape }
     requires sizes { IsPicture made.old }
     ensures { OnOk result (made.new ≡ space_picture (F.op filter.now) input.now) }
@@ -115,7 +117,7 @@ fn fill_planes<F: RowFilter>(
     Ok(())
 }
 
-/// The picture of this shape that a filter makes.
+/// The picture of this shape that a filter makes, which keeps the bits of a sample.
 pub fn make_by_rows<F: RowFilter>(
     alloc: Global,
     filter: &F,
@@ -124,6 +126,7 @@ pub fn make_by_rows<F: RowFilter>(
 ) -> Result<Frame, AllocError>
     requires accepted { first_fault (space_refusals (F.op filter.now) input.now.shape) ≡ None }
     requires shape { shape ≡ space_shape (F.op filter.now) input.now.shape }
+    requires bits { shape.bits ≡ input.now.shape.bits }
     requires legal { IsLegal shape }
     ensures { IfOk result (λ made. made ≡ space_picture (F.op filter.now) input.now) }
 {

@@ -1,5 +1,5 @@
 // What is done to the samples of a row, where they have two bytes. Plain loops over slices, as in `kernels`.
-ghost use Rattle.std.specs.Prelude.{◌≡◌, ◌-◌, ◌+◌, ◌≤◌, EachIndex, length, slice_index};
+ghost use Rattle.std.specs.Prelude.{◌≡◌, ◌-◌, ◌+◌, ◌*◌, ◌/◌, ◌^◌, ◌≤◌, min, EachIndex, length, slice_index};
 ghost use Rattle.clip_term.specs.Space.{limited};
 ghost use Rattle.flt_space.specs.Rows.{padded, covered};
 
@@ -27,6 +27,41 @@ pub fn copy_limited(row: &[u16], low: u16, high: u16, out: &mut [u16])
 {
     for x in 0..out.len() {
         out[x] = limited(row[x], low, high);
+    }
+}
+
+/// Each sample times a factor.
+pub fn copy_scaled(row: &[u16], factor: u16, out: &mut [u16])
+    requires same { length row.now ≡ length out.old }
+    requires small { EachIndex row.now (λ x. slice_index row.now x * factor ≤ 65535) }
+    ensures { EachIndex out.new (λ x. slice_index out.new x ≡ slice_index row.now x * factor) }
+{
+    for x in 0..out.len() {
+        out[x] = row[x] * factor;
+    }
+}
+
+// A sample without its last bits, rounded, and at most the largest.
+fn rounded(sample: u16, bits: u32, largest: u16) -> u16
+    requires some { 1 ≤ bits }
+    requires few { bits ≤ 16 }
+    ensures { result ≡ min largest ((sample + 2 ^ (bits - 1)) / 2 ^ bits) }
+{
+    let half = 1u32 << (bits - 1);
+    let quotient = (sample as u32 + half) >> bits;
+    quotient.min(largest as u32) as u16
+}
+
+/// Each sample without its last bits, rounded with a half upwards, and at most the largest.
+pub fn copy_rounded(row: &[u16], bits: u32, largest: u16, out: &mut [u16])
+    requires same { length row.now ≡ length out.old }
+    requires some { 1 ≤ bits }
+    requires few { bits ≤ 16 }
+    ensures { EachIndex out.new (λ x.
+        slice_index out.new x ≡ min largest ((slice_index row.now x + 2 ^ (bits - 1)) / 2 ^ bits)) }
+{
+    for x in 0..out.len() {
+        out[x] = rounded(row[x], bits, largest);
     }
 }
 

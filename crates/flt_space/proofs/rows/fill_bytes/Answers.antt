@@ -4,7 +4,7 @@ use Rattle.fv_plane.specs.Bytes.{wide_bytes}
 use Rattle.fv_plane.proofs.CallerLemmas.{bytes_of_narrow, bytes_of_wide, two_bytes}
 use Rattle.clip_term.specs.Space.{space_shape}
 use Rattle.flt_space.specs.Rows.{row_made}
-use Rattle.flt_space.proofs.RowLemmas.{more_bits, narrow_bytes, narrow_kept, wide_kept, wide_row, wide_row_bytes}
+use Rattle.flt_space.proofs.RowLemmas.{more_bits, narrow_bytes, wide_kept, wide_row, wide_row_bytes}
 use Rattle.flt_space.proofs.rows.fill_bytes.Goals as goal
 
 pub fill_row-requires-clause-whole : goal.fill_row-requires-clause-whole
@@ -12,7 +12,7 @@ fill_row-requires-clause-whole g c =
     let op = g.F.RowFilter.op c.args.filter.now in
     let shape = c.args.input.now.shape in
     let eight : shape.bits ≡ 8 = ap (λ (s : Shape). s.bits) (sym c.shape.ensures.shape) ∙ c.if-shape-eq8.true in
-    c.requires.whole ∙ narrow_bytes (space_shape op shape) c.args.plane (narrow_kept op shape eight)
+    c.requires.whole ∙ narrow_bytes (space_shape op shape) c.args.plane (c.requires.bits ∙ eight)
 
 pub fill_samples-requires-clause-wide : goal.fill_samples-requires-clause-wide
 fill_samples-requires-clause-wide g c =
@@ -26,13 +26,13 @@ pub fill_samples-requires-clause-whole : goal.fill_samples-requires-clause-whole
 fill_samples-requires-clause-whole g c =
     let op = g.F.RowFilter.op c.args.filter.now in
     let shape = c.args.input.now.shape in
-    c.requires.samples ∙ wide_row (space_shape op shape) c.args.plane (wide_kept op shape (more_bits shape c.shape.result c.shape.ensures.shape c.if-shape-eq8.false))
+    c.requires.samples ∙ wide_row (space_shape op shape) c.args.plane (wide_kept (space_shape op shape) shape c.requires.bits (more_bits shape c.shape.result c.shape.ensures.shape c.if-shape-eq8.false))
 
 pub write_samples-requires : goal.write_samples-requires
 write_samples-requires g c =
     let op = g.F.RowFilter.op c.args.filter.now in
     let shape = c.args.input.now.shape in
-    c.requires.whole ∙ wide_row_bytes (space_shape op shape) c.args.plane (wide_kept op shape (more_bits shape c.shape.result c.shape.ensures.shape c.if-shape-eq8.false))
+    c.requires.whole ∙ wide_row_bytes (space_shape op shape) c.args.plane (wide_kept (space_shape op shape) shape c.requires.bits (more_bits shape c.shape.result c.shape.ensures.shape c.if-shape-eq8.false))
     ∙ ap (λ n. n * 2) (sym (c.fill_samples.auto.out ∙ c.requires.samples))
 
 pub returns-then-shape-eq8 : goal.returns-then-shape-eq8

@@ -42,6 +42,9 @@ loop-plane-preserved-then-keeps_plane g c =
     (omega (arith, there, ap (λ (s : Shape). planes s.kind) same)) (omega (arith, inside, ap (λ (s : Shape). plane_height s c.loop-plane.plane) same))
     (sym (ap (λ (s : Shape). plane_width s c.loop-plane.plane) same)) (λ x. sym (kept_samples filter input.shape c.loop-plane.plane keeps (look_in input) x z))) there
 
+pub fill_bytes-requires-clause-bits : goal.fill_bytes-requires-clause-bits
+fill_bytes-requires-clause-bits g c = rw (← c.requires.shape) c.requires.bits
+
 pub fill_bytes-requires-clause-plane : goal.fill_bytes-requires-clause-plane
 fill_bytes-requires-clause-plane g c =
     let there : c.loop-plane.plane < planes c.args.shape.kind = search rules in
@@ -67,7 +70,7 @@ put_row-requires-clause-whole g c = rw c.loop-y.invariant.filled.same (c.fill_by
 pub put_row-requires-clause-fits : goal.put_row-requires-clause-fits
 put_row-requires-clause-fits g c =
     made_fits (g.F.RowFilter.op c.args.filter.now) c.args.input.now c.args.shape c.loop-y.made.shape c.loop-plane.plane c.loop-y.y c.fill_bytes.new.out c.requires.shape c.loop-y.invariant.filled.same
-    c.fill_bytes.ensures c.requires.accepted c.shape-from.ensures.sizes
+    (rw (← c.requires.shape) c.requires.bits) c.fill_bytes.ensures c.requires.accepted c.shape-from.ensures.sizes
 
 pub put_row-requires-clause-plane : goal.put_row-requires-clause-plane
 put_row-requires-clause-plane g c =
@@ -83,7 +86,7 @@ pub loop-y-preserved : goal.loop-y-preserved
 loop-y-preserved g c =
     let filter = g.F.RowFilter.op c.args.filter.now in
     let at = space_at filter c.args.input.now.shape (look_in c.args.input.now) in
-    let row = made_again filter c.args.input.now c.args.shape c.loop-y.made.shape c.loop-plane.plane c.loop-y.y c.fill_bytes.new.out c.requires.shape c.loop-y.invariant.filled.same c.fill_bytes.ensures in
+    let row = made_again filter c.args.input.now c.args.shape c.loop-y.made.shape c.loop-plane.plane c.loop-y.y c.fill_bytes.new.out c.requires.shape c.loop-y.invariant.filled.same (rw (← c.requires.shape) c.requires.bits) c.fill_bytes.ensures in
     record {
       scratch = c.fill_bytes.auto.scratch ∙ c.loop-y.invariant.scratch;
       samples = c.fill_bytes.auto.samples ∙ c.loop-y.invariant.samples;

@@ -1,0 +1,123 @@
+// `ConvertBits`: samples of other bits.
+ghost use Rattle.std.specs.Prelude.{◌≡◌, ◌-◌, ◌*◌, ◌^◌, ◌<◌, ◌≤◌, pos, None, IfOk, length};
+ghost use Rattle.fv_plane.specs.Bytes.{FitsRow, bytes_of_row};
+ghost use Rattle.fv_plane.specs.Format.{IsLegal, planes, plane_width, plane_height, sample_bytes};
+ghost use Rattle.fv_plane.specs.Picture.{IsPicture};
+ghost use Rattle.fv_plane.specs.Refusals.{first_fault};
+ghost use Rattle.clip_term.specs.declared.op.SpaceOp.TheVariants.{ConvertBits};
+ghost use Rattle.clip_term.specs.Space.{space_picture, space_refusals, space_shape};
+ghost use Rattle.flt_space.specs.Rows.{row_converted};
+
+use crate::{kernels, wide};
+use clip_term::depth_of;
+use fv_plane::{Frame, FrameBuilder, Shape, write_samples};
+use std::alloc::{AllocError, Global};
+
+// The factor from samples of `old` bits to samples of `new` bits.
+fn factor(old: u8, new: u8) -> u16
+    requires least { 8 ≤ old }
+    requires most { new ≤ 16 }
+    requires more { old ≤ new }
+    ensures { result ≡ 2 ^ (new - old) }
+{
+    1 << (new - old)
+}
+
+// Writes the samples of a row in the bits of `shape`. `scratch` is for a row of the input.
+fn convert_samples(
+    input: &Frame,
+    plane: u32,
+    y: u32,
+    shape: Shape,
+    scratch: &mut [u16],
+    out: &mut [u16],
+)
+    requires legal { IsLegal shape }
+    requires plane { plane < planes input.now.shape.kind }
+    requires inside { y < plane_height input.now.shape plane }
+    requires scratch { length scratch.old ≡ plane_width input.now.shape plane }
+    requires whole { length out.old ≡ plane_width input.now.shape plane }
+    ensures row { out.new ≡ row_converted input.now shape.bits plane y }
+    ensures fits { FitsRow shape out.new }
+{
+    let old = input.shape().bits;
+    if old == 8 {
+        kernels::copy_scaled(input.row(plane, y), factor(old, shape.bits), out);
+        return;
+    }
+    input.read_row(plane, y, scratch);
+    if old <= shape.bits {
+        wide::copy_scaled(scratch, factor(old, shape.bits), out);
+    } else {
+        let bits = (old - shape.bits) as u32;
+        wide::copy_rounded(scratch, bits, shape.largest_sample(), out);
+    }
+}
+
+// Writes the bytes of a row in the bits of `shape`. `scratch` is for a row of the input, `samples` for one of the result.
+fn convert_row(
+    input: &Frame,
+    plane: u32,
+    y: u32,
+    shape: Shape,
+    scratch: &mut [u16],
+    samples: &mut [u16],
+    out: &mut [u8],
+)
+    requires legal { IsLegal shape }
+    requires plane { plane < planes input.now.shape.kind }
+    requires inside { y < plane_height input.now.shape plane }
+    requires scratch { length scratch.old ≡ plane_width input.now.shape plane }
+    requires samples { length samples.old ≡ plane_width input.now.shape plane }
+    requires whole { length out.old ≡ plane_width input.now.shape plane * sample_bytes shape }
+    ensures { out.new ≡ bytes_of_row shape (row_converted input.now shape.bits plane y) }
+{
+    convert_samples(input, plane, y, shape, scratch, samples);
+    if shape.bits == 8 {
+        kernels::narrow_row(samples, out);
+    } else {
+        write_samples(samples, out);
+    }
+}
+
+// The picture in the bits of `shape`, which is else that of the input.
+fn make_converted(alloc: Global, input: &Frame, shape: Shape) -> Result<Frame, AllocError>
+    requires legal { IsLegal shape }
+    requires shape { shape ≡ space_shape (ConvertBits (pos shape.bits)) input.now.shape }
+    requires sizes { IsPicture input.now }
+    ensures { IfOk result (λ made. made ≡ space_picture (ConvertBits (pos shape.bits)) input.now) }
+{
+    let mut made = FrameBuilder::new(alloc, shape)?;
+    for plane in 0..shape.kind.planes() {
+        let width = shape.plane_width(plane) as usize;
+        let mut scratch = vec![in alloc; 0u16; width]?;
+        let mut samples = vec![in alloc; 0u16; width]?;
+        let mut bytes = vec![in alloc; 0u8; shape.row_bytes(plane) as usize]?;
+        let scratch = scratch.as_mut_slice();
+        let samples = samples.as_mut_slice();
+        let row = bytes.as_mut_slice();
+        for y in 0..shape.plane_height(plane) {
+            convert_row(input, plane, y, shape, scratch, samples, row);
+            made.put_row(plane, y, row);
+        }
+    }
+    made.finish()
+}
+
+/// `ConvertBits`: the picture in samples of other bits. Where the bits are those of the input, it is shared. An `Err` is
+/// out of memory, or more shares than can be counted.
+pub fn convert_bits(alloc: Global, input: &Frame, bits: i32) -> Result<Frame, AllocError>
+    requires accepted { first_fault (space_refusals (ConvertBits bits) input.now.shape) ≡ None }
+    requires legal { IsLegal (space_shape (ConvertBits bits) input.now.shape) }
+    ensures { IfOk result (λ made. made ≡ space_picture (ConvertBits bits) input.now) }
+{
+    let old = input.shape();
+    let shape = Shape {
+        bits: depth_of(bits),
+        ..old
+    };
+    if shape.bits == old.bits {
+        return input.share();
+    }
+    make_converted(alloc, input, shape)
+}
