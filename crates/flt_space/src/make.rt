@@ -15,7 +15,8 @@ use fv_plane::Frame;
 use std::alloc::{AllocError, Global};
 
 /// The picture that a filter makes of its input, which its check accepted. Parts, single planes, planes that stay, pictures
-/// upside down and pictures whose bits stay share the bytes of the input. An `Err` is out of memory, or more shares than can be counted.
+/// upside down and pictures whose bits stay share the bytes of the input. An `Err` is out of memory, or more shares than
+/// can be counted.
 pub fn make_space(alloc: Global, op: &SpaceOp, input: &Frame) -> Result<Frame, AllocError>
     requires accepted { first_fault (space_refusals op.now input.now.shape) ≡ None }
     requires legal { IsLegal (space_shape op.now input.now.shape) }
