@@ -1,11 +1,13 @@
 -- Rows of samples that are in range, and their bytes.
-use Rattle.std.proofs.Common.{◌≡◌, ℕ, zero, suc, ◌≤◌, List, [], ◌∷◌, map, get_or, arith}
+use Rattle.std.proofs.Common.{◌≡◌, ◌⊎◌, ℕ, zero, suc, ◌≤◌, ◌^◌, inl, inr, List, [], ◌∷◌, map, get_or, arith}
 use Rattle.std.specs.List.{range_with_len}
 use Rattle.fv_plane.specs.declared.format.Shape.{Shape}
-use Rattle.fv_plane.specs.Format.{largest_sample}
+use Rattle.std.proofs.Math.Pow.{pow_mono}
+use Rattle.fv_plane.specs.Format.{IsLegal, largest_sample}
 use Rattle.fv_plane.specs.Bytes.{bytes_of_row, row_of_bytes, FitsRow, FitBytes}
 use Rattle.fv_plane.specs.Look.{Look, row_from}
 use Rattle.fv_plane.proofs.CallerLemmas.{fit_row, row_again}
+use Rattle.fv_plane.proofs.PictureLemmas.{five_depths}
 
 listed_few : (f : ℕ → ℕ) (ns : List ℕ) (most : ℕ) → ((n : ℕ) → f n ≤ most) → (k : ℕ) → get_or (map f ns) k 0 ≤ most
 listed_few f [] most few k = omega arith
@@ -23,3 +25,18 @@ bytes_fit shape made row bytes same put fits = rw (put, same) (fit_row shape row
 -- and are read there as the row
 pub bytes_again : (shape made : Shape) (row bytes : List ℕ) → made ≡ shape → bytes ≡ bytes_of_row shape row → row_of_bytes made bytes ≡ row
 bytes_again shape made row bytes same put = rw (put, same) (row_again shape row)
+
+most_by : (bits : ℕ) → (bits ≡ 8) ⊎ ((bits ≡ 10) ⊎ ((bits ≡ 12) ⊎ ((bits ≡ 14) ⊎ (bits ≡ 16)))) → bits ≤ 16
+most_by bits (inl is) = omega arith
+most_by bits (inr (inl is)) = omega arith
+most_by bits (inr (inr (inl is))) = omega arith
+most_by bits (inr (inr (inr (inl is)))) = omega arith
+most_by bits (inr (inr (inr (inr is)))) = omega arith
+
+-- a sample has at most 16 bits
+pub most_bits : (shape : Shape) → IsLegal shape → shape.bits ≤ 16
+most_bits shape legal = most_by shape.bits (five_depths shape.kind shape.bits legal.depth)
+
+-- so none is above 65535
+pub largest_small : (shape : Shape) → IsLegal shape → largest_sample shape ≤ 65535
+largest_small shape legal = (let wide : 2 ^ shape.bits ≤ 2 ^ 16 = pow_mono (most_bits shape legal) in omega arith)

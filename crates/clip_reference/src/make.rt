@@ -1,5 +1,5 @@
 // The frame of a term by its definition, sample by sample.
-ghost use Rattle.std.specs.Prelude.{◌≡◌, ℕ, ◌*◌, ◌<◌, ◌^◌, List, [], length, map, IfOk};
+ghost use Rattle.std.specs.Prelude.{◌≡◌, ℕ, ◌*◌, ◌<◌, ◌≤◌, ◌^◌, List, [], length, map, IfOk};
 ghost use Rattle.fv_plane.specs.Format.{IsLegal, sample_bytes};
 ghost use Rattle.fv_plane.specs.Bytes.{bytes_of_row, AreBytes, FitsRow};
 ghost use Rattle.fv_plane.specs.Picture.{Picture};
@@ -73,6 +73,8 @@ fn narrow_samples(samples: &[u16], bytes: &mut [u8])
 fn fill_row(op: &Op, infos: &[Info], frames: &[Frame], plane: u32, y: u32, row: &mut [u16])
     requires ready { IsReady (act_of op.now) infos.now (length frames.now) }
     requires narrow { length row.old < 2 ^ 32 }
+    requires fits { (x : ℕ)
+        → sample [] (act_of op.now) infos.now 0 (map look_in frames.now) plane x y ≤ 65535 }
     ensures { row.new
         ≡ row_from (sample [] (act_of op.now) infos.now 0 (map look_in frames.now)) plane (length row.old) y }
 {
@@ -83,6 +85,7 @@ fn fill_row(op: &Op, infos: &[Info], frames: &[Frame], plane: u32, y: u32, row: 
 
 fn sample(op: &Op, infos: &[Info], frames: &[Frame], plane: u32, x: u32, y: u32) -> u16
     requires ready { IsReady (act_of op.now) infos.now (length frames.now) }
+    requires fits { sample [] (act_of op.now) infos.now 0 (map look_in frames.now) plane x y ≤ 65535 }
     ensures { result ≡ sample [] (act_of op.now) infos.now 0 (map look_in frames.now) plane x y }
 {
     match op {

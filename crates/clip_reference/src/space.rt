@@ -4,16 +4,17 @@ ghost use Rattle.fv_plane.specs.Format.{IsLegal, largest_sample, scale, plane_wi
 ghost use Rattle.fv_plane.specs.Look.{look_in, across, down};
 ghost use Rattle.fv_plane.specs.Refusals.{first_fault};
 ghost use Rattle.clip_term.specs.Refusals.{nat_of, paint};
-ghost use Rattle.clip_term.specs.Space.{space_at, space_refusals, is_within, is_among, limited, swapped};
+ghost use Rattle.clip_term.specs.Space.{space_at, space_refusals, is_within, is_among, limited, swapped, converted};
 
 use crate::place::{across, down, height, look, width};
-use clip_term::{Channels, SpaceOp, part_of};
+use clip_term::{Channels, SpaceOp, depth_of, part_of};
 use fv_plane::{Frame, Shape};
 
 /// A sample of what the op makes of a frame of this shape.
 pub fn space_sample(op: &SpaceOp, shape: Shape, input: &Frame, plane: u32, x: u32, y: u32) -> u16
     requires accepted { first_fault (space_refusals op.now shape) ≡ None }
     requires legal { IsLegal shape }
+    requires fits { space_at op.now shape (look_in input.now) plane x y ≤ 65535 }
     ensures { result ≡ space_at op.now shape (look_in input.now) plane x y }
 {
     let column = x as u64;
@@ -61,6 +62,7 @@ pub fn space_sample(op: &SpaceOp, shape: Shape, input: &Frame, plane: u32, x: u3
         SpaceOp::UToY8 => look(input, 1, column, row),
         SpaceOp::VToY8 => look(input, 2, column, row),
         SpaceOp::ConvertToY8 => look(input, 0, column, row),
+        SpaceOp::ConvertBits { bits } => converted(shape.bits, depth_of(*bits), here),
     }
 }
 
@@ -237,6 +239,22 @@ fn limited(shape: Shape, low: i32, high: i32, sample: u16) -> u16
     let low = scaled(low.unsigned_abs() as u8, shape);
     let high = scaled(high.unsigned_abs() as u8, shape);
     sample.max(low).min(high)
+}
+
+// A sample of `old` bits in `new` bits.
+fn converted(old: u8, new: u8, sample: u16) -> u16
+    requires old { old ≤ 16 }
+    requires new { new ≤ 16 }
+    requires fits { converted old new sample ≤ 65535 }
+    ensures { result ≡ converted old new sample }
+{
+    let sample = sample as u64;
+    if old <= new {
+        return (sample << (new - old)) as u16;
+    }
+    let lost = old - new;
+    let rounded = (sample + (1 << (lost - 1))) >> lost;
+    rounded.min((1 << new) - 1) as u16
 }
 
 // The planes of chroma exchanged.

@@ -1,4 +1,4 @@
-use Rattle.std.proofs.Common.{rules, ◌≡◌, ◌∙◌, ◌*◌, ℕ, List, [], length, map, ap, sym, refl}
+use Rattle.std.proofs.Common.{rules, arith, ◌≡◌, ◌∙◌, ◌*◌, ℕ, List, [], length, map, ap, sym, refl}
 use Rattle.std.proofs.lemmas.Result.{IfOk-weaker}
 use Rattle.fv_plane.specs.Format.{sample_bytes}
 use Rattle.fv_plane.specs.Picture.{Picture}
@@ -9,8 +9,11 @@ use Rattle.clip_term.specs.Terms.{sample, make}
 use Rattle.fv_plane.proofs.FillLemmas.{filled_put, filled_plane, filled_done}
 use Rattle.fv_plane.proofs.WholePlaneLemmas.{rows_listed}
 use Rattle.clip_reference.proofs.ReadyLemmas.{made_same}
-use Rattle.clip_reference.proofs.RowLemmas.{row_fits, bytes_fit, bytes_again}
+use Rattle.clip_reference.proofs.RowLemmas.{row_fits, bytes_fit, bytes_again, largest_small}
 use Rattle.clip_reference.proofs.make.made.Goals as goal
+
+pub fill_row-requires-clause-fits : goal.fill_row-requires-clause-fits
+fill_row-requires-clause-fits c = λ x. omega (arith, c.requires.fits c.loop-plane.plane x c.loop-y.y, largest_small c.args.info.shape c.requires.legal)
 
 pub write_row-requires-clause-whole : goal.write_row-requires-clause-whole
 write_row-requires-clause-whole c =

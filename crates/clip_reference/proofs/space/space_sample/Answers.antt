@@ -9,6 +9,7 @@ use Rattle.clip_term.specs.declared.op.SpaceOp.TheVariants.{Limiter}
 use Rattle.clip_term.specs.Refusals.{nat_of, no_info}
 use Rattle.clip_term.specs.Space.{space_refusals, bad_bounds, limited}
 use Rattle.clip_term.proofs.PassedLemmas.{passed, or_false}
+use Rattle.clip_reference.proofs.RowLemmas.{most_bits}
 use Rattle.clip_reference.proofs.space.space_sample.Goals as goal
 use mir.Val.{to_z, of_z}
 
@@ -23,6 +24,21 @@ chroma_bounds : (min_luma max_luma min_chroma max_chroma : ℤ) (shape : Shape) 
 chroma_bounds min_luma max_luma min_chroma max_chroma shape e =
     let told = passed (space_refusals (Limiter min_luma max_luma min_chroma max_chroma) shape) (Ok no_info) no_info (rw e refl) in
     (or_false (bad_bounds min_luma max_luma) (bad_bounds min_chroma max_chroma) told.0.0).1
+
+-- and those of luma
+luma_bounds : (min_luma max_luma min_chroma max_chroma : ℤ) (shape : Shape) → first_fault (space_refusals (Limiter min_luma max_luma min_chroma max_chroma) shape) ≡ None → bad_bounds min_luma max_luma ≡ false
+luma_bounds min_luma max_luma min_chroma max_chroma shape e =
+    let told = passed (space_refusals (Limiter min_luma max_luma min_chroma max_chroma) shape) (Ok no_info) no_info (rw e refl) in
+    (or_false (bad_bounds min_luma max_luma) (bad_bounds min_chroma max_chroma) told.0.0).0
+
+pub converted-requires-clause-old : goal.converted-requires-clause-old
+converted-requires-clause-old c = most_bits c.args.shape c.requires.legal
+
+pub limited-requires-clause-high : goal.limited-requires-clause-high
+limited-requires-clause-high c =
+    let op = c.in-Limiter in
+    let back : to_z w32 (of_z w32 op.max_luma) ≡ op.max_luma = omega (arith, ints) in
+    rw back (high_few op.min_luma op.max_luma (luma_bounds op.min_luma op.max_luma op.min_chroma op.max_chroma c.args.shape (rw op.is at c.requires.accepted)))
 
 pub limited-requires-else-plane-eq0-clause-low : goal.limited-requires-else-plane-eq0-clause-low
 limited-requires-else-plane-eq0-clause-low c =
