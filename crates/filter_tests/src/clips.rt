@@ -10,12 +10,12 @@ use std::alloc::{AllocError, Global};
 use std::process::Abort;
 
 // A clip of five frames of this shape.
-pub fn info_of(rt: &impl Abort, kind: PixelType, width: u32, height: u32) -> Info
+pub fn info_of(rt: &impl Abort, kind: PixelType, bits: u8, width: u32, height: u32) -> Info
     ensures { IsLawful result }
 {
     let shape = Shape {
         kind,
-        bits: 8,
+        bits,
         width,
         height,
     };

@@ -101,13 +101,18 @@ fn compare(rt: &impl Abort, alloc: Global, info: Info, row: u32) -> Result<Info,
 // Behind the number of the ops stand the length and the size of what they make.
 #[test]
 fn makes_the_frames_of_the_definitions(rt: HostRuntime) -> Result<(), Fail> {
-    for (kind, width, height, row, frames, wide, high) in [
-        (PixelType::YV12, 6, 4, 0, 5, 6, 4),
-        (PixelType::YV12, 6, 4, 1, 5, 8, 2),
-        (PixelType::YV24, 5, 3, 2, 10, 3, 5),
-        (PixelType::Y8, 9, 5, 3, 5, 13, 16),
+    for (kind, bits, width, height, row, frames, wide, high) in [
+        (PixelType::YV12, 8, 6, 4, 0, 5, 6, 4),
+        (PixelType::YV12, 8, 6, 4, 1, 5, 8, 2),
+        (PixelType::YV24, 8, 5, 3, 2, 10, 3, 5),
+        (PixelType::Y8, 8, 9, 5, 3, 5, 13, 16),
+        (PixelType::YV12, 10, 6, 4, 0, 5, 6, 4),
+        (PixelType::YV12, 12, 6, 4, 1, 5, 8, 2),
+        (PixelType::YV24, 14, 5, 3, 2, 10, 3, 5),
+        (PixelType::Y8, 16, 9, 5, 3, 5, 13, 16),
+        (PixelType::YV12, 10, 6, 4, 4, 5, 6, 8),
     ] {
-        let clip = info_of(&rt, kind, width, height);
+        let clip = info_of(&rt, kind, bits, width, height);
         let made = compare(&rt, rt.alloc(), clip, row)?;
         assert_eq!(rt;
             (made.frames, made.shape.width, made.shape.height),

@@ -56,6 +56,7 @@ pub fn space_op(row: u32) -> Op
             height: 0,
         }),
         2 => Op::Space(SpaceOp::TurnLeft),
+        4 => Op::Space(SpaceOp::ConvertBits { bits: 12 }),
         _ => Op::Space(SpaceOp::AddBorders {
             left: 1,
             top: 2,
