@@ -1,17 +1,17 @@
 -- Rows that are put are those that are listed.
-use Rattle.std.proofs.Common.{◌≡◌, ℕ, zero, suc, ◌+◌, ◌*◌, ◌%◌, ◌≤◌, ◌<◌, List, [], ◌∷◌, length, get_or, refl, sym, ◌∙◌, ap, arith, Bool, true, false, if◌then◌else◌, ◌==◌, ◌/◌}
+use Rattle.std.proofs.Common.{◌≡◌, ℕ, zero, suc, ◌*◌, ◌≤◌, ◌<◌, List, [], ◌∷◌, length, get_or, refl, sym, ◌∙◌, ap, arith, Bool, true, false, if◌then◌else◌, ◌==◌, ◌/◌}
 use Rattle.std.specs.Simd.Lanes.{zip2}
 use Rattle.std.proofs.lemmas.List.{ext_get_or}
 use Rattle.std.proofs.lemmas.Simd.{length-zip2, get_or-zip2}
 use Rattle.fv_plane.specs.declared.format.PixelType.{PixelType}
 use Rattle.fv_plane.specs.declared.format.PixelType.TheVariants.{Y8, YV12, YV16, YV24, YV411}
 use Rattle.fv_plane.specs.declared.format.Shape.{Shape}
-use Rattle.fv_plane.specs.Bytes.{wide_bytes, wide_samples, bytes_of_row, row_of_bytes, FitBytes}
-use Rattle.fv_plane.specs.Format.{HasSamePlane, planes, sub_w, sub_h, plane_width, row_bytes, sample_bytes, largest_sample}
+use Rattle.fv_plane.specs.Bytes.{wide_samples, bytes_of_row, row_of_bytes, FitBytes}
+use Rattle.fv_plane.specs.Format.{HasSamePlane, planes, sub_w, sub_h, plane_width, largest_sample}
 use Rattle.fv_plane.specs.Picture.{Picture, IsPicture, row_of}
 use Rattle.fv_plane.proofs.FillLemmas.{Lists, row_listed}
 use Rattle.fv_plane.proofs.CallerLemmas.{length-row, fit_row, row_again}
-use Rattle.fv_plane.proofs.WideLemmas.{pair, length-wide_samples, wide_samples-at, bytes_written}
+use Rattle.fv_plane.proofs.WideLemmas.{pair, length-wide_samples, wide_samples-at}
 use Rattle.flt_merge.specs.Rows.{one_of_two, rows_of_two, look_of_two, one_of_three, rows_of_luma, look_of_luma, mean, rows_of_means, look_of_means}
 use Rattle.fv_plane.proofs.WholePlaneLemmas.{row_seen}
 
@@ -76,29 +76,11 @@ pub means_are : (a b out : List ℕ) → length a ≡ length out → length b �
 means_are a b out long_a long_b each =
     ext_get_or 0 out (zip2 mean a b) (sym (length-zip2 mean a b (long_a ∙ sym long_b) ∙ long_a)) (λ i h. each i h ∙ sym (get_or-zip2 mean a b i 0 0 0 (omega arith) (omega arith)))
 
-pub wide_means_are : (a b out : List ℕ) → length a ≡ length out → length b ≡ length out → length out % 2 ≡ 0
-    → ((k : ℕ) → k < length out / 2 → get_or out (2 * k) 0 ≡ mean (pair a k) (pair b k) % 256)
-    → ((k : ℕ) → k < length out / 2 → get_or out (2 * k + 1) 0 ≡ mean (pair a k) (pair b k) / 256) → out ≡ wide_bytes (zip2 mean (wide_samples a) (wide_samples b))
-wide_means_are a b out long_a long_b whole even odd =
-    let n : ℕ = length out / 2 in
-    let many_a : length (wide_samples a) ≡ n = length-wide_samples n a (omega arith) in
-    let many_b : length (wide_samples b) ≡ n = length-wide_samples n b (omega arith) in
-    let samples : List ℕ = zip2 mean (wide_samples a) (wide_samples b) in
-    let count : length samples ≡ n = length-zip2 mean (wide_samples a) (wide_samples b) (many_a ∙ sym many_b) ∙ many_a in
-    let at : (k : ℕ) → k < n → get_or samples k 0 ≡ mean (pair a k) (pair b k)
-    = λ k within. get_or-zip2 mean (wide_samples a) (wide_samples b) k 0 0 0 (omega (arith, many_a)) (omega (arith, many_b))
-    ∙ ap (λ s. mean s (get_or (wide_samples b) k 0)) (wide_samples-at a k (omega arith)) ∙ ap (λ s. mean (pair a k) s) (wide_samples-at b k (omega arith)) in
-    bytes_written samples out (omega (arith, count))
-    (λ k within. even k (omega (arith, count)) ∙ ap (λ s. s % 256) (sym (at k (omega (arith, count)))))
-    (λ k within. odd k (omega (arith, count)) ∙ ap (λ s. s / 256) (sym (at k (omega (arith, count)))))
-
--- rows of whole samples
-whole_by : (b : Bool) (n : ℕ) → n * (if b then 1 else 2) % (if b then 1 else 2) ≡ 0
-whole_by true n = omega arith
-whole_by false n = omega arith
-
-pub whole_row : (shape : Shape) (p : ℕ) → row_bytes shape p % sample_bytes shape ≡ 0
-whole_row shape p = whole_by (shape.bits == 8) (plane_width shape p)
+pub wide_means_are : (a b out : List ℕ) → length a ≡ length out * 2 → length b ≡ length out * 2 → ((k : ℕ) → k < length out → get_or out k 0 ≡ mean (pair a k) (pair b k))
+    → out ≡ zip2 mean (wide_samples a) (wide_samples b)
+wide_means_are a b out long_a long_b each =
+    means_are (wide_samples a) (wide_samples b) out (length-wide_samples (length out) a long_a) (length-wide_samples (length out) b long_b)
+    (λ k within. each k within ∙ sym (ap (λ s. mean s (get_or (wide_samples b) k 0)) (wide_samples-at a k (omega arith)) ∙ ap (λ s. mean (pair a k) s) (wide_samples-at b k (omega arith))))
 
 -- no mean is over what bounds the samples
 means_few : (most : ℕ) (a b : List ℕ) → ((x : ℕ) → get_or a x 0 ≤ most) → ((x : ℕ) → get_or b x 0 ≤ most) → (x : ℕ) → get_or (zip2 mean a b) x 0 ≤ most

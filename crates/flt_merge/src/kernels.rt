@@ -1,7 +1,7 @@
 // Rows of samples. The compiler turns each loop into lanes.
-ghost use Rattle.std.specs.Prelude.{◌≡◌, ◌%◌, length};
+ghost use Rattle.std.specs.Prelude.{◌≡◌, ◌*◌, length};
 ghost use Rattle.std.specs.Simd.Lanes.{zip2};
-ghost use Rattle.fv_plane.specs.Bytes.{wide_bytes, wide_samples};
+ghost use Rattle.fv_plane.specs.Bytes.{wide_samples};
 ghost use Rattle.flt_merge.specs.Rows.{mean};
 
 use fv_plane::wide_sample;
@@ -25,16 +25,13 @@ fn mean(a: u16, b: u16) -> u16
     ((a as u32 + b as u32 + 1) / 2) as u16
 }
 
-/// The means of two rows of samples of two bytes, the low one first, as `merge_row` has those of one.
-pub fn merge_wide_row(a: &[u8], b: &[u8], out: &mut [u8])
-    requires a { length a.now ≡ length out.old }
-    requires b { length b.now ≡ length out.old }
-    requires whole { length out.old % 2 ≡ 0 }
-    ensures { out.new ≡ wide_bytes (zip2 mean (wide_samples a.now) (wide_samples b.now)) }
+/// The means of the samples of two rows of bytes, where a sample has two, the low one first.
+pub fn merge_wide_row(a: &[u8], b: &[u8], out: &mut [u16])
+    requires a { length a.now ≡ length out.old * 2 }
+    requires b { length b.now ≡ length out.old * 2 }
+    ensures { out.new ≡ zip2 mean (wide_samples a.now) (wide_samples b.now) }
 {
-    for x in 0..out.len() / 2 {
-        let mean = mean(wide_sample(a, x), wide_sample(b, x));
-        out[2 * x] = (mean % 256) as u8;
-        out[2 * x + 1] = (mean / 256) as u8;
+    for x in 0..out.len() {
+        out[x] = mean(wide_sample(a, x), wide_sample(b, x));
     }
 }

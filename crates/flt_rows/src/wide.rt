@@ -1,7 +1,10 @@
 // What is done to rows of samples of two bytes. Plain loops over slices, which the compiler turns into vector
 // instructions.
-ghost use Rattle.std.specs.Prelude.{◌≡◌, ◌+◌, ◌*◌, ◌/◌, ◌<◌, ◌≤◌, ℕ, EachIndex, length, slice_index};
-ghost use Rattle.clip_term.specs.Soft.{near};
+ghost use Rattle.std.specs.Prelude.{◌≡◌, ◌+◌, ◌*◌, ◌/◌, ◌<◌, ◌≤◌, ℕ, EachIndex, length, slice_index, [], ◌∷◌};
+ghost use Rattle.fv_plane.specs.Bytes.{wide_samples};
+ghost use Rattle.clip_term.specs.Soft.{near, softened};
+
+use fv_plane::wide_sample;
 
 // A sample that differs by more than the threshold counts as the middle one.
 #[inline(always)]
@@ -12,6 +15,89 @@ fn near(threshold: u16, middle: u16, sample: u16) -> u16
         sample
     } else {
         middle
+    }
+}
+
+// The mean of three samples beside the second.
+#[inline(always)]
+fn mean_of_three(threshold: u16, a: u16, middle: u16, b: u16) -> u16
+    requires { 0 < threshold }
+    ensures { result ≡ softened 1 threshold middle (a ∷ middle ∷ b ∷ []) }
+{
+    let sum = near(threshold, middle, a) as u32
+        + near(threshold, middle, middle) as u32
+        + near(threshold, middle, b) as u32;
+    ((sum + 1) / 3) as u16
+}
+
+// The mean of five samples beside the third.
+#[inline(always)]
+fn mean_of_five(threshold: u16, a: u16, b: u16, middle: u16, c: u16, d: u16) -> u16
+    requires { 0 < threshold }
+    ensures { result ≡ softened 2 threshold middle (a ∷ b ∷ middle ∷ c ∷ d ∷ []) }
+{
+    let sum = near(threshold, middle, a) as u32
+        + near(threshold, middle, b) as u32
+        + near(threshold, middle, middle) as u32
+        + near(threshold, middle, c) as u32
+        + near(threshold, middle, d) as u32;
+    ((sum + 2) / 5) as u16
+}
+
+// The sample in column `x` of the bytes of a row.
+#[inline(always)]
+fn sample(row: &[u8], x: usize) -> u16
+    requires { 2 * x + 1 < length row.now }
+    ensures { result ≡ slice_index (wide_samples row.now) x }
+{
+    wide_sample(row, x)
+}
+
+/// The means of the samples of three rows of bytes, beside the second.
+pub fn soften_three(a: &[u8], row: &[u8], b: &[u8], threshold: u16, out: &mut [u16])
+    requires some { 0 < threshold }
+    requires a { length a.now ≡ length out.old * 2 }
+    requires row { length row.now ≡ length out.old * 2 }
+    requires b { length b.now ≡ length out.old * 2 }
+    ensures { EachIndex out.new (λ x. slice_index out.new x ≡ softened 1 threshold (slice_index (wide_samples row.now) x)
+        (slice_index (wide_samples a.now) x ∷ slice_index (wide_samples row.now) x
+        ∷ slice_index (wide_samples b.now) x ∷ [])) }
+{
+    for x in 0..out.len() {
+        out[x] = mean_of_three(threshold, sample(a, x), sample(row, x), sample(b, x));
+    }
+}
+
+/// The means of the samples of five rows of bytes, beside the third.
+pub fn soften_five(
+    a: &[u8],
+    b: &[u8],
+    row: &[u8],
+    c: &[u8],
+    d: &[u8],
+    threshold: u16,
+    out: &mut [u16],
+)
+    requires some { 0 < threshold }
+    requires a { length a.now ≡ length out.old * 2 }
+    requires b { length b.now ≡ length out.old * 2 }
+    requires row { length row.now ≡ length out.old * 2 }
+    requires c { length c.now ≡ length out.old * 2 }
+    requires d { length d.now ≡ length out.old * 2 }
+    ensures { EachIndex out.new (λ x. slice_index out.new x ≡ softened 2 threshold (slice_index (wide_samples row.now) x)
+        (slice_index (wide_samples a.now) x ∷ slice_index (wide_samples b.now) x ∷ slice_index (wide_samples row.now) x
+        ∷ slice_index (wide_samples c.now) x ∷ slice_index (wide_samples d.now) x ∷ [])) }
+{
+    for x in 0..out.len() {
+        let middle = sample(row, x);
+        out[x] = mean_of_five(
+            threshold,
+            sample(a, x),
+            sample(b, x),
+            middle,
+            sample(c, x),
+            sample(d, x),
+        );
     }
 }
 

@@ -1,6 +1,7 @@
 // Filters that make each row of a picture by itself.
-ghost use Rattle.std.specs.Prelude.{◌≡◌, ◌<◌, ◌≤◌, max, IfOk, OnOk, OnErr, false, length};
+ghost use Rattle.std.specs.Prelude.{◌≡◌, ◌<◌, ◌≤◌, ◌*◌, max, IfOk, OnOk, OnErr, false, length};
 ghost use Rattle.std.specs.List.{All};
+ghost use Rattle.fv_plane.specs.Bytes.{wide_samples};
 ghost use Rattle.fv_plane.specs.Format.{planes, plane_width, plane_height, row_bytes, sample_bytes};
 ghost use Rattle.fv_plane.specs.Picture.{IsPicture, row_of};
 ghost use Rattle.clip_term.specs.declared.op.SoftOp.{SoftOp};
@@ -33,6 +34,30 @@ pub fn row_in(inputs: &[Frame], i: usize, plane: u32, y: u32) -> &[u8]
 {
     let input = &inputs[i];
     narrow_row(input, plane, y)
+}
+
+/// The bytes of a row of one of the inputs, of samples of two bytes.
+pub fn wide_row_in(inputs: &[Frame], i: usize, plane: u32, y: u32) -> &[u8]
+    requires input { i < length inputs.now }
+    requires alike { HaveShape (shape_of inputs.now) inputs.now }
+    requires wide { sample_bytes (shape_of inputs.now) ≡ 2 }
+    requires plane { plane < planes (shape_of inputs.now).kind }
+    requires inside { y < plane_height (shape_of inputs.now) plane }
+    ensures row { wide_samples result.now ≡ row_in inputs.now i plane y }
+    ensures whole { length result.now ≡ plane_width (shape_of inputs.now) plane * 2 }
+{
+    wide_row(&inputs[i], plane, y)
+}
+
+// The bytes of a row of samples of two bytes.
+fn wide_row(input: &Frame, plane: u32, y: u32) -> &[u8]
+    requires wide { sample_bytes input.now.shape ≡ 2 }
+    requires plane { plane < planes input.now.shape.kind }
+    requires inside { y < plane_height input.now.shape plane }
+    ensures row { wide_samples result.now ≡ row_of input.now.planes plane y }
+    ensures whole { length result.now ≡ plane_width input.now.shape plane * 2 }
+{
+    input.row(plane, y)
 }
 
 /// Reads a row of one of the inputs, of samples of two bytes.

@@ -1,14 +1,14 @@
 // Means of frames that follow each other, where a sample has two bytes.
-ghost use Rattle.std.specs.Prelude.{◌≡◌, ◌<◌, ◌≤◌, ◌*◌, length, EachIndex, slice_index, vec_len};
+ghost use Rattle.std.specs.Prelude.{◌≡◌, ◌<◌, ◌≤◌, ◌*◌, ◌/◌, length, EachIndex, slice_index, vec_len};
 ghost use Rattle.fv_plane.specs.Bytes.{wide_bytes};
 ghost use Rattle.fv_plane.specs.Format.{IsLegal, plane_width, sample_bytes, scale};
 ghost use Rattle.flt_soft.specs.Pictures.{AreAround, means_at, row_of_means, shape_of};
 
-use crate::rows::read_row_in;
-use flt_rows::wide::{add_near, mean_row};
+use crate::rows::{read_row_in, wide_row_in};
+use flt_rows::wide::{add_near, mean_row, soften_five, soften_three};
 use fv_plane::{Frame, Shape, write_samples};
 
-// A row of means of samples of two bytes, by their sums, in the place of `row`.
+// A row of means of samples of two bytes of seven to fifteen frames, by their sums, in the place of `row`.
 fn mean_wide(
     inputs: &[Frame],
     plane: u32,
@@ -19,6 +19,7 @@ fn mean_wide(
     sums: &mut [u32],
 )
     requires some { 0 < threshold }
+    requires many { 3 ≤ length inputs.now / 2 }
     requires around { AreAround inputs.now plane y }
     requires wide { sample_bytes (shape_of inputs.now) ≡ 2 }
     requires middle { length middle.old ≡ plane_width (shape_of inputs.now) plane }
@@ -33,13 +34,56 @@ fn mean_wide(
         add_near(middle, row, threshold, sums);
     }
     match inputs.len() {
-        3 => mean_row::<3>(sums, row),
-        5 => mean_row::<5>(sums, row),
         7 => mean_row::<7>(sums, row),
         9 => mean_row::<9>(sums, row),
         11 => mean_row::<11>(sums, row),
         13 => mean_row::<13>(sums, row),
         _ => mean_row::<15>(sums, row),
+    }
+}
+
+// A row of means of samples of two bytes. The other rows to work in may be wider.
+fn fill_means(
+    inputs: &[Frame],
+    plane: u32,
+    y: u32,
+    threshold: u16,
+    middle: &mut Vec<u16>,
+    row: &mut [u16],
+    sums: &mut Vec<u32>,
+)
+    requires some { 0 < threshold }
+    requires around { AreAround inputs.now plane y }
+    requires wide { sample_bytes (shape_of inputs.now) ≡ 2 }
+    requires row { length row.old ≡ plane_width (shape_of inputs.now) plane }
+    requires middle { length row.old ≤ vec_len middle.old }
+    requires sums { length row.old ≤ vec_len sums.old }
+    ensures row { EachIndex row.new (λ x. slice_index row.new x ≡ means_at inputs.now threshold plane x y) }
+    ensures middle { vec_len middle.new ≡ vec_len middle.old }
+    ensures sums { vec_len sums.new ≡ vec_len sums.old }
+{
+    match inputs.len() {
+        3 => soften_three(
+            wide_row_in(inputs, 0, plane, y),
+            wide_row_in(inputs, 1, plane, y),
+            wide_row_in(inputs, 2, plane, y),
+            threshold,
+            row,
+        ),
+        5 => soften_five(
+            wide_row_in(inputs, 0, plane, y),
+            wide_row_in(inputs, 1, plane, y),
+            wide_row_in(inputs, 2, plane, y),
+            wide_row_in(inputs, 3, plane, y),
+            wide_row_in(inputs, 4, plane, y),
+            threshold,
+            row,
+        ),
+        _ => {
+            let (middle, _) = middle.as_mut_slice().split_at_mut(row.len());
+            let (sums, _) = sums.as_mut_slice().split_at_mut(row.len());
+            mean_wide(inputs, plane, y, threshold, middle, row, sums);
+        }
     }
 }
 
@@ -67,10 +111,8 @@ pub fn soften_wide(
     ensures sums { vec_len sums.new ≡ vec_len sums.old }
 {
     let width = out.len() / 2;
-    let (middle, _) = middle.as_mut_slice().split_at_mut(width);
     let (row, _) = row.as_mut_slice().split_at_mut(width);
-    let (sums, _) = sums.as_mut_slice().split_at_mut(width);
-    mean_wide(inputs, plane, y, threshold, middle, row, sums);
+    fill_means(inputs, plane, y, threshold, middle, row, sums);
     write_samples(row, out);
 }
 

@@ -1,10 +1,7 @@
-use Rattle.std.proofs.Common.{◌≡◌, ℕ, ◌+◌, ◌*◌, ◌/◌, ◌%◌, ◌<◌, get_or}
+use Rattle.std.proofs.Common.{◌≡◌, ℕ, ◌<◌, get_or}
 use Rattle.fv_plane.proofs.WideLemmas.{pair}
 use Rattle.flt_merge.specs.Rows.{mean}
 use Rattle.flt_merge.proofs.kernels.merge_wide_row.Given as goal
 
 abbrev pub invariant-loop-x : goal.invariant-loop-x
-invariant-loop-x l = record {
-  even : (k : ℕ) → k < l.x → get_or l.out (2 * k) 0 ≡ mean (pair l.a k) (pair l.b k) % 256;
-  odd : (k : ℕ) → k < l.x → get_or l.out (2 * k + 1) 0 ≡ mean (pair l.a k) (pair l.b k) / 256;
-}
+invariant-loop-x l = (k : ℕ) → k < l.x → get_or l.out k 0 ≡ mean (pair l.a k) (pair l.b k)

@@ -4,7 +4,7 @@ use Rattle.fv_plane.specs.Bytes.{row_of_bytes}
 use Rattle.fv_plane.specs.Format.{row_bytes}
 use Rattle.fv_plane.proofs.FillLemmas.{filled_put, filled_plane, filled_done}
 use Rattle.flt_merge.specs.Rows.{rows_of_means, look_of_means}
-use Rattle.flt_merge.proofs.RowLemmas.{means_listed, means_again, means_fit, whole_row}
+use Rattle.flt_merge.proofs.RowLemmas.{means_listed, means_again, means_fit}
 use Rattle.flt_merge.proofs.merge.merge.Goals as goal
 
 pub fill_means-requires-clause-a : goal.fill_means-requires-clause-a
@@ -14,15 +14,13 @@ pub fill_means-requires-clause-b : goal.fill_means-requires-clause-b
 fill_means-requires-clause-b c =
     c.row-in-loop-y.ensures.whole ∙ ap (λ (s : Shape). row_bytes s c.loop-plane.plane) (c.requires ∙ sym c.shape-shape.ensures.shape) ∙ sym c.loop-y.invariant.long
 
-pub fill_means-requires-clause-whole : goal.fill_means-requires-clause-whole
-fill_means-requires-clause-whole c = rw c.loop-y.invariant.long (whole_row c.shape-shape.result c.loop-plane.plane)
-
 pub loop-y-preserved : goal.loop-y-preserved
 loop-y-preserved c =
     let a = c.args.a.now in
     let b = c.args.b.now in
     let made = c.loop-y.made.shape in
     record {
+      samples = c.fill_means.auto.samples ∙ c.loop-y.invariant.samples;
       long = c.fill_means.auto.out ∙ c.loop-y.invariant.long;
       filled = filled_put (rows_of_means a b) c.shape-shape.result c.loop-y.made c.put_row.new.self c.loop-plane.plane c.loop-y.y (row_of_bytes made c.fill_means.new.out) c.loop-y.invariant.filled
           c.put_row.ensures.sizes c.put_row.ensures.shape c.put_row.ensures.rows

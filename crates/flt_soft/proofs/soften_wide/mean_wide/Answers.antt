@@ -30,32 +30,6 @@ loop-i-preserved c =
       few = λ x. omega (arith, c.add_near.ensures.few x, c.loop-i.invariant.few x);
     }
 
-pub returns-in-3 : goal.returns-in-3
-returns-in-3 c =
-    let inputs : List Picture = c.args.inputs.now in
-    let half : ℕ = length inputs / 2 in
-    let count : 3 ≡ 2 * half + 1 = omega arith in
-    λ x h.
-    let middle : ℕ = look_at (map look_in inputs) half c.args.plane x c.args.y in
-    let all : List ℕ = nears c.args.threshold middle inputs c.args.plane x c.args.y in
-    let long = length-nears c.args.threshold middle inputs c.args.plane x c.args.y in
-    let inside : x < length c.loop-i.sums = omega arith in
-    let total : get_or c.loop-i.sums x 0 ≡ sum all = c.loop-i.invariant.made x inside ∙ ap (λ l. sum l) (take_all c.loop-i.i all (omega (arith, long, c.loop-i-test.false))) in
-    c.mean_row.ensures x h ∙ mean_is half c.args.threshold middle 3 (get_or c.loop-i.sums x 0) (samples_at (map look_in inputs) c.args.plane x c.args.y) c.requires.some count total
-
-pub returns-in-5 : goal.returns-in-5
-returns-in-5 c =
-    let inputs : List Picture = c.args.inputs.now in
-    let half : ℕ = length inputs / 2 in
-    let count : 5 ≡ 2 * half + 1 = omega arith in
-    λ x h.
-    let middle : ℕ = look_at (map look_in inputs) half c.args.plane x c.args.y in
-    let all : List ℕ = nears c.args.threshold middle inputs c.args.plane x c.args.y in
-    let long = length-nears c.args.threshold middle inputs c.args.plane x c.args.y in
-    let inside : x < length c.loop-i.sums = omega arith in
-    let total : get_or c.loop-i.sums x 0 ≡ sum all = c.loop-i.invariant.made x inside ∙ ap (λ l. sum l) (take_all c.loop-i.i all (omega (arith, long, c.loop-i-test.false))) in
-    c.mean_row-in-5.ensures x h ∙ mean_is half c.args.threshold middle 5 (get_or c.loop-i.sums x 0) (samples_at (map look_in inputs) c.args.plane x c.args.y) c.requires.some count total
-
 pub returns-in-7 : goal.returns-in-7
 returns-in-7 c =
     let inputs : List Picture = c.args.inputs.now in
@@ -67,7 +41,7 @@ returns-in-7 c =
     let long = length-nears c.args.threshold middle inputs c.args.plane x c.args.y in
     let inside : x < length c.loop-i.sums = omega arith in
     let total : get_or c.loop-i.sums x 0 ≡ sum all = c.loop-i.invariant.made x inside ∙ ap (λ l. sum l) (take_all c.loop-i.i all (omega (arith, long, c.loop-i-test.false))) in
-    c.mean_row-in-7.ensures x h ∙ mean_is half c.args.threshold middle 7 (get_or c.loop-i.sums x 0) (samples_at (map look_in inputs) c.args.plane x c.args.y) c.requires.some count total
+    c.mean_row.ensures x h ∙ mean_is half c.args.threshold middle 7 (get_or c.loop-i.sums x 0) (samples_at (map look_in inputs) c.args.plane x c.args.y) c.requires.some count total
 
 pub returns-in-9 : goal.returns-in-9
 returns-in-9 c =
