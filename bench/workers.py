@@ -1,12 +1,13 @@
 #!/usr/bin/env python3
-"""How long several workers take beside one: frames of 1920x1080 into a pipe, which cat reads.
+"""How long each filter takes, by one worker and by several: frames of 1920x1080 into a pipe, which cat reads.
 
-    bench/workers.py [--frames N] [--rounds N] [--threads 1,2,3,4] [--only NAME,..] [--busy N] [PROGRAM]
+    bench/workers.py [--frames N] [--rounds N] [--threads 1,2,3,4] [--bits 8] [--only NAME,..] [--busy N] [PROGRAM]
 
 PROGRAM is bin/avsserve, which is built, where none is named. For each script and each number of workers it prints the median
 wall time, the processor time and the page faults of the program, and the first two also by what one worker took in the same
-run; the runs of one script alternate. ffmpeg does the same where it is installed, with its threads. --busy N keeps N other
-processes busy meanwhile. The files are made once, in avsserve-bench in the temporary folder.
+run; the runs of one script alternate. ffmpeg does the same where it is installed, with its threads. --bits B has samples of B
+bits, 8 to 16. --busy N keeps N other processes busy meanwhile. The files are made once, in avsserve-bench in the temporary
+folder.
 """
 import argparse, os, random, resource, shutil, statistics, subprocess, tempfile, time
 
@@ -15,10 +16,22 @@ DATA = os.path.join(tempfile.gettempdir(), "avsserve-bench")
 # Each script, and what ffmpeg is asked for.
 SCRIPTS = {
     "copy": ('Y4MSource("%s")\n', []),
+    "trim": ('Y4MSource("%s").Trim(10, 49)\n', ["-vf", "trim=start_frame=10:end_frame=50,setpts=PTS-STARTPTS"]),
     "flip": ('Y4MSource("%s").FlipVertical\n', ["-vf", "vflip"]),
+    "mirror": ('Y4MSource("%s").FlipHorizontal\n', ["-vf", "hflip"]),
+    "turn": ('Y4MSource("%s").TurnRight\n', ["-vf", "transpose=1"]),
+    "crop": ('Y4MSource("%s").Crop(8, 132, -8, -132)\n', ["-vf", "crop=1904:816:8:132"]),
+    "borders": ('Y4MSource("%s").AddBorders(0, 132, 0, 132)\n', ["-vf", "pad=1920:1344:0:132"]),
+    "invert": ('Y4MSource("%s").Invert\n', ["-vf", "negate"]),
+    "limiter": ('Y4MSource("%s").Limiter\n', ["-vf", "limiter=16:235"]),
+    "grey": ('Y4MSource("%s").Greyscale\n', ["-vf", "hue=s=0"]),
+    "merge": ('a = Y4MSource("%s")\nMerge(a, a.FlipHorizontal)\n',
+              ["-filter_complex", "[0]split[x][y];[y]hflip[z];[x][z]blend=all_mode=average"]),
     "soften": ('Y4MSource("%s").TemporalSoften(1, 255, 255)\n', ["-vf", "tmix=frames=3"]),
     "convolution": ('Y4MSource("%s").GeneralConvolution(0, "1 2 1 2 4 2 1 2 1")\n',
                     ["-vf", "convolution=" + ":".join(["1 2 1 2 4 2 1 2 1"] * 4 + ["1/16"] * 4)]),
+    "stack": ('a = Y4MSource("%s")\nStackVertical(a, a.FlipVertical)\n',
+              ["-filter_complex", "[0]split[x][y];[y]vflip[z];[x][z]vstack"]),
     "script": ('SetFilterMTMode("DEFAULT_MT_MODE", 2)\nY4MSource("%s")\nCrop(0, 132, 0, -132)\nAddBorders(0, 132, 0, 132)\n'
                'Limiter()\na = last\nMerge(a, a.FlipHorizontal)\nTemporalSoften(1, 8, 8)\nGreyscale\n',
                ["-filter_complex", "[0]crop=1920:816:0:132,pad=1920:1080:0:132,limiter=16:235,split[x][y];[y]hflip[z];"
@@ -26,15 +39,21 @@ SCRIPTS = {
 }
 
 
-def stream(path, frames):
+def stream(path, frames, bits):
     """A stream of 1920x1080 in 4:2:0 whose samples are random."""
     if os.path.exists(path):
         return
-    rng = random.Random(1)
+    rng, count = random.Random(1), 1920 * 1080 * 3 // 2
     with open(path + ".part", "wb") as out:
-        out.write(b"YUV4MPEG2 W1920 H1080 F25:1 Ip A1:1 C420jpeg\n")
+        out.write(b"YUV4MPEG2 W1920 H1080 F25:1 Ip A1:1 C%b\n" % (b"420jpeg" if bits == 8 else b"420p%d" % bits))
         for _ in range(frames):
-            out.write(b"FRAME\n" + rng.randbytes(1920 * 1080 * 3 // 2))
+            samples = rng.randbytes(count)
+            if bits > 8:
+                wide = bytearray(2 * count)
+                wide[::2] = samples
+                wide[1::2] = rng.randbytes(count).translate(bytes(byte & (1 << bits - 8) - 1 for byte in range(256)))
+                samples = bytes(wide)
+            out.write(b"FRAME\n" + samples)
     os.rename(path + ".part", path)
 
 
@@ -57,6 +76,7 @@ def main():
     options.add_argument("--frames", type=int, default=300)
     options.add_argument("--rounds", type=int, default=5)
     options.add_argument("--threads", default="1,2,3,4")
+    options.add_argument("--bits", type=int, default=8)
     options.add_argument("--only", default="")
     options.add_argument("--busy", type=int, default=0)
     options.add_argument("program", nargs="?", metavar="PROGRAM")
@@ -65,8 +85,9 @@ def main():
         subprocess.run([os.path.join(ROOT, "build")], check=True, stdout=subprocess.DEVNULL)
     program = os.path.abspath(options.program or os.path.join(ROOT, "bin", "avsserve"))
     os.makedirs(DATA, exist_ok=True)
-    clip = "workers%d.y4m" % options.frames
-    stream(os.path.join(DATA, clip), options.frames)
+    clip = "frames%d-%d.y4m" % (options.frames, options.bits)
+    stream(os.path.join(DATA, clip), options.frames, options.bits)
+    pixels = "yuv420p" if options.bits == 8 else "yuv420p%dle" % options.bits
     others = [subprocess.Popen(["python3", "-c", "while True: pass"]) for _ in range(options.busy)]
     try:
         for name, (script, peer) in SCRIPTS.items():
@@ -77,7 +98,7 @@ def main():
             commands = {int(count): [program, "render", "workers.avs", "--threads", count] for count in options.threads.split(",")}
             if shutil.which("ffmpeg"):
                 commands["ffmpeg"] = ["ffmpeg", "-nostdin", "-loglevel", "error", "-i", clip, *peer, "-f", "yuv4mpegpipe",
-                                      "-pix_fmt", "yuv420p", "-y", "-"]
+                                      "-strict", "-1", "-pix_fmt", pixels, "-y", "-"]
             found = {count: [] for count in commands}
             for _ in range(options.rounds):
                 for count, argv in commands.items():

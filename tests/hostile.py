@@ -9,7 +9,7 @@ plainly, from the format's description: the fault that is said, or the text that
 frame and may use 512 MiB of memory in all: room for a frame of the largest size twice, for the offsets of the most frames,
 and for the journal of a copy of them.
 """
-import argparse, os, random, re, resource, subprocess, sys, tempfile
+import argparse, os, random, re, resource, struct, subprocess, sys, tempfile
 
 ROOT = os.path.dirname(os.path.dirname(os.path.abspath(__file__)))
 PROGRAM = os.environ.get("AVSSERVE", os.path.join(ROOT, "bin", "avsserve"))
@@ -17,6 +17,12 @@ COLOURS = {
     b"420jpeg": (2, 2, 3), b"420mpeg2": (2, 2, 3), b"420paldv": (2, 2, 3), b"420": (2, 2, 3),
     b"422": (2, 1, 3), b"444": (1, 1, 3), b"411": (4, 1, 3), b"mono": (1, 1, 1),
 }
+# The bits of those whose samples have two bytes.
+BITS = {}
+for base, shape in ((b"420p", (2, 2, 3)), (b"422p", (2, 1, 3)), (b"444p", (1, 1, 3)), (b"mono", (1, 1, 1))):
+    for bits in (10, 12, 14, 16):
+        COLOURS[base + b"%d" % bits] = shape
+        BITS[base + b"%d" % bits] = bits
 MAX = 2**31 - 1
 
 
@@ -38,6 +44,12 @@ def gcd(a, b):
     while b:
         a, b = b, a % b
     return a
+
+
+def frame_size(name, width, height):
+    """The bytes of a frame."""
+    sub_w, sub_h, planes = COLOURS[name]
+    return (width * height + (planes - 1) * (width // sub_w) * (height // sub_h)) * (2 if name in BITS else 1)
 
 
 def head(data):
@@ -74,17 +86,25 @@ def head(data):
     name = values.get(b"C", b"420jpeg")
     if name not in COLOURS:
         return "UnknownColour"
-    sub_w, sub_h, planes = COLOURS[name]
+    sub_w, sub_h, _ = COLOURS[name]
     if not (1 <= width <= 65535 and 1 <= height <= 65535) or width % sub_w or height % sub_h:
         return "BadSize"
-    size = width * height + (planes - 1) * (width // sub_w) * (height // sub_h)
+    size = frame_size(name, width, height)
     if size > 2**24:
         return "TooLarge"
     field = values.get(b"I", b"?")
     field = field.decode() if field in (b"p", b"t", b"b") else "?"
     text = "YUV4MPEG2 W%d H%d F%d:%d I%s A%d:%d C%s\n" % (
         width, height, rate[0] // divisor, rate[1] // divisor, field, par[0], par[1], name.decode())
-    return text.encode(), size, end + 1
+    return text.encode(), size, end + 1, BITS.get(name, 8)
+
+
+def in_range(samples, bits):
+    """The samples of a frame as they are written: one of two bytes that is over the largest is the largest."""
+    if bits in (8, 16):
+        return samples
+    numbers = (min(number, (1 << bits) - 1) for (number,) in struct.iter_unpack("<H", samples))
+    return b"".join(struct.pack("<H", number) for number in numbers)
 
 
 def expected(data):
@@ -92,7 +112,7 @@ def expected(data):
     found = head(data)
     if isinstance(found, str):
         return found
-    text, size, place = found
+    text, size, place, bits = found
     parts = [text]
     k = 0
     while place < len(data):
@@ -108,7 +128,7 @@ def expected(data):
         start = place + end + 1
         if len(data) - start < size:
             return "Truncated %d" % k
-        parts += [b"FRAME\n", data[start:start + size]]
+        parts += [b"FRAME\n", in_range(data[start:start + size], bits)]
         place = start + size
         k += 1
     return b"".join(parts) if k else "NoFrames"
@@ -116,9 +136,9 @@ def expected(data):
 
 def sound(rng):
     name = rng.choice(list(COLOURS))
-    sub_w, sub_h, planes = COLOURS[name]
+    sub_w, sub_h, _ = COLOURS[name]
     width, height = sub_w * rng.randint(1, 9), sub_h * rng.randint(1, 9)
-    size = width * height + (planes - 1) * (width // sub_w) * (height // sub_h)
+    size = frame_size(name, width, height)
     parameters = [b"W%d" % width, b"H%d" % height]
     if rng.random() < 0.9:
         parameters.append(b"C" + name)
@@ -149,7 +169,7 @@ def mutated(rng):
         elif kind == 3:
             del data[place:]
         elif kind == 4:
-            data[place:place] = rng.choice([b" ", b"\n", b"FRAME", b":", b"W", b"4294967297", b"99999999999", b"0", b"C420", b" F0:0", b" F1:0", b" H65536"])
+            data[place:place] = rng.choice([b" ", b"\n", b"FRAME", b":", b"W", b"4294967297", b"99999999999", b"0", b"C420", b"p10", b" F0:0", b" F1:0", b" H65536"])
         elif kind == 5:
             data[place:place] = rng.choice([b" X", b"FRAME X"]) + b"z" * rng.choice([100, 4000, 4080, 4090, 5000])
         elif kind == 6 and place < len(data):

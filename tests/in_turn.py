@@ -65,7 +65,12 @@ Merge(last, b).MergeLuma(c).MergeChroma(d).TemporalSoften(1, 255, 255).GeneralCo
 SelectEvery(2, 0, 1).Interleave(b.Reverse).SelectEven.DuplicateFrame(0, 1).DeleteFrame(1).FreezeFrame(0, 1, 2).Loop(2, 1, 2)
 AssumeFPS(25).ChangeFPS(50).SelectOdd.ApplyRange(1, 2, "Invert", "Y").ApplyRange(0, 1, "Twice")
 e = BlankClip(last, length=2, color_yuv=$808080)
+w = Merge(b.ConvertBits(10).TemporalSoften(1, 255, 255).FlipHorizontal, c.ConvertBits(10).Invert("Y").Limiter.SwapUV)
+w = StackVertical(w.TurnLeft.TurnRight, w.Greyscale).Crop(0, 0, 0, 4).AddBorders(2, 0, 0, 0, $102030).LetterBox(0, 0, 2, 0)
+w = w.Crop(2, 0, 8, 4).TemporalSoften(3, 20, 20).GeneralConvolution(1, "1 2 1 2 4 2 1 2 1").ConvertBits(8)
+Assert(w.BitsPerComponent == 8 && w.Width == 8 && w.Height == 4)
 last = Eval("last.Shorter(by = 1) ++ e") + c.AssumeFPS(last.FrameRateNumerator, last.FrameRateDenominator)
+last = last + w.Trim(0, -1).AssumeFPS(last.FrameRateNumerator, last.FrameRateDenominator)
 SizeOf = last.Width * last.Height
 return SizeOf == 32 ? last.Prefetch(2, 3) : a
 '''

@@ -37,16 +37,17 @@ JOINS = [
 ]
 
 
-def stream(rng, width, height, frames):
-    """A stream of 4:2:0 whose samples are chosen at random."""
-    size = width * height * 3 // 2
-    head = f"YUV4MPEG2 W{width} H{height} F25:1 Ip A1:1 C420jpeg\n".encode()
+def stream(rng, width, height, bits, frames):
+    """A stream of 4:2:0 whose samples are chosen at random. Some of more than 8 bits are over the largest one."""
+    size = width * height * 3 // 2 * (1 if bits == 8 else 2)
+    name = "420jpeg" if bits == 8 else f"420p{bits}"
+    head = f"YUV4MPEG2 W{width} H{height} F25:1 Ip A1:1 C{name}\n".encode()
     return head + b"".join(b"FRAME\n" + rng.randbytes(size) for _ in range(frames))
 
 
 def script(rng):
-    """The text of a script, and the names of its sources with the numbers of their frames."""
-    width, height = rng.choice([(16, 16), (32, 16), (48, 32)])
+    """The text of a script, the size and the bits of its clips, and the names of its sources with the numbers of their frames."""
+    width, height, bits = rng.choice([(16, 16, 8), (32, 16, 8), (48, 32, 8), (32, 16, 10), (16, 16, 16)])
     sources = [(f"{name}.y4m", rng.randint(2, 12)) for name in "abc"[: rng.randint(1, 3)]]
     lines = [f'{name[0]} = Y4MSource("{name}")' for name, _ in sources]
     lines.append("a")
@@ -66,7 +67,7 @@ def script(rng):
     if rng.random() < 0.5:
         modes.append(f'SetFilterMTMode("DEFAULT_MT_MODE", {rng.randint(1, 3)})')
     crew = rng.choice(["", f"Prefetch({rng.randint(1, 16)})", f"Prefetch({rng.randint(1, 16)}, {rng.randint(1, 32)})"])
-    return "\n".join(modes + lines + [crew]) + "\n", width, height, sources
+    return "\n".join(modes + lines + [crew]) + "\n", (width, height, bits), sources
 
 
 def run(words, folder, seconds):
@@ -92,10 +93,10 @@ def closed_early(words, folder, seconds, rng):
 
 def one(rng, folder, seconds):
     """What is wrong with a render of a random script by several workers, or None."""
-    text, width, height, sources = script(rng)
+    text, shape, sources = script(rng)
     for name, frames in sources:
         with open(os.path.join(folder, name), "wb") as file:
-            file.write(stream(rng, width, height, frames))
+            file.write(stream(rng, *shape, frames))
     with open(os.path.join(folder, "s.avs"), "w") as file:
         file.write(text)
     plain = run(["render", "s.avs", "--plain"], folder, seconds)
