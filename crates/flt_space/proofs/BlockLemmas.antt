@@ -1,10 +1,52 @@
 -- A block of 16 rows of 16 samples, transposed by four steps.
-use Rattle.std.proofs.Common.{◌≡◌, ◌∙◌, ℕ, ◌+◌, ◌*◌, ◌-◌, ◌/◌, ◌%◌, ◌<◌, ◌≤◌, List, ◌++◌, length, take, drop, get_or, get_or-take, length-append, length-take-le, length-drop, ap, sym, arith, ⊎_elim}
+use Rattle.std.proofs.Common.{◌≡◌, ◌∙◌, ℕ, ◌+◌, ◌*◌, ◌-◌, ◌/◌, ◌%◌, ◌<◌, ◌≤◌, List, [], ◌∷◌, ◌++◌, length, take, drop, get_or, get_or-take, length-append, length-take-le, length-drop, ap, sym, refl, arith, ⊎_elim}
 use Rattle.std.proofs.lemmas.Bool.{cases_lt}
 use Rattle.std.proofs.lemmas.List.{get_or_append_left, get_or-append_right, get_or-drop}
 use Rattle.std.proofs.lemmas.Nat.{mul-le}
+use Rattle.std.proofs.lemmas.Simd.{put_chunk_whole}
 use Rattle.std.proofs.Math.Nat.{suc-mul}
+use borrow.Author.Count.{below_none, below_more}
 use borrow.Rule.Slice.PartMut.{put_mid}
+use lib.Lanes.{put_chunk}
+
+-- ---- sixteen samples and sixteen others, sample by sample in turn
+
+abbrev pub low_of : List ℕ → List ℕ
+low_of pair = get_or pair 0 0 ∷ get_or pair 16 0 ∷ get_or pair 1 0 ∷ get_or pair 17 0 ∷ get_or pair 2 0 ∷ get_or pair 18 0 ∷ get_or pair 3 0 ∷ get_or pair 19 0 ∷ get_or pair 4 0 ∷ get_or pair 20 0 ∷ get_or pair 5 0 ∷ get_or pair 21 0 ∷ get_or pair 6 0 ∷ get_or pair 22 0 ∷ get_or pair 7 0 ∷ get_or pair 23 0 ∷ []
+
+abbrev pub high_of : List ℕ → List ℕ
+high_of pair = get_or pair 8 0 ∷ get_or pair 24 0 ∷ get_or pair 9 0 ∷ get_or pair 25 0 ∷ get_or pair 10 0 ∷ get_or pair 26 0 ∷ get_or pair 11 0 ∷ get_or pair 27 0 ∷ get_or pair 12 0 ∷ get_or pair 28 0 ∷ get_or pair 13 0 ∷ get_or pair 29 0 ∷ get_or pair 14 0 ∷ get_or pair 30 0 ∷ get_or pair 15 0 ∷ get_or pair 31 0 ∷ []
+
+even_lanes : (pair : List ℕ) (k : ℕ) → k < 16 → get_or (low_of pair ++ high_of pair) (2 * k) 0 ≡ get_or pair (k) 0
+even_lanes pair =
+    let P : ℕ → Type 0 = λ k. get_or (low_of pair ++ high_of pair) (2 * k) 0 ≡ get_or pair (k) 0 in
+    below_more P 15 (below_more P 14 (below_more P 13 (below_more P 12 (below_more P 11 (below_more P 10 (below_more P 9 (below_more P 8 (below_more P 7 (below_more P 6 (below_more P 5 (below_more P 4 (below_more P 3 (below_more P 2 (below_more P 1 (below_more P 0 (below_none P) refl) refl) refl) refl) refl) refl) refl) refl) refl) refl) refl) refl) refl) refl) refl) refl
+
+odd_lanes : (pair : List ℕ) (k : ℕ) → k < 16 → get_or (low_of pair ++ high_of pair) (2 * k + 1) 0 ≡ get_or pair (16 + k) 0
+odd_lanes pair =
+    let P : ℕ → Type 0 = λ k. get_or (low_of pair ++ high_of pair) (2 * k + 1) 0 ≡ get_or pair (16 + k) 0 in
+    below_more P 15 (below_more P 14 (below_more P 13 (below_more P 12 (below_more P 11 (below_more P 10 (below_more P 9 (below_more P 8 (below_more P 7 (below_more P 6 (below_more P 5 (below_more P 4 (below_more P 3 (below_more P 2 (below_more P 1 (below_more P 0 (below_none P) refl) refl) refl) refl) refl) refl) refl) refl) refl) refl) refl) refl) refl) refl) refl) refl
+
+pub record IsWoven (front back out : List ℕ) : Type 0 where
+  pub whole : length out ≡ 32
+  pub even : (k : ℕ) → k < 16 → get_or out (2 * k) 0 ≡ get_or front k 0
+  pub odd : (k : ℕ) → k < 16 → get_or out (2 * k + 1) 0 ≡ get_or back k 0
+
+pub woven : (start end front back : List ℕ) → length start ≡ 16 → length end ≡ 16 → length front ≡ 16 → length back ≡ 16
+    → IsWoven front back (put_chunk 0 start (low_of (take 16 front ++ take 16 back)) ++ put_chunk 0 end (high_of (take 16 front ++ take 16 back)))
+woven start end front back first last long same =
+    let pair : List ℕ = take 16 front ++ take 16 back in
+    let out : put_chunk 0 start (low_of pair) ++ put_chunk 0 end (high_of pair) ≡ low_of pair ++ high_of pair
+    = ap (λ l. l ++ put_chunk 0 end (high_of pair)) (put_chunk_whole start (low_of pair) first) ∙ ap (λ l. low_of pair ++ l) (put_chunk_whole end (high_of pair) last) in
+    let size : length (take 16 front) ≡ 16 = length-take-le 16 front (omega arith) in
+    record {
+      whole = ap length out;
+      even = λ k less. ap (λ l. get_or l (2 * k) 0) out ∙ even_lanes pair k less
+          ∙ get_or_append_left (take 16 front) (take 16 back) 0 k (omega (arith, size)) ∙ get_or-take 16 front k 0 less;
+      odd = λ k less. ap (λ l. get_or l (2 * k + 1) 0) out ∙ odd_lanes pair k less
+          ∙ get_or-append_right (take 16 front) (take 16 back) 16 (16 + k) 0 size (omega arith)
+          ∙ ap (λ m. get_or (take 16 back) m 0) (omega arith) ∙ get_or-take 16 back k 0 less;
+    }
 
 -- the halves of a block, sample by sample in turn
 pub record IsInterleaved (block out : List ℕ) : Type 0 where
@@ -89,6 +131,20 @@ module _ (a k : ℕ) (xs ys : List ℕ) (long : length ys ≡ k) (fits : a + k �
       after_taken n (n - a) (omega arith)
       ∙ get_or-append_right ys (drop k (drop a xs)) k (n - a) 0 long (omega arith)
       ∙ get_or-drop k (drop a xs) (n - a - k) 0 ∙ ap (λ m. get_or (drop a xs) m 0) at ∙ get_or-drop a xs (n - a) 0 ∙ ap (λ m. get_or xs m 0) of
+
+-- 16 more samples of a half of a block, each of which goes to its spot of two
+pub woven_more : (out part : List ℕ) (want spot : ℕ → ℕ) (k a n : ℕ) → length out ≡ 256 → k < 8 → a ≡ 32 * k → n ≡ 32 → length part ≡ n
+    → ((j : ℕ) → (2 * j ≤ spot j) × (spot j < 2 * j + 2)) → ((m : ℕ) → spot (16 * k + m) ≡ 32 * k + spot m)
+    → ((m : ℕ) → m < 16 → get_or part (spot m) 0 ≡ want (16 * k + m))
+    → ((j : ℕ) → j < 16 * k → get_or out (spot j) 0 ≡ want j)
+    → (j : ℕ) → j < 16 * (k + 1) → get_or (put_mid a n out part) (spot j) 0 ≡ want j
+woven_more out part want spot k a n size below at whole long near shift here before j less = ⊎_elim
+    (λ (l : j < 16 * k). written_before a n out part long (omega arith) (spot j) (omega (arith, near j)) ∙ before j l)
+    (λ (l : 16 * k ≤ j).
+    let m : ℕ = j - 16 * k in
+    let is : 16 * k + m ≡ j = omega arith in
+    written_at a n out part long (omega arith) (spot j) (spot m) (omega (arith, ap spot is, shift m)) (omega (arith, near m)) ∙ here m (omega arith) ∙ ap want is)
+    (cases_lt j (16 * k))
 
 -- one more row of a block
 pub block_more : (block part : List ℕ) (want : ℕ → ℕ → ℕ) (i a k : ℕ) → length block ≡ 256 → i < 16 → a ≡ 16 * i → k ≡ 16 → length part ≡ k

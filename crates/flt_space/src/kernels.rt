@@ -4,6 +4,8 @@ ghost use Rattle.std.specs.Prelude.{◌≡◌, ◌-◌, ◌+◌, ◌*◌, ◌<�
 ghost use Rattle.clip_term.specs.Space.{limited};
 ghost use Rattle.flt_space.specs.Rows.{padded, covered};
 
+use std::simd::prelude::*;
+
 fn complement(sample: u8) -> u8
     ensures { result ≡ 255 - sample }
 {
@@ -109,14 +111,43 @@ pub fn cover_row(row: &[u8], left: usize, right: usize, value: u8, out: &mut [u8
     pad_row(&row[left..row.len() - right], left, value, out);
 }
 
-// The halves of a block, sample by sample in turn.
+/// Copies sixteen samples, as one vector: whether the two overlap isn't asked when it runs, as it is where slices are copied.
+pub fn copy_16(samples: &[u8], out: &mut [u8])
+    requires samples { length samples.now ≡ 16 }
+    requires out { length out.old ≡ 16 }
+    ensures { out.new ≡ samples.now }
+{
+    u8x16::from_slice(samples).copy_to_slice(out);
+}
+
+// Sixteen samples and sixteen others, sample by sample in turn.
+fn weave(front: &[u8], back: &[u8], out: &mut [u8])
+    requires front { length front.now ≡ 16 }
+    requires back { length back.now ≡ 16 }
+    requires whole { length out.old ≡ 32 }
+    ensures whole { length out.new ≡ 32 }
+    ensures even { (k : ℕ) → k < 16 → slice_index out.new (2 * k) ≡ slice_index front.now k }
+    ensures odd { (k : ℕ) → k < 16 → slice_index out.new (2 * k + 1) ≡ slice_index back.now k }
+{
+    let (low, high) = u8x16::from_slice(front).interleave(u8x16::from_slice(back));
+    let (start, end) = out.split_at_mut(16);
+    low.copy_to_slice(start);
+    high.copy_to_slice(end);
+}
+
+// The halves of a block, sample by sample in turn. By vectors, so that a block stays in registers from step to step.
 fn interleave(block: &[u8; 256], out: &mut [u8; 256])
     ensures even { (k : ℕ) → k < 128 → slice_index out.new (2 * k) ≡ slice_index block.now k }
     ensures odd { (k : ℕ) → k < 128 → slice_index out.new (2 * k + 1) ≡ slice_index block.now (k + 128) }
 {
-    for k in 0..128 {
-        out[2 * k] = block[k];
-        out[2 * k + 1] = block[k + 128];
+    let (front, back) = block.split_at(128);
+    for k in 0..8 {
+        let at = 16 * k;
+        weave(
+            &front[at..at + 16],
+            &back[at..at + 16],
+            &mut out[2 * at..2 * at + 32],
+        );
     }
 }
 

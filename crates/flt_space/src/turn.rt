@@ -10,7 +10,7 @@ ghost use Rattle.clip_term.specs.declared.op.SpaceOp.TheVariants.{TurnLeft, Turn
 ghost use Rattle.clip_term.specs.Space.{space_at, space_picture, space_refusals, space_shape};
 ghost use Rattle.flt_space.specs.Rows.{HasRows, HasColumns, Turns};
 
-use crate::kernels::transpose;
+use crate::kernels::{copy_16, transpose};
 use fv_plane::{Frame, FrameBuilder, Shape, write_samples};
 use std::alloc::{AllocError, Global};
 
@@ -124,7 +124,7 @@ fn read_block<T: Turn>(input: &Frame, plane: u32, column: u32, x: u32, block: &m
     for i in 0..16 {
         let row = input.row(plane, T::row(height, x + i));
         let at = 16 * i as usize;
-        block[at..at + 16].copy_from_slice(&row[column..column + 16]);
+        copy_16(&row[column..column + 16], &mut block[at..at + 16]);
     }
 }
 
@@ -161,7 +161,7 @@ fn turn_block<T: Turn>(
     for k in 0..16 {
         let from = 16 * (T::column(width, y + top + k) - first) as usize;
         let at = (top + k) as usize * height + x as usize;
-        out[at..at + 16].copy_from_slice(&block[from..from + 16]);
+        copy_16(&block[from..from + 16], &mut out[at..at + 16]);
     }
 }
 

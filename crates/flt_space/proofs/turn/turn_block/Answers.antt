@@ -18,7 +18,7 @@ loop-k-preserved g c =
     let w : ℕ = plane_width input.shape p in
     let first : ℕ = c.first_column-first.result in
     let out : List ℕ = c.loop-k.out in
-    let part : List ℕ = c.copy_from_slice.new.self in
+    let part : List ℕ = c.copy_16.new.out in
     let block : List ℕ = c.transpose.new.block in
     let want : ℕ → ℕ → ℕ = λ j z. turned_at g.T.Turn.row_of g.T.Turn.column_of input p z (c.args.y + j) in
     let high : c.plane_height-height.result ≡ h = search rules in
@@ -37,9 +37,9 @@ loop-k-preserved g c =
     let back : first + q ≡ c.column.result = omega (arith, low) in
     let few : q < 16 = omega (arith, low, near) in
     let long : length part ≡ n
-    = c.copy_from_slice.ensures.len ∙ length_part a n out (place_fits count h x row a n (length out) inside c.requires.down at sixteen c.loop-k.invariant.long) in
+    = c.copy_16.auto.out ∙ length_part a n out (place_fits count h x row a n (length out) inside c.requires.down at sixteen c.loop-k.invariant.long) in
     let here : (i : ℕ) → i < 16 → get_or part i 0 ≡ want row (x + i) = λ i less.
-    ap (λ l. get_or l i 0) c.copy_from_slice.ensures.after ∙ get_or-between block (16 * q) (16 * q + 16) i 0 (omega arith)
+    ap (λ l. get_or l i 0) c.copy_16.ensures ∙ get_or-between block (16 * q) (16 * q + 16) i 0 (omega arith)
     ∙ c.transpose.ensures q i few less ∙ c.read_block.ensures q i few less
     ∙ ap (λ z. sample_of input.planes p z (g.T.Turn.row_of h (x + i))) (back ∙ column) in
     let end : row + 1 ≡ c.args.top + (c.loop-k.k + 1) = omega arith in
@@ -62,8 +62,8 @@ overflow_add-at g c =
     let high : c.plane_height-height.result ≡ plane_height c.args.input.now.shape c.args.plane = search rules in
     omega (arith, mul-le (c.args.top + c.loop-k.k) c.plane_height-height.result 64 65535 (omega (arith, c.loop-k-test.true, c.requires.inside, c.requires.few)) (omega (arith, high, c.requires.high)))
 
-pub slice_bounds-copy_from_slice-end : goal.slice_bounds-copy_from_slice-end
-slice_bounds-copy_from_slice-end g c =
+pub slice_bounds-copy_16-end-in-loop-k : goal.slice_bounds-copy_16-end-in-loop-k
+slice_bounds-copy_16-end-in-loop-k g c =
     let high : c.plane_height-height.result ≡ plane_height c.args.input.now.shape c.args.plane = search rules in
     let row : ℕ = c.args.top + c.loop-k.k in
     let at : row * c.plane_height-height.result ≡ row * plane_height c.args.input.now.shape c.args.plane = ap (λ z. row * z) high in
