@@ -72,17 +72,22 @@ join_refusals op.YToUV c infos =
 abbrev pub join_length : JoinOp → Info → List Info → ℕ
 join_length op.StackHorizontal c infos = longest infos
 join_length op.StackVertical c infos = longest infos
-join_length _ c infos = c.frames
+join_length op.Merge c infos = c.frames
+join_length op.MergeLuma c infos = c.frames
+join_length op.MergeChroma c infos = c.frames
+join_length op.YToUV c infos = c.frames
 
 -- Size.
 
 abbrev pub join_shape : JoinOp → Info → List Info → Shape
 join_shape op.StackHorizontal c infos = sized c.shape (sum_by (λ (d : Info). d.shape.width) infos) c.shape.height
 join_shape op.StackVertical c infos = sized c.shape c.shape.width (sum_by (λ (d : Info). d.shape.height) infos)
+join_shape op.Merge c infos = c.shape
+join_shape op.MergeLuma c infos = c.shape
+join_shape op.MergeChroma c infos = c.shape
 join_shape op.YToUV c infos =
     let y = (info_at infos 2).shape in
     record c.shape { kind = unwrap_or (kind_of c.shape y) Y8; width = y.width; height = y.height }
-join_shape _ c infos = c.shape
 
 abbrev pub check_join : JoinOp → List Info → Result Info FilterFault
 check_join op infos =

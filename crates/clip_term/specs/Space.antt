@@ -112,13 +112,20 @@ space_shape (op.Crop left top width height) shape =
 space_shape (op.CropBottom n) shape = sized shape shape.width (shape.height - nat_of n)
 space_shape (op.AddBorders left top right bottom color_yuv) shape =
     sized shape (shape.width + nat_of left + nat_of right) (shape.height + nat_of top + nat_of bottom)
+space_shape (op.LetterBox top bottom x1 x2 color_yuv) shape = shape
+space_shape op.FlipHorizontal shape = shape
+space_shape op.FlipVertical shape = shape
+space_shape op.Turn180 shape = shape
 space_shape op.TurnLeft shape = sized shape shape.height shape.width
 space_shape op.TurnRight shape = sized shape shape.height shape.width
+space_shape op.Greyscale shape = shape
+space_shape (op.Invert channels) shape = shape
+space_shape (op.Limiter min_luma max_luma min_chroma max_chroma) shape = shape
+space_shape op.SwapUV shape = shape
 space_shape op.UToY8 shape = luma_of shape 1
 space_shape op.VToY8 shape = luma_of shape 2
 space_shape op.ConvertToY8 shape = luma_of shape 0
 space_shape (op.ConvertBits bits) shape = record shape { bits = nat_of bits }
-space_shape _ shape = shape
 
 abbrev pub check_space : SpaceOp → List Info → Result Info FilterFault
 check_space op infos =

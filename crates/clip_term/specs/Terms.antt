@@ -100,23 +100,46 @@ term_picture book term n = picture_from (ok_or no_info (info_of term)).shape (te
 -- Sound ops: as many inputs, and such lists, as the row asks.
 
 abbrev pub time_inputs : TimeOp → ℕ → Bool
+time_inputs (time_op.Trim first bound) k = k == 1
+time_inputs time_op.Reverse k = k == 1
+time_inputs (time_op.FreezeFrame first last shown) k = k == 1
+time_inputs time_op.SelectEven k = k == 1
+time_inputs time_op.SelectOdd k = k == 1
+time_inputs (time_op.SelectEvery step offsets) k = k == 1
 time_inputs time_op.Interleave k = nat_le 2 k
 time_inputs time_op.UnalignedSplice k = nat_le 2 k
 time_inputs time_op.AlignedSplice k = nat_le 2 k
+time_inputs (time_op.Loop times start end) k = k == 1
+time_inputs (time_op.DuplicateFrame frames) k = k == 1
+time_inputs (time_op.DeleteFrame frames) k = k == 1
+time_inputs (time_op.AssumeFPS num denominator) k = k == 1
+time_inputs (time_op.ChangeFPS num denominator) k = k == 1
 time_inputs (time_op.ApplyRange first last) k = k == 2
-time_inputs _ k = k == 1
 
 abbrev pub join_inputs : JoinOp → ℕ → Bool
 join_inputs join_op.StackHorizontal k = nat_le 2 k
 join_inputs join_op.StackVertical k = nat_le 2 k
+join_inputs join_op.Merge k = k == 2
+join_inputs join_op.MergeLuma k = k == 2
+join_inputs join_op.MergeChroma k = k == 2
 join_inputs join_op.YToUV k = k == 3
-join_inputs _ k = k == 2
 
 abbrev pub time_lists : TimeOp → Bool
+time_lists (time_op.Trim first bound) = true
+time_lists time_op.Reverse = true
+time_lists (time_op.FreezeFrame first last shown) = true
+time_lists time_op.SelectEven = true
+time_lists time_op.SelectOdd = true
 time_lists (time_op.SelectEvery step offsets) = nat_le 1 (length offsets)
+time_lists time_op.Interleave = true
+time_lists time_op.UnalignedSplice = true
+time_lists time_op.AlignedSplice = true
+time_lists (time_op.Loop times start end) = true
 time_lists (time_op.DuplicateFrame frames) = nat_le 1 (length frames)
 time_lists (time_op.DeleteFrame frames) = nat_le 1 (length frames)
-time_lists _ = true
+time_lists (time_op.AssumeFPS num denominator) = true
+time_lists (time_op.ChangeFPS num denominator) = true
+time_lists (time_op.ApplyRange first last) = true
 
 abbrev pub is_matrix : List ℤ → Bool
 is_matrix entries = (length entries == 9 || length entries == 25) && list_all is_weight entries

@@ -150,13 +150,21 @@ time_length (op.ApplyRange first last) c infos = c.frames
 -- Rate.
 
 abbrev pub time_rate : TimeOp → Info → List Info → Rate
+time_rate (op.Trim first bound) c infos = rate_of c
+time_rate op.Reverse c infos = rate_of c
+time_rate (op.FreezeFrame first last source) c infos = rate_of c
 time_rate op.SelectEven c infos = record { num = c.num; den = c.den * 2 }
 time_rate op.SelectOdd c infos = record { num = c.num; den = c.den * 2 }
 time_rate (op.SelectEvery step offsets) c infos = record { num = c.num * length offsets; den = c.den * nat_of step }
 time_rate op.Interleave c infos = record { num = c.num * length infos; den = c.den }
+time_rate op.UnalignedSplice c infos = rate_of c
+time_rate op.AlignedSplice c infos = rate_of c
+time_rate (op.Loop times start end) c infos = rate_of c
+time_rate (op.DuplicateFrame frames) c infos = rate_of c
+time_rate (op.DeleteFrame frames) c infos = rate_of c
 time_rate (op.AssumeFPS num denominator) c infos = record { num = nat_of num; den = nat_of denominator }
 time_rate (op.ChangeFPS num denominator) c infos = record { num = nat_of num; den = nat_of denominator }
-time_rate _ c infos = rate_of c
+time_rate (op.ApplyRange first last) c infos = rate_of c
 
 abbrev pub check_time : TimeOp → List Info → Result Info FilterFault
 check_time op infos =
