@@ -26,7 +26,6 @@ fn refused<T: Drop>(_read: T) -> Closing
 }
 
 /// A call, after its right parenthesis.
-#[tactic(auto, using(crate::proofs::RowLemmas::of_rows))]
 pub fn called(callee: Callee, args: Vec<Arg>) -> Outcome<ExprState>
     ensures { IfOk result (λ made. expr_state_view made ≡ machine.called (callee_view callee) (map arg_view args.items)) }
 {
@@ -73,25 +72,41 @@ fn label(callee: Callee, found: Vec<Arg>, name: Option<Text>, value: Expr) -> Cl
     }
 }
 
+// The arguments with one more.
+#[tactic(auto, using(crate::proofs::RowLemmas::args_push))]
+fn with_argument(found: Vec<Arg>, last: Arg) -> Outcome<Vec<Arg>>
+    ensures { IfOk result (λ made. map arg_view made.items ≡ map arg_view found.items ++ arg_view last ∷ []) }
+{
+    pushed(found, last)
+}
+
 // After the comma of an argument.
-#[tactic(auto, using(crate::proofs::RowLemmas::of_rows))]
 fn next_argument(callee: Callee, found: Vec<Arg>, last: Arg) -> Outcome<Closing>
     ensures { Closes result (machine.reopened
         (machine.argument (callee_view callee) (map arg_view found.items ++ arg_view last ∷ []) None)) }
 {
-    let found = pushed(found, last)?;
-    Ok(Closing::Reopened(Frame::Argument(callee, found, None)))
+    match with_argument(found, last) {
+        Ok(found) => Ok(Closing::Reopened(Frame::Argument(callee, found, None))),
+        Err(error) => {
+            // Dropped in place, each of its parts would be a step of this proof.
+            drop(callee);
+            Err(error)
+        }
+    }
 }
 
 // After the right parenthesis of arguments.
-#[tactic(auto, using(crate::proofs::RowLemmas::of_rows))]
 fn last_argument(callee: Callee, found: Vec<Arg>, last: Arg) -> Outcome<Closing>
     ensures { Closes result
         (machine.taken (machine.called (callee_view callee) (map arg_view found.items ++ arg_view last ∷ []))) }
 {
-    let args = pushed(found, last)?;
-    let state = called(callee, args)?;
-    Ok(Closing::Taken(state))
+    match with_argument(found, last) {
+        Ok(args) => Ok(Closing::Taken(called(callee, args)?)),
+        Err(error) => {
+            drop(callee);
+            Err(error)
+        }
+    }
 }
 
 // After the value of an argument.
@@ -135,8 +150,15 @@ fn after_operand(first: Box<Expr>, rest: Vec<Step>, last: Operator, turn: Turn<'
     }
 }
 
+// The operators and operands with one more.
+#[tactic(auto, using(crate::proofs::RowLemmas::steps_push))]
+fn with_step(rest: Vec<Step>, last: Step) -> Outcome<Vec<Step>>
+    ensures { IfOk result (λ made. map step_view made.items ≡ map step_view rest.items ++ step_view last ∷ []) }
+{
+    pushed(rest, last)
+}
+
 // After the operand of an operator.
-#[tactic(auto, using(crate::proofs::RowLemmas::of_rows))]
 fn close_chain(
     first: Box<Expr>,
     rest: Vec<Step>,
@@ -148,7 +170,7 @@ fn close_chain(
         (machine.chain_of (expr_view first.value) (map step_view rest.items) last.op last.line) (seen turn.entry)) }
 {
     let OperatorAt { op, line } = last;
-    let rest = pushed(rest, Step { op, operand, line })?;
+    let rest = with_step(rest, Step { op, operand, line })?;
     Ok(after_operand(first, rest, op, turn))
 }
 

@@ -192,7 +192,6 @@ fn after_calls(receiver: Receiver, frames: Vec<Frame>, turn: Turn<'_>) -> Outcom
 }
 
 // After the name of a method.
-#[tactic(auto, using(crate::proofs::RowLemmas::of_rows))]
 fn after_method(
     receiver: Receiver,
     method: Named,

@@ -1,5 +1,6 @@
 // What is open in an expression, and what was read of it last.
-ghost use Rattle.std.specs.Prelude.{◌≡◌, ◌∷◌, ◌++◌, [], IfOk};
+ghost use Rattle.std.specs.Prelude.{◌≡◌, ◌∷◌, ◌++◌, [], map, IfOk};
+ghost use Rattle.avs_tree.specs.View.{method_call_view};
 ghost use Rattle.avs_place.specs.ExprMachine as machine;
 ghost use Rattle.avs_frames.specs.ExprViews.{frame_view};
 ghost use Rattle.avs_frames.specs.Open.{opens};
@@ -115,9 +116,12 @@ pub enum Closing {
 
 impl Receiver {
     /// One more method call.
+    #[tactic(auto, using(crate::proofs::RowLemmas::calls_push))]
     pub fn with_call(self, call: DotCall) -> Outcome<Receiver>
         ensures first { IfOk result (λ made. made.first ≡ self.first) }
         ensures calls { IfOk result (λ made. made.calls.items ≡ self.calls.items ++ call ∷ []) }
+        ensures view { IfOk result (λ made. map method_call_view made.calls.items
+            ≡ map method_call_view self.calls.items ++ method_call_view call ∷ []) }
     {
         let Receiver { first, calls } = self;
         let calls = pushed(calls, call)?;

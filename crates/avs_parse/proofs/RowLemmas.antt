@@ -14,5 +14,3 @@ statements_push = map_push statement_view
 
 pub functions_push : (xs : List Function) (x : Function) → map function_view (xs ++ x ∷ []) ≡ map function_view xs ++ function_view x ∷ []
 functions_push = map_push function_view
-
-pub ruleset of_statements = (arms_push, statements_push, functions_push)

@@ -12,8 +12,8 @@ use Rattle.avs_parse.specs.declared.state.Owner.{Owner}
 use Rattle.avs_parse.specs.declared.state.Owner.TheVariants as o
 use Rattle.avs_parse.specs.declared.state.Level.{Level}
 use Rattle.avs_parse.specs.declared.state.OpenFunction.{OpenFunction}
-use Rattle.avs_parse.specs.declared.state.Levels.{Levels}
-use Rattle.avs_parse.specs.declared.state.Around.{Around}
+use Rattle.avs_parse.specs.declared.around.Levels.{Levels}
+use Rattle.avs_parse.specs.declared.around.Around.{Around}
 use Rattle.avs_parse.specs.declared.state.StatementState.{StatementState}
 use Rattle.avs_parse.specs.declared.state.StatementState.TheVariants as n
 use Rattle.avs_parse.specs.declared.state.HeadState.{HeadState}

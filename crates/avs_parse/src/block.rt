@@ -5,11 +5,10 @@ ghost use Rattle.avs_tree.specs.View.{arm_view, kind_view, function_view, statem
 ghost use Rattle.avs_place.specs.Machine as machine;
 ghost use Rattle.avs_parse.specs.ScriptViews.{Steps, inner, levels_view, owner_view, outermost_view, statement_state_view, step_view};
 
-use crate::state::{
-    Around, Level, Levels, OpenFunction, Owner, ScriptStep, Signature, State, StatementState,
-};
+use crate::around::{Around, Levels};
+use crate::state::{OpenFunction, Owner, ScriptStep, Signature, State, StatementState};
 use avs_frames::{Outcome, Turn, pushed};
-use avs_tree::{Arm, Function, Punctuation, Script, Statement, StatementKind, Symbol};
+use avs_tree::{Arm, Function, Punctuation, Statement, StatementKind, Symbol};
 use std::alloc::Global;
 
 /// The token cannot stand there. What was read is dropped here: dropped in place, each part of it would be a step of the
@@ -35,50 +34,31 @@ pub fn if_kind(arms: Vec<Arm>, other: Option<Vec<Statement>>) -> StatementKind
     StatementKind::If { arms, other }
 }
 
-impl Around {
-    /// What stands around the next statement, after one more.
-    #[tactic(auto, using(crate::proofs::RowLemmas::of_statements))]
-    pub fn after(self, kind: StatementKind) -> Outcome<Around>
-        ensures line { IfOk result (λ made. made.line ≡ self.line) }
-        ensures levels { IfOk result (λ made. made.levels ≡ self.levels) }
-        ensures before { IfOk result (λ made. map statement_view made.before.items
-            ≡ map statement_view self.before.items ++ (kind_view kind, self.line) ∷ []) }
-    {
-        let Around {
-            line,
-            before,
-            levels,
-        } = self;
-        let before = pushed(before, Statement { kind, line })?;
-        Ok(Around {
-            line,
-            before,
-            levels,
-        })
-    }
-}
-
 // After a statement that ends with a brace.
 fn closed(kind: StatementKind, around: Around) -> Outcome<ScriptStep>
     ensures { Steps result (machine.goes (machine.at machine.statement_next around.line
         (map statement_view around.before.items ++ (kind_view kind, around.line) ∷ []) (levels_view around.levels))) }
 {
-    let around = around.after(kind)?;
-    Ok(goes(StatementState::StatementNext, around))
+    match around.after(kind) {
+        Ok(around) => Ok(goes(StatementState::StatementNext, around)),
+        Err(error) => Err(error),
+    }
 }
 
 // The right brace of an arm.
-#[tactic(auto, using(crate::proofs::RowLemmas::of_statements))]
+#[tactic(auto, using(crate::proofs::RowLemmas::arms_push))]
 fn close_arm(arms: Vec<Arm>, last: Arm, around: Around) -> Outcome<ScriptStep>
     ensures { Steps result (machine.goes (inner around (machine.at
         (machine.after_arm (map arm_view arms.items ++ arm_view last ∷ []))))) }
 {
-    let arms = pushed(arms, last)?;
-    Ok(goes(StatementState::AfterArm(arms), around))
+    match pushed(arms, last) {
+        Ok(arms) => Ok(goes(StatementState::AfterArm(arms), around)),
+        Err(error) => Err(error),
+    }
 }
 
-// The right brace of a statement.
-fn close_level(owner: Owner, body: Vec<Statement>, around: Around) -> Outcome<ScriptStep>
+/// The right brace of a statement.
+pub fn close_level(owner: Owner, body: Vec<Statement>, around: Around) -> Outcome<ScriptStep>
     ensures { Steps result (machine.close_by (map statement_view body.items)
         (inner around (machine.level (owner_view owner)))) }
 {
@@ -100,7 +80,7 @@ fn close_level(owner: Owner, body: Vec<Statement>, around: Around) -> Outcome<Sc
 }
 
 // The right brace of a function.
-#[tactic(auto, using(crate::proofs::RowLemmas::of_statements, crate::proofs::LevelLemmas::levels_none))]
+#[tactic(auto, using(crate::proofs::RowLemmas::functions_push, crate::proofs::LevelLemmas::levels_none))]
 fn close_function(
     alloc: Global,
     function: OpenFunction,
@@ -136,8 +116,8 @@ fn close_function(
     Ok(goes(StatementState::StatementNext, around))
 }
 
-// The right brace outside of the braces of statements.
-fn close_outermost(
+/// The right brace outside of the braces of statements.
+pub fn close_outermost(
     alloc: Global,
     function: Option<OpenFunction>,
     body: Vec<Statement>,
@@ -152,54 +132,6 @@ fn close_outermost(
     }
 }
 
-/// The right brace.
-#[tactic(auto, using(crate::proofs::LevelLemmas::of_levels))]
-pub fn close(alloc: Global, body: Vec<Statement>, levels: Levels) -> Outcome<ScriptStep>
-    ensures { Steps result (machine.close_by (map statement_view body.items) (levels_view levels)) }
-{
-    let Levels {
-        mut inner,
-        function,
-        functions,
-    } = levels;
-    match inner.pop() {
-        Some(level) => {
-            let levels = Levels {
-                inner,
-                function,
-                functions,
-            };
-            let Level {
-                owner,
-                line,
-                before,
-            } = level;
-            let around = Around {
-                line,
-                before,
-                levels,
-            };
-            close_level(owner, body, around)
-        }
-        None => close_outermost(alloc, function, body, functions),
-    }
-}
-
-/// The end of the script.
-#[tactic(auto, using(crate::proofs::LevelLemmas::top_within, crate::proofs::LevelLemmas::no_end))]
-pub fn end(statements: Vec<Statement>, levels: Levels) -> ScriptStep
-    ensures { step_view result ≡ machine.end_by (map statement_view statements.items) (levels_view levels) }
-{
-    if levels.depth() > 0 {
-        return refused((statements, levels));
-    }
-    let functions = levels.functions;
-    ScriptStep::Whole(Script {
-        functions,
-        statements,
-    })
-}
-
 /// The token after a statement: a newline, `}` or the end.
 pub fn done(around: Around, turn: Turn<'_>) -> Outcome<ScriptStep>
     ensures { Steps result (machine.done_by (Some turn.entry.symbol)
@@ -210,12 +142,8 @@ pub fn done(around: Around, turn: Turn<'_>) -> Outcome<ScriptStep>
             StatementState::StatementNext,
             around,
         )),
-        Symbol::Punctuation(Punctuation::RightBrace) => close(
-            turn.alloc,
-            around.before,
-            around.levels,
-        ),
-        Symbol::Punctuation(Punctuation::End) => Ok(end(around.before, around.levels)),
+        Symbol::Punctuation(Punctuation::RightBrace) => around.close(turn.alloc),
+        Symbol::Punctuation(Punctuation::End) => Ok(around.end()),
         _ => Ok(refused(around)),
     }
 }

@@ -5,14 +5,12 @@ ghost use Rattle.avs_place.specs.Machine as machine;
 ghost use Rattle.avs_parse.specs.ScriptViews.{Steps, head_state_view, outer, step_view};
 ghost use Rattle.avs_frames.specs.Seen.{seen};
 
-use crate::block::{goes, refused};
-use crate::state::{
-    Around, HeadState, Levels, OpenFunction, ScriptStep, Signature, State, StatementState,
-};
+use crate::around::Around;
+use crate::block::refused;
+use crate::state::{HeadState, ScriptStep, Signature, State};
 use avs_frames::{Outcome, Turn, pushed};
 use avs_tree::{Parameter, Punctuation, Symbol, TypeWord, is_name, type_word};
 use fv_io::Text;
-use std::alloc::Global;
 
 // The head goes on with this.
 fn head_goes(here: HeadState, around: Around) -> ScriptStep
@@ -26,10 +24,10 @@ fn function_name(around: Around, turn: Turn<'_>) -> Outcome<ScriptStep>
     ensures { Steps result (outer around (machine.advance_head machine.after_function) (seen turn.entry)) }
 {
     match turn.symbol {
-        Symbol::Name => {
-            let name = turn.text()?;
-            Ok(head_goes(HeadState::AfterName(name), around))
-        }
+        Symbol::Name => match turn.text() {
+            Ok(name) => Ok(head_goes(HeadState::AfterName(name), around)),
+            Err(error) => Err(error),
+        },
         _ => Ok(refused(around)),
     }
 }
@@ -102,8 +100,10 @@ fn parameter(
     ensures { Steps result (machine.goes (outer around (machine.at_head (machine.after_parameter signature.name
         (machine.with_parameter signature.params.items word optional turn.entry.content.now) optional)))) }
 {
-    let signature = with_parameter(signature, word, optional, turn)?;
-    Ok(head_goes(HeadState::AfterParameter(signature, optional), around))
+    match with_parameter(signature, word, optional, turn) {
+        Ok(signature) => Ok(head_goes(HeadState::AfterParameter(signature, optional), around)),
+        Err(error) => Err(error),
+    }
 }
 
 // The name of a parameter, or a string that is one where it is optional.
@@ -138,36 +138,6 @@ fn after_parameter(signature: Signature, must: bool, around: Around, turn: Turn<
     refused((signature, around))
 }
 
-// After the left brace.
-#[tactic(auto, using(crate::proofs::LevelLemmas::of_levels))]
-fn open(alloc: Global, signature: Signature, around: Around) -> ScriptStep
-    ensures { step_view result ≡ machine.goes (machine.at machine.statement_next around.line []
-        (outer around (machine.in_function signature.name signature.params.items))) }
-{
-    let Around {
-        line,
-        before,
-        levels,
-    } = around;
-    let function = Some(OpenFunction {
-        signature,
-        line,
-        before,
-    });
-    let levels = Levels {
-        inner: Vec::new(alloc),
-        function,
-        functions: levels.functions,
-    };
-    let before = Vec::new(alloc);
-    let inside = Around {
-        line,
-        before,
-        levels,
-    };
-    goes(StatementState::StatementNext, inside)
-}
-
 // Newlines and the left brace.
 fn body(signature: Signature, around: Around, turn: Turn<'_>) -> ScriptStep
     ensures { step_view result ≡ outer around
@@ -177,7 +147,7 @@ fn body(signature: Signature, around: Around, turn: Turn<'_>) -> ScriptStep
         Symbol::Punctuation(Punctuation::Newline) => {
             head_goes(HeadState::BracesNext(signature), around)
         }
-        Symbol::Punctuation(Punctuation::LeftBrace) => open(turn.alloc, signature, around),
+        Symbol::Punctuation(Punctuation::LeftBrace) => around.open_function(turn.alloc, signature),
         _ => refused((signature, around)),
     }
 }

@@ -7,6 +7,7 @@
 //! the grammar say.
 #![tactic(auto)]
 
+mod around;
 mod block;
 mod fault;
 mod head;

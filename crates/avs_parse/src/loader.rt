@@ -20,7 +20,10 @@ pub struct Loaded {
 fn last_line(tokens: &[Token]) -> u32
     ensures { result ≡ last_line tokens.now }
 {
-    tokens.last().map_or(0, |token| token.line)
+    match tokens.last() {
+        Some(token) => token.line,
+        None => 0,
+    }
 }
 
 /// The tree of a text, or its first fault.

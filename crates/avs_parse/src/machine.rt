@@ -9,8 +9,9 @@ ghost use Rattle.avs_parse.specs.ScriptViews.{Steps, state_view};
 ghost use Rattle.avs_parse.specs.VerdictView.{verdict_view};
 ghost use Rattle.avs_frames.specs.Seen.{seen};
 
+use crate::around::{Around, Levels};
 use crate::head::advance_head;
-use crate::state::{Around, Levels, ScriptStep, State, StatementState};
+use crate::state::{ScriptStep, State, StatementState};
 use crate::statement::advance_statement;
 use avs_frames::{Outcome, Turn};
 use avs_lex::Token;
@@ -32,7 +33,7 @@ pub enum Verdict {
 }
 
 // Nothing was read.
-#[tactic(auto, using(crate::proofs::LevelLemmas::of_levels))]
+#[tactic(auto, using(crate::proofs::LevelLemmas::levels_none))]
 fn start(alloc: Global) -> State
     ensures { state_view result ≡ machine.start }
 {

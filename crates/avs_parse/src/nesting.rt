@@ -4,7 +4,8 @@ ghost use Rattle.avs_place.specs.Machine as machine;
 ghost use Rattle.avs_place.specs.Nesting.{use_level, statement_level, head_level, level_of};
 ghost use Rattle.avs_parse.specs.ScriptViews.{levels_view, statement_state_view, head_state_view, state_view, use_view};
 
-use crate::state::{HeadState, Levels, State, StatementState, Use};
+use crate::around::Levels;
+use crate::state::{HeadState, State, StatementState, Use};
 use avs_frames::frames_level;
 
 impl Levels {

@@ -1,6 +1,7 @@
 // What was read of a script: what is open in it, and the parts of its tree so far.
+use crate::around::Around;
 use avs_frames::{ExprState, Frame};
-use avs_tree::{Arm, Expr, Function, Parameter, Script, Statement, TypeWord};
+use avs_tree::{Arm, Expr, Parameter, Script, Statement, TypeWord};
 use fv_io::Text;
 
 /// What an expression is for.
@@ -68,23 +69,6 @@ pub struct OpenFunction {
     pub signature: Signature,
     pub line: u32,
     pub before: Vec<Statement>,
-}
-
-/// The open braces, the innermost last, and the functions of the script so far.
-#[derive(Drop)]
-pub struct Levels {
-    pub inner: Vec<Level>,
-    /// The outermost braces, where they are those of a function.
-    pub function: Option<OpenFunction>,
-    pub functions: Vec<Function>,
-}
-
-/// What stands around a statement or a function: its line, the statements before it, and the open braces.
-#[derive(Drop)]
-pub struct Around {
-    pub line: u32,
-    pub before: Vec<Statement>,
-    pub levels: Levels,
 }
 
 /// What was read last of a statement.

@@ -7,14 +7,13 @@ ghost use Rattle.avs_place.specs.Next.{is_punctuation};
 ghost use Rattle.avs_place.specs.ExprMachine as expr;
 ghost use Rattle.avs_place.specs.Machine as machine;
 ghost use Rattle.avs_frames.specs.ExprViews.{expr_state_view, expr_step_view, frames_view};
-ghost use Rattle.avs_parse.specs.ScriptViews.{Steps, inner, level_view, levels_view, owner_view, statement_state_view, step_view, use_view};
+ghost use Rattle.avs_parse.specs.ScriptViews.{Steps, inner, levels_view, owner_view, statement_state_view, step_view, use_view};
 ghost use Rattle.avs_frames.specs.Seen.{seen};
 
-use crate::block::{close, done, end, goes, if_kind, refused};
-use crate::state::{
-    Around, ForHead, HeadState, Level, Levels, Owner, ScriptStep, State, StatementState, Use,
-};
-use avs_frames::{ExprState, ExprStep, Frame, Outcome, Turn, expr_step, operand, pushed};
+use crate::around::Around;
+use crate::block::{done, goes, if_kind, refused};
+use crate::state::{ForHead, HeadState, Owner, ScriptStep, State, StatementState, Use};
+use avs_frames::{ExprState, ExprStep, Frame, Outcome, Turn, expr_step, operand};
 use avs_tree::{Arm, Expr, Keyword, Punctuation, StatementKind, Symbol};
 use fv_io::Text;
 use std::alloc::Global;
@@ -83,8 +82,10 @@ fn value_step(step: ExprStep, around: Around) -> ScriptStep
 fn value(around: Around, turn: Turn<'_>) -> Outcome<ScriptStep>
     ensures { Steps result (inner around (machine.in_statement (expr.operand [] (seen turn.entry)) machine.to_value)) }
 {
-    let step = operand(Vec::new(turn.alloc), turn)?;
-    Ok(value_step(step, around))
+    match operand(Vec::new(turn.alloc), turn) {
+        Ok(step) => Ok(value_step(step, around)),
+        Err(error) => Err(error),
+    }
 }
 
 // The first token of a statement in this line.
@@ -98,8 +99,8 @@ fn begin(around: Around, turn: Turn<'_>) -> Outcome<ScriptStep>
             StatementState::StatementNext,
             around,
         )),
-        Symbol::Punctuation(Punctuation::RightBrace) => close(alloc, around.before, around.levels),
-        Symbol::Punctuation(Punctuation::End) => Ok(end(around.before, around.levels)),
+        Symbol::Punctuation(Punctuation::RightBrace) => around.close(alloc),
+        Symbol::Punctuation(Punctuation::End) => Ok(around.end()),
         Symbol::Keyword(Keyword::Function) => Ok(function(around)),
         Symbol::Keyword(Keyword::If) => {
             let purpose = Use::Arm(Vec::new(alloc));
@@ -132,8 +133,10 @@ fn finish(kind: StatementKind, around: Around, turn: Turn<'_>) -> Outcome<Script
         (map statement_view around.before.items ++ (kind_view kind, around.line) ∷ [])
         around.line (levels_view around.levels)) }
 {
-    let around = around.after(kind)?;
-    done(around, turn)
+    match around.after(kind) {
+        Ok(around) => done(around, turn),
+        Err(error) => Err(error),
+    }
 }
 
 // After an expression that is a statement, unless it is the name before `=`.
@@ -225,58 +228,14 @@ fn in_expression(
     match expr_step(state, frames, turn) {
         Ok(step) => after_step(step, purpose, around, turn),
         Err(error) => {
-            // Dropped in place, each of their parts would be a step of this proof.
-            drop((purpose, around));
+            // Dropped in place, each of its parts would be a step of this proof.
+            drop(purpose);
             Err(error)
         }
     }
 }
 
 // ---- braces
-
-impl Levels {
-    // One more open brace, inside of the others.
-    #[tactic(auto, using(crate::proofs::LevelLemmas::of_levels))]
-    fn with(self, level: Level) -> Outcome<Levels>
-        ensures { IfOk result (λ made. levels_view made ≡ level_view level (levels_view self)) }
-    {
-        let Levels {
-            inner,
-            function,
-            functions,
-        } = self;
-        let inner = pushed(inner, level)?;
-        Ok(Levels {
-            inner,
-            function,
-            functions,
-        })
-    }
-}
-
-// After the left brace of a statement.
-fn open(alloc: Global, owner: Owner, around: Around) -> Outcome<ScriptStep>
-    ensures { Steps result (machine.goes (machine.at machine.statement_next around.line []
-        (inner around (machine.level (owner_view owner))))) }
-{
-    let Around {
-        line,
-        before,
-        levels,
-    } = around;
-    let levels = levels.with(Level {
-        owner,
-        line,
-        before,
-    })?;
-    let before = Vec::new(alloc);
-    let inside = Around {
-        line,
-        before,
-        levels,
-    };
-    Ok(goes(StatementState::StatementNext, inside))
-}
 
 // Newlines and the left brace of a statement.
 fn body(owner: Owner, around: Around, turn: Turn<'_>) -> Outcome<ScriptStep>
@@ -286,7 +245,7 @@ fn body(owner: Owner, around: Around, turn: Turn<'_>) -> Outcome<ScriptStep>
         Symbol::Punctuation(Punctuation::Newline) => {
             Ok(goes(StatementState::BracesNext(owner), around))
         }
-        Symbol::Punctuation(Punctuation::LeftBrace) => open(turn.alloc, owner, around),
+        Symbol::Punctuation(Punctuation::LeftBrace) => around.open(turn.alloc, owner),
         _ => Ok(refused((owner, around))),
     }
 }
@@ -297,8 +256,10 @@ fn after_if(arms: Vec<Arm>, around: Around, turn: Turn<'_>) -> Outcome<ScriptSte
         (map statement_view around.before.items ++ (tree.if_ (arms_of (map arm_view arms.items)) tree.no_else, around.line) ∷ [])
         (levels_view around.levels)) }
 {
-    let around = around.after(if_kind(arms, None))?;
-    statement(around, turn)
+    match around.after(if_kind(arms, None)) {
+        Ok(around) => statement(around, turn),
+        Err(error) => Err(error),
+    }
 }
 
 // After an arm: newlines, `else`, or the next statement.
@@ -335,10 +296,10 @@ fn global_name(around: Around, turn: Turn<'_>) -> Outcome<ScriptStep>
     ensures { Steps result (inner around (machine.advance_statement machine.after_global) (seen turn.entry)) }
 {
     match turn.symbol {
-        Symbol::Name => {
-            let name = turn.text()?;
-            Ok(goes(StatementState::AfterGlobalName(name), around))
-        }
+        Symbol::Name => match turn.text() {
+            Ok(name) => Ok(goes(StatementState::AfterGlobalName(name), around)),
+            Err(error) => Err(error),
+        },
         _ => Ok(refused(around)),
     }
 }
@@ -348,10 +309,10 @@ fn for_name(around: Around, turn: Turn<'_>) -> Outcome<ScriptStep>
     ensures { Steps result (inner around (machine.advance_statement machine.for_opened) (seen turn.entry)) }
 {
     match turn.symbol {
-        Symbol::Name => {
-            let name = turn.text()?;
-            Ok(goes(StatementState::AfterForName(name), around))
-        }
+        Symbol::Name => match turn.text() {
+            Ok(name) => Ok(goes(StatementState::AfterForName(name), around)),
+            Err(error) => Err(error),
+        },
         _ => Ok(refused(around)),
     }
 }

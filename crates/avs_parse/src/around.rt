@@ -1,0 +1,228 @@
+// What stands around a statement or a function, and how braces change it.
+ghost use Rattle.std.specs.Prelude.{◌≡◌, ◌∷◌, ◌++◌, [], map, IfOk};
+ghost use Rattle.avs_tree.specs.View.{kind_view, statement_view};
+ghost use Rattle.avs_place.specs.Machine as machine;
+ghost use Rattle.avs_parse.specs.ScriptViews.{Steps, inner, outer, level_view, levels_view, owner_view, step_view};
+
+use crate::block::{close_level, close_outermost, goes, refused};
+use crate::state::{Level, OpenFunction, Owner, ScriptStep, Signature, StatementState};
+use avs_frames::{Outcome, pushed};
+use avs_tree::{Function, Script, Statement, StatementKind};
+use std::alloc::Global;
+
+/// The open braces, the innermost last, and the functions of the script so far.
+pub struct Levels {
+    pub inner: Vec<Level>,
+    /// The outermost braces, where they are those of a function.
+    pub function: Option<OpenFunction>,
+    pub functions: Vec<Function>,
+}
+
+/// What stands around a statement or a function: its line, the statements before it, and the open braces.
+pub struct Around {
+    pub line: u32,
+    pub before: Vec<Statement>,
+    pub levels: Levels,
+}
+
+// These two go out of scope wherever memory may run out. A `drop` that is written is one call there. One that is derived is
+// a step of the proof for each part.
+
+impl Drop for Levels {
+    fn drop(self) {
+        let Levels {
+            inner: _inner,
+            function: _function,
+            functions: _functions,
+        } = self;
+    }
+}
+
+impl Drop for Around {
+    fn drop(self) {
+        let Around {
+            line: _line,
+            before: _before,
+            levels: _levels,
+        } = self;
+    }
+}
+
+impl Levels {
+    // The functions, without the braces.
+    fn into_functions(self) -> Vec<Function>
+        ensures { result ≡ self.functions }
+    {
+        let Levels {
+            inner: _inner,
+            function: _function,
+            functions,
+        } = self;
+        functions
+    }
+
+    // One more open brace, inside of the others.
+    #[tactic(auto, using(crate::proofs::LevelLemmas::levels_push))]
+    fn with(self, level: Level) -> Outcome<Levels>
+        ensures { IfOk result (λ made. levels_view made ≡ level_view level (levels_view self)) }
+    {
+        let Levels {
+            inner,
+            function,
+            functions,
+        } = self;
+        let inner = pushed(inner, level)?;
+        Ok(Levels {
+            inner,
+            function,
+            functions,
+        })
+    }
+
+    // The right brace, after these statements.
+    #[tactic(auto, using(crate::proofs::LevelLemmas::of_levels))]
+    fn close(self, alloc: Global, body: Vec<Statement>) -> Outcome<ScriptStep>
+        ensures { Steps result (machine.close_by (map statement_view body.items) (levels_view self)) }
+    {
+        let Levels {
+            mut inner,
+            function,
+            functions,
+        } = self;
+        match inner.pop() {
+            Some(level) => {
+                let levels = Levels {
+                    inner,
+                    function,
+                    functions,
+                };
+                let Level {
+                    owner,
+                    line,
+                    before,
+                } = level;
+                let around = Around {
+                    line,
+                    before,
+                    levels,
+                };
+                close_level(owner, body, around)
+            }
+            None => close_outermost(alloc, function, body, functions),
+        }
+    }
+}
+
+impl Around {
+    /// What stands around the next statement, after one more.
+    #[tactic(auto, using(crate::proofs::RowLemmas::statements_push))]
+    pub fn after(self, kind: StatementKind) -> Outcome<Around>
+        ensures line { IfOk result (λ made. made.line ≡ self.line) }
+        ensures levels { IfOk result (λ made. made.levels ≡ self.levels) }
+        ensures before { IfOk result (λ made. map statement_view made.before.items
+            ≡ map statement_view self.before.items ++ (kind_view kind, self.line) ∷ []) }
+    {
+        let Around {
+            line,
+            before,
+            levels,
+        } = self;
+        let before = pushed(before, Statement { kind, line })?;
+        Ok(Around {
+            line,
+            before,
+            levels,
+        })
+    }
+
+    /// After the left brace of a statement.
+    pub fn open(self, alloc: Global, owner: Owner) -> Outcome<ScriptStep>
+        ensures { Steps result (machine.goes (machine.at machine.statement_next self.line []
+            (inner self (machine.level (owner_view owner))))) }
+    {
+        let Around {
+            line,
+            before,
+            levels,
+        } = self;
+        let level = Level {
+            owner,
+            line,
+            before,
+        };
+        match levels.with(level) {
+            Ok(levels) => {
+                let before = Vec::new(alloc);
+                let inside = Around {
+                    line,
+                    before,
+                    levels,
+                };
+                Ok(goes(StatementState::StatementNext, inside))
+            }
+            Err(error) => Err(error),
+        }
+    }
+
+    /// After the left brace of a function.
+    #[tactic(auto, using(crate::proofs::LevelLemmas::levels_none))]
+    pub fn open_function(self, alloc: Global, signature: Signature) -> ScriptStep
+        ensures { step_view result ≡ machine.goes (machine.at machine.statement_next self.line []
+            (outer self (machine.in_function signature.name signature.params.items))) }
+    {
+        let Around {
+            line,
+            before,
+            levels,
+        } = self;
+        let function = Some(OpenFunction {
+            signature,
+            line,
+            before,
+        });
+        let levels = Levels {
+            inner: Vec::new(alloc),
+            function,
+            functions: levels.into_functions(),
+        };
+        let before = Vec::new(alloc);
+        let inside = Around {
+            line,
+            before,
+            levels,
+        };
+        goes(StatementState::StatementNext, inside)
+    }
+
+    /// The right brace, after the statements so far.
+    pub fn close(self, alloc: Global) -> Outcome<ScriptStep>
+        ensures { Steps result (machine.close_by (map statement_view self.before.items) (levels_view self.levels)) }
+    {
+        let Around {
+            line: _,
+            before,
+            levels,
+        } = self;
+        levels.close(alloc, before)
+    }
+
+    /// The end of the script, after the statements so far.
+    #[tactic(auto, using(crate::proofs::LevelLemmas::top_within, crate::proofs::LevelLemmas::no_end))]
+    pub fn end(self) -> ScriptStep
+        ensures { step_view result ≡ machine.end_by (map statement_view self.before.items) (levels_view self.levels) }
+    {
+        if self.levels.depth() > 0 {
+            return refused(self);
+        }
+        let Around {
+            line: _,
+            before: statements,
+            levels,
+        } = self;
+        let functions = levels.into_functions();
+        ScriptStep::Whole(Script {
+            functions,
+            statements,
+        })
+    }
+}
