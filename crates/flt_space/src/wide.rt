@@ -1,5 +1,5 @@
-// What is done to the samples of a row, where they have two bytes. Plain loops over slices, as in `kernels`. Those over the
-// bytes of a row read its samples where they use them.
+// What is done to the samples of a row, where they have two bytes. Plain loops over slices, as in `kernels`, which
+// read the samples of a row's bytes where they use them.
 ghost use Rattle.std.specs.Prelude.{◌≡◌, ◌-◌, ◌+◌, ◌*◌, ◌/◌, ◌^◌, ◌<◌, ◌≤◌, ℕ, min, EachIndex, length, slice_index};
 ghost use Rattle.clip_term.specs.Space.{limited};
 ghost use Rattle.fv_plane.specs.Bytes.{wide_samples};
@@ -58,13 +58,13 @@ pub fn copy_limited(row: &[u8], low: u16, high: u16, out: &mut [u16])
 }
 
 /// Each sample times a factor.
-pub fn copy_scaled(row: &[u16], factor: u16, out: &mut [u16])
-    requires same { length row.now ≡ length out.old }
-    requires small { EachIndex row.now (λ x. slice_index row.now x * factor ≤ 65535) }
-    ensures { EachIndex out.new (λ x. slice_index out.new x ≡ slice_index row.now x * factor) }
+pub fn copy_scaled(row: &[u8], factor: u16, out: &mut [u16])
+    requires same { length row.now ≡ length out.old * 2 }
+    requires small { (x : ℕ) → slice_index (wide_samples row.now) x * factor ≤ 65535 }
+    ensures { EachIndex out.new (λ x. slice_index out.new x ≡ slice_index (wide_samples row.now) x * factor) }
 {
     for x in 0..out.len() {
-        out[x] = row[x] * factor;
+        out[x] = sample(row, x) * factor;
     }
 }
 
@@ -80,15 +80,15 @@ fn rounded(sample: u16, bits: u32, largest: u16) -> u16
 }
 
 /// Each sample without its last bits, rounded with a half upwards, and at most the largest.
-pub fn copy_rounded(row: &[u16], bits: u32, largest: u16, out: &mut [u16])
-    requires same { length row.now ≡ length out.old }
+pub fn copy_rounded(row: &[u8], bits: u32, largest: u16, out: &mut [u16])
+    requires same { length row.now ≡ length out.old * 2 }
     requires some { 1 ≤ bits }
     requires few { bits ≤ 16 }
     ensures { EachIndex out.new (λ x.
-        slice_index out.new x ≡ min largest ((slice_index row.now x + 2 ^ (bits - 1)) / 2 ^ bits)) }
+        slice_index out.new x ≡ min largest ((slice_index (wide_samples row.now) x + 2 ^ (bits - 1)) / 2 ^ bits)) }
 {
     for x in 0..out.len() {
-        out[x] = rounded(row[x], bits, largest);
+        out[x] = rounded(sample(row, x), bits, largest);
     }
 }
 
