@@ -75,6 +75,9 @@ bottom_cut shape n e =
     let high = or_false (below (pos shape.height -ℤ n) 1) (above (pos 0 +ℤ (pos shape.height -ℤ n)) shape.height) parts.1 in
     rw (← rest_of shape.height n told.0 high.0) (cut_window shape (pos 0) (pos 0) (pos shape.width) (pos shape.height -ℤ n) refl refl told.1)
 
--- the greater of two bounds that are accepted is a part of a colour
+-- each of two bounds that are accepted is a part of a colour
 pub high_inside : (low high : ℤ) → bad_bounds low high ≡ false → beyond high 255 ≡ false
 high_inside low high e = grind (arith, ints, nat_tests)
+
+pub low_inside : (low high : ℤ) → bad_bounds low high ≡ false → beyond low 255 ≡ false
+low_inside low high e = grind (arith, ints, nat_tests)

@@ -8,7 +8,7 @@ ghost use Rattle.clip_term.specs.Space.{space_picture, space_refusals, is_among,
 
 use crate::kernels::{copy_inverted, copy_limited};
 use crate::rows::{RowFilter, make_by_rows};
-use crate::wide;
+use crate::wide::{self, wide_row};
 use clip_term::Channels;
 use fv_plane::{Frame, FrameBuilder, Shape};
 use std::alloc::{AllocError, Global};
@@ -41,16 +41,9 @@ impl RowFilter for InvertRows {
         copy_inverted(input.row(plane, y), out);
     }
 
-    fn fill_samples(
-        &self,
-        input: &Frame,
-        plane: u32,
-        y: u32,
-        scratch: &mut [u16],
-        out: &mut [u16],
-    ) {
-        input.read_row(plane, y, scratch);
-        wide::copy_inverted(scratch, input.shape().largest_sample(), out);
+    fn fill_samples(&self, input: &Frame, plane: u32, y: u32, out: &mut [u16]) {
+        let row = wide_row(input, plane, y);
+        wide::copy_inverted(row, input.shape().largest_sample(), out);
     }
 }
 
@@ -103,24 +96,17 @@ impl RowFilter for LimitRows {
         }
     }
 
-    fn fill_samples(
-        &self,
-        input: &Frame,
-        plane: u32,
-        y: u32,
-        scratch: &mut [u16],
-        out: &mut [u16],
-    ) {
+    fn fill_samples(&self, input: &Frame, plane: u32, y: u32, out: &mut [u16]) {
         let shape = input.shape();
-        input.read_row(plane, y, scratch);
+        let row = wide_row(input, plane, y);
         if plane == 0 {
             let low = scaled_bound(self.min_luma, shape);
             let high = scaled_bound(self.max_luma, shape);
-            wide::copy_limited(scratch, low, high, out);
+            wide::copy_limited(row, low, high, out);
         } else {
             let low = scaled_bound(self.min_chroma, shape);
             let high = scaled_bound(self.max_chroma, shape);
-            wide::copy_limited(scratch, low, high, out);
+            wide::copy_limited(row, low, high, out);
         }
     }
 }
@@ -161,14 +147,7 @@ impl RowFilter for GreyRows {
         out.fill(128);
     }
 
-    fn fill_samples(
-        &self,
-        input: &Frame,
-        plane: u32,
-        y: u32,
-        scratch: &mut [u16],
-        out: &mut [u16],
-    ) {
+    fn fill_samples(&self, input: &Frame, plane: u32, y: u32, out: &mut [u16]) {
         out.fill(128 * input.shape().scale());
     }
 }

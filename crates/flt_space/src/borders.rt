@@ -9,7 +9,7 @@ ghost use Rattle.clip_term.specs.Space.{space_picture, space_refusals, space_sha
 
 use crate::kernels::{cover_row, pad_row};
 use crate::rows::{RowFilter, make_by_rows};
-use crate::wide;
+use crate::wide::{self, wide_row};
 use clip_term::part_of;
 use fv_plane::{Frame, Shape};
 use std::alloc::{AllocError, Global};
@@ -86,22 +86,14 @@ impl RowFilter for BorderRows {
         }
     }
 
-    fn fill_samples(
-        &self,
-        input: &Frame,
-        plane: u32,
-        y: u32,
-        scratch: &mut [u16],
-        out: &mut [u16],
-    ) {
+    fn fill_samples(&self, input: &Frame, plane: u32, y: u32, out: &mut [u16]) {
         let shape = input.shape();
         let left = across(shape, plane, self.left) as usize;
         let top = down(shape, plane, self.top);
         let end = top as u64 + shape.plane_height(plane) as u64;
         let colour = wide_paint(self.color_yuv, shape, plane);
         if is_within(top as u64, end, y as u64) {
-            input.read_row(plane, y - top, scratch);
-            wide::pad_row(scratch, left, colour, out);
+            wide::pad_row(wide_row(input, plane, y - top), left, colour, out);
         } else {
             out.fill(colour);
         }
@@ -169,14 +161,7 @@ impl RowFilter for BoxRows {
         }
     }
 
-    fn fill_samples(
-        &self,
-        input: &Frame,
-        plane: u32,
-        y: u32,
-        scratch: &mut [u16],
-        out: &mut [u16],
-    ) {
+    fn fill_samples(&self, input: &Frame, plane: u32, y: u32, out: &mut [u16]) {
         let shape = input.shape();
         let left = across(shape, plane, self.x1) as usize;
         let right = across(shape, plane, self.x2) as usize;
@@ -185,8 +170,7 @@ impl RowFilter for BoxRows {
         let end = (shape.plane_height(plane) as u64).saturating_sub(bottom);
         let colour = wide_paint(self.color_yuv, shape, plane);
         if is_within(top, end, y as u64) {
-            input.read_row(plane, y, scratch);
-            wide::cover_row(scratch, left, right, colour, out);
+            wide::cover_row(wide_row(input, plane, y), left, right, colour, out);
         } else {
             out.fill(colour);
         }

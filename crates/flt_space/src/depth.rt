@@ -8,7 +8,8 @@ ghost use Rattle.clip_term.specs.declared.op.SpaceOp.TheVariants.{ConvertBits};
 ghost use Rattle.clip_term.specs.Space.{space_picture, space_refusals, space_shape};
 ghost use Rattle.flt_space.specs.Rows.{row_converted};
 
-use crate::{kernels, wide};
+use crate::kernels;
+use crate::wide::{self, wide_row};
 use clip_term::depth_of;
 use fv_plane::{Frame, FrameBuilder, Shape, write_samples};
 use std::alloc::{AllocError, Global};
@@ -23,19 +24,11 @@ fn factor(old: u8, new: u8) -> u16
     1 << (new - old)
 }
 
-// Writes the samples of a row in the bits of `shape`. `scratch` is for a row of the input.
-fn convert_samples(
-    input: &Frame,
-    plane: u32,
-    y: u32,
-    shape: Shape,
-    scratch: &mut [u16],
-    out: &mut [u16],
-)
+// Writes the samples of a row in the bits of `shape`.
+fn convert_samples(input: &Frame, plane: u32, y: u32, shape: Shape, out: &mut [u16])
     requires legal { IsLegal shape }
     requires plane { plane < planes input.now.shape.kind }
     requires inside { y < plane_height input.now.shape plane }
-    requires scratch { length scratch.old ≡ plane_width input.now.shape plane }
     requires whole { length out.old ≡ plane_width input.now.shape plane }
     ensures row { out.new ≡ row_converted input.now shape.bits plane y }
     ensures fits { FitsRow shape out.new }
@@ -45,34 +38,25 @@ fn convert_samples(
         kernels::copy_scaled(input.row(plane, y), factor(old, shape.bits), out);
         return;
     }
-    input.read_row(plane, y, scratch);
+    let row = wide_row(input, plane, y);
     if old <= shape.bits {
-        wide::copy_scaled(scratch, factor(old, shape.bits), out);
+        wide::copy_scaled(row, factor(old, shape.bits), out);
     } else {
         let bits = (old - shape.bits) as u32;
-        wide::copy_rounded(scratch, bits, shape.largest_sample(), out);
+        wide::copy_rounded(row, bits, shape.largest_sample(), out);
     }
 }
 
-// Writes the bytes of a row in the bits of `shape`. `scratch` is for a row of the input, `samples` for one of the result.
-fn convert_row(
-    input: &Frame,
-    plane: u32,
-    y: u32,
-    shape: Shape,
-    scratch: &mut [u16],
-    samples: &mut [u16],
-    out: &mut [u8],
-)
+// Writes the bytes of a row in the bits of `shape`. `samples` is for its samples.
+fn convert_row(input: &Frame, plane: u32, y: u32, shape: Shape, samples: &mut [u16], out: &mut [u8])
     requires legal { IsLegal shape }
     requires plane { plane < planes input.now.shape.kind }
     requires inside { y < plane_height input.now.shape plane }
-    requires scratch { length scratch.old ≡ plane_width input.now.shape plane }
     requires samples { length samples.old ≡ plane_width input.now.shape plane }
     requires whole { length out.old ≡ plane_width input.now.shape plane * sample_bytes shape }
     ensures { out.new ≡ bytes_of_row shape (row_converted input.now shape.bits plane y) }
 {
-    convert_samples(input, plane, y, shape, scratch, samples);
+    convert_samples(input, plane, y, shape, samples);
     if shape.bits == 8 {
         kernels::narrow_row(samples, out);
     } else {
@@ -90,14 +74,12 @@ fn make_converted(alloc: Global, input: &Frame, shape: Shape) -> Result<Frame, A
     let mut made = FrameBuilder::new(alloc, shape)?;
     for plane in 0..shape.kind.planes() {
         let width = shape.plane_width(plane) as usize;
-        let mut scratch = vec![in alloc; 0u16; width]?;
         let mut samples = vec![in alloc; 0u16; width]?;
         let mut bytes = vec![in alloc; 0u8; shape.row_bytes(plane) as usize]?;
-        let scratch = scratch.as_mut_slice();
         let samples = samples.as_mut_slice();
         let row = bytes.as_mut_slice();
         for y in 0..shape.plane_height(plane) {
-            convert_row(input, plane, y, shape, scratch, samples, row);
+            convert_row(input, plane, y, shape, samples, row);
             made.put_row(plane, y, row);
         }
     }

@@ -5,7 +5,7 @@ ghost use Rattle.clip_term.specs.Space.{space_picture};
 
 use crate::kernels::reverse_row;
 use crate::rows::{RowFilter, make_by_rows};
-use crate::wide;
+use crate::wide::{self, wide_row};
 use fv_plane::Frame;
 use std::alloc::{AllocError, Global};
 
@@ -30,16 +30,8 @@ impl RowFilter for MirrorRows {
         reverse_row(input.row(plane, y), out);
     }
 
-    fn fill_samples(
-        &self,
-        input: &Frame,
-        plane: u32,
-        y: u32,
-        scratch: &mut [u16],
-        out: &mut [u16],
-    ) {
-        input.read_row(plane, y, scratch);
-        wide::reverse_row(scratch, out);
+    fn fill_samples(&self, input: &Frame, plane: u32, y: u32, out: &mut [u16]) {
+        wide::reverse_row(wide_row(input, plane, y), out);
     }
 }
 
@@ -65,17 +57,9 @@ impl RowFilter for TurnRows {
         reverse_row(input.row(plane, height - 1 - y), out);
     }
 
-    fn fill_samples(
-        &self,
-        input: &Frame,
-        plane: u32,
-        y: u32,
-        scratch: &mut [u16],
-        out: &mut [u16],
-    ) {
+    fn fill_samples(&self, input: &Frame, plane: u32, y: u32, out: &mut [u16]) {
         let height = input.shape().plane_height(plane);
-        input.read_row(plane, height - 1 - y, scratch);
-        wide::reverse_row(scratch, out);
+        wide::reverse_row(wide_row(input, plane, height - 1 - y), out);
     }
 }
 

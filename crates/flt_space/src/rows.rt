@@ -31,14 +31,13 @@ pub trait RowFilter {
         requires whole { length out.old ≡ plane_width (space_shape (op self.now) input.now.shape) plane }
         ensures { out.new ≡ row_made (op self.now) input.now plane y };
 
-    /// Writes a row of a plane that isn't kept, where a sample has two bytes. `scratch` is for a row of the input.
-    fn fill_samples(&self, input: &Frame, plane: u32, y: u32, scratch: &mut [u16], out: &mut [u16])
+    /// Writes a row of a plane that isn't kept, where a sample has two bytes.
+    fn fill_samples(&self, input: &Frame, plane: u32, y: u32, out: &mut [u16])
         requires accepted { first_fault (space_refusals (op self.now) input.now.shape) ≡ None }
         requires changed { keeps_plane (op self.now) plane ≡ false }
         requires plane { plane < planes (space_shape (op self.now) input.now.shape).kind }
         requires inside { y < plane_height (space_shape (op self.now) input.now.shape) plane }
         requires wide { sample_bytes input.now.shape ≡ 2 }
-        requires scratch { length scratch.old ≡ plane_width input.now.shape plane }
         requires whole { length out.old ≡ plane_width (space_shape (op self.now) input.now.shape) plane }
         ensures { out.new ≡ row_made (op self.now) input.now plane y };
 }
@@ -60,7 +59,6 @@ fn fill_bytes<F: RowFilter>(
     input: &Frame,
     plane: u32,
     y: u32,
-    scratch: &mut [u16],
     samples: &mut [u16],
     out: &mut [u8],
 )
@@ -69,7 +67,6 @@ fn fill_bytes<F: RowFilter>(
     requires changed { keeps_plane (F.op filter.now) plane ≡ false }
     requires plane { plane < planes (space_shape (F.op filter.now) input.now.shape).kind }
     requires inside { y < plane_height (space_shape (F.op filter.now) input.now.shape) plane }
-    requires scratch { length scratch.old ≡ wide_width input.now.shape plane }
     requires samples { length samples.old ≡ wide_width (space_shape (F.op filter.now) input.now.shape) plane }
     requires whole { length out.old ≡ row_bytes (space_shape (F.op filter.now) input.now.shape) plane }
     ensures { out.new ≡ bytes_of_row input.now.shape (row_made (F.op filter.now) input.now plane y) }
@@ -77,7 +74,7 @@ fn fill_bytes<F: RowFilter>(
     if input.shape().bits == 8 {
         filter.fill_row(input, plane, y, out);
     } else {
-        filter.fill_samples(input, plane, y, scratch, samples);
+        filter.fill_samples(input, plane, y, samples);
         write_samples(samples, out);
     }
 }
@@ -97,20 +94,19 @@ fn fill_planes<F: RowFilter>(
     requires sizes { IsPicture made.old }
     ensures { OnOk result (made.new ≡ space_picture (F.op filter.now) input.now) }
 {
-    let from = input.shape();
+    // Called for what its contract says.
+    let _ = input.shape();
     for plane in 0..shape.kind.planes() {
         if filter.keeps_plane(plane) {
             made.put_plane(plane, input, plane)?;
             continue;
         }
-        let mut scratch = vec![in alloc; 0u16; wide_width(from, plane)]?;
         let mut samples = vec![in alloc; 0u16; wide_width(shape, plane)]?;
         let mut bytes = vec![in alloc; 0u8; shape.row_bytes(plane) as usize]?;
-        let scratch = scratch.as_mut_slice();
         let samples = samples.as_mut_slice();
         let row = bytes.as_mut_slice();
         for y in 0..shape.plane_height(plane) {
-            fill_bytes(filter, input, plane, y, scratch, samples, row);
+            fill_bytes(filter, input, plane, y, samples, row);
             made.put_row(plane, y, row);
         }
     }

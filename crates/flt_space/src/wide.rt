@@ -1,16 +1,43 @@
-// What is done to the samples of a row, where they have two bytes. Plain loops over slices, as in `kernels`.
-ghost use Rattle.std.specs.Prelude.{◌≡◌, ◌-◌, ◌+◌, ◌*◌, ◌/◌, ◌^◌, ◌≤◌, min, EachIndex, length, slice_index};
+// What is done to the samples of a row, where they have two bytes. Plain loops over slices, as in `kernels`, which
+// read the samples of a row's bytes where they use them.
+ghost use Rattle.std.specs.Prelude.{◌≡◌, ◌-◌, ◌+◌, ◌*◌, ◌/◌, ◌^◌, ◌<◌, ◌≤◌, ℕ, min, EachIndex, length, slice_index};
 ghost use Rattle.clip_term.specs.Space.{limited};
+ghost use Rattle.fv_plane.specs.Bytes.{wide_samples};
+ghost use Rattle.fv_plane.specs.Format.{planes, plane_width, plane_height, sample_bytes};
+ghost use Rattle.fv_plane.specs.Picture.{row_of};
 ghost use Rattle.flt_space.specs.Rows.{padded, covered};
 
+use fv_plane::{Frame, read_samples, wide_sample};
+
+/// The bytes of a row of samples of two bytes.
+pub fn wide_row(input: &Frame, plane: u32, y: u32) -> &[u8]
+    requires wide { sample_bytes input.now.shape ≡ 2 }
+    requires plane { plane < planes input.now.shape.kind }
+    requires inside { y < plane_height input.now.shape plane }
+    ensures row { wide_samples result.now ≡ row_of input.now.planes plane y }
+    ensures whole { length result.now ≡ plane_width input.now.shape plane * 2 }
+    ensures long { length (wide_samples result.now) ≡ plane_width input.now.shape plane }
+{
+    input.row(plane, y)
+}
+
+// The sample in column `x` of the bytes of a row.
+#[inline(always)]
+fn sample(row: &[u8], x: usize) -> u16
+    requires { 2 * x + 1 < length row.now }
+    ensures { result ≡ slice_index (wide_samples row.now) x }
+{
+    wide_sample(row, x)
+}
+
 /// The complement of each sample.
-pub fn copy_inverted(row: &[u16], largest: u16, out: &mut [u16])
-    requires same { length row.now ≡ length out.old }
-    requires small { EachIndex row.now (λ x. slice_index row.now x ≤ largest) }
-    ensures { EachIndex out.new (λ x. slice_index out.new x ≡ largest - slice_index row.now x) }
+pub fn copy_inverted(row: &[u8], largest: u16, out: &mut [u16])
+    requires same { length row.now ≡ length out.old * 2 }
+    requires small { (x : ℕ) → slice_index (wide_samples row.now) x ≤ largest }
+    ensures { EachIndex out.new (λ x. slice_index out.new x ≡ largest - slice_index (wide_samples row.now) x) }
 {
     for x in 0..out.len() {
-        out[x] = largest - row[x];
+        out[x] = largest - sample(row, x);
     }
 }
 
@@ -21,23 +48,23 @@ fn limited(sample: u16, low: u16, high: u16) -> u16
 }
 
 /// Each sample, brought into bounds.
-pub fn copy_limited(row: &[u16], low: u16, high: u16, out: &mut [u16])
-    requires { length row.now ≡ length out.old }
-    ensures { EachIndex out.new (λ x. slice_index out.new x ≡ limited low high (slice_index row.now x)) }
+pub fn copy_limited(row: &[u8], low: u16, high: u16, out: &mut [u16])
+    requires { length row.now ≡ length out.old * 2 }
+    ensures { EachIndex out.new (λ x. slice_index out.new x ≡ limited low high (slice_index (wide_samples row.now) x)) }
 {
     for x in 0..out.len() {
-        out[x] = limited(row[x], low, high);
+        out[x] = limited(sample(row, x), low, high);
     }
 }
 
 /// Each sample times a factor.
-pub fn copy_scaled(row: &[u16], factor: u16, out: &mut [u16])
-    requires same { length row.now ≡ length out.old }
-    requires small { EachIndex row.now (λ x. slice_index row.now x * factor ≤ 65535) }
-    ensures { EachIndex out.new (λ x. slice_index out.new x ≡ slice_index row.now x * factor) }
+pub fn copy_scaled(row: &[u8], factor: u16, out: &mut [u16])
+    requires same { length row.now ≡ length out.old * 2 }
+    requires small { (x : ℕ) → slice_index (wide_samples row.now) x * factor ≤ 65535 }
+    ensures { EachIndex out.new (λ x. slice_index out.new x ≡ slice_index (wide_samples row.now) x * factor) }
 {
     for x in 0..out.len() {
-        out[x] = row[x] * factor;
+        out[x] = sample(row, x) * factor;
     }
 }
 
@@ -53,46 +80,48 @@ fn rounded(sample: u16, bits: u32, largest: u16) -> u16
 }
 
 /// Each sample without its last bits, rounded with a half upwards, and at most the largest.
-pub fn copy_rounded(row: &[u16], bits: u32, largest: u16, out: &mut [u16])
-    requires same { length row.now ≡ length out.old }
+pub fn copy_rounded(row: &[u8], bits: u32, largest: u16, out: &mut [u16])
+    requires same { length row.now ≡ length out.old * 2 }
     requires some { 1 ≤ bits }
     requires few { bits ≤ 16 }
     ensures { EachIndex out.new (λ x.
-        slice_index out.new x ≡ min largest ((slice_index row.now x + 2 ^ (bits - 1)) / 2 ^ bits)) }
+        slice_index out.new x ≡ min largest ((slice_index (wide_samples row.now) x + 2 ^ (bits - 1)) / 2 ^ bits)) }
 {
     for x in 0..out.len() {
-        out[x] = rounded(row[x], bits, largest);
+        out[x] = rounded(sample(row, x), bits, largest);
     }
 }
 
 /// The samples from right to left.
-pub fn reverse_row(row: &[u16], out: &mut [u16])
-    requires { length row.now ≡ length out.old }
-    ensures { EachIndex out.new (λ x. slice_index out.new x ≡ slice_index row.now (length row.now - 1 - x)) }
+pub fn reverse_row(row: &[u8], out: &mut [u16])
+    requires { length row.now ≡ length out.old * 2 }
+    ensures { EachIndex out.new (λ x. slice_index out.new x ≡ slice_index (wide_samples row.now) (length out.new - 1 - x)) }
 {
     let width = out.len();
     for x in 0..width {
-        out[x] = row[width - 1 - x];
+        out[x] = sample(row, width - 1 - x);
     }
 }
 
 /// The row after `before` samples of one value, and samples of that value after it.
-pub fn pad_row(row: &[u16], before: usize, value: u16, out: &mut [u16])
-    requires { before + length row.now ≤ length out.old }
-    ensures { out.new ≡ padded before value row.now (length out.old) }
+pub fn pad_row(row: &[u8], before: usize, value: u16, out: &mut [u16])
+    requires even { length row.now ≡ length (wide_samples row.now) * 2 }
+    requires inside { before + length (wide_samples row.now) ≤ length out.old }
+    ensures { out.new ≡ padded before value (wide_samples row.now) (length out.old) }
 {
     let (start, rest) = out.split_at_mut(before);
-    let (middle, end) = rest.split_at_mut(row.len());
+    let (middle, end) = rest.split_at_mut(row.len() / 2);
     start.fill(value);
-    middle.copy_from_slice(row);
+    read_samples(row, middle);
     end.fill(value);
 }
 
 /// The row with its edges covered by one value.
-pub fn cover_row(row: &[u16], left: usize, right: usize, value: u16, out: &mut [u16])
-    requires inside { left + right ≤ length row.now }
-    requires same { length out.old ≡ length row.now }
-    ensures { out.new ≡ covered left right value row.now }
+pub fn cover_row(row: &[u8], left: usize, right: usize, value: u16, out: &mut [u16])
+    requires inside { left + right ≤ length (wide_samples row.now) }
+    requires even { length row.now ≡ length (wide_samples row.now) * 2 }
+    requires same { length out.old ≡ length (wide_samples row.now) }
+    ensures { out.new ≡ covered left right value (wide_samples row.now) }
 {
-    pad_row(&row[left..row.len() - right], left, value, out);
+    pad_row(&row[left * 2..row.len() - right * 2], left, value, out);
 }

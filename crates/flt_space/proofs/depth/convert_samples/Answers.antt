@@ -1,6 +1,6 @@
 use Rattle.std.proofs.Common.{◌≡◌, ◌∙◌, ◌-◌, ◌^◌, ◌≤◌, ℕ, List, map, get_or, ap, sym, subst, arith}
 use Rattle.fv_plane.specs.declared.format.Shape.{Shape}
-use Rattle.fv_plane.specs.Bytes.{FitsRow}
+use Rattle.fv_plane.specs.Bytes.{FitsRow, wide_samples}
 use Rattle.fv_plane.specs.Picture.{row_of}
 use Rattle.fv_plane.proofs.CallerLemmas.{bytes_of_narrow}
 use Rattle.clip_term.specs.Space.{converted}
@@ -29,14 +29,14 @@ factor-requires-then-old-shape-clause-least c =
 
 pub copy_scaled-requires-then-old-shape-clause-small :
     goal.copy_scaled-requires-then-old-shape-clause-small
-copy_scaled-requires-then-old-shape-clause-small c = λ k within.
+copy_scaled-requires-then-old-shape-clause-small c = λ k.
     let input = c.args.input.now in
     let old = input.shape.bits in
     let new = c.args.shape.bits in
     let is : c.shape-old.result.bits ≡ old = ap (λ (s : Shape). s.bits) c.shape-old.ensures.shape in
     let factor : c.factor-then-old-shape.result ≡ 2 ^ (new - old) = c.factor-then-old-shape.ensures ∙ ap (λ n. 2 ^ (new - n)) is in
-    let few : get_or c.read_row.new.samples k 0 ≤ 2 ^ old - 1 = rw c.read_row.ensures (c.shape-old.ensures.sizes.bounded c.args.plane k c.args.y) in
-    rw factor (raised_small old new (get_or c.read_row.new.samples k 0) (omega (arith, is, c.if-old-shape.true)) (depth_of c.args.shape c.requires.legal).most few)
+    let few : get_or (wide_samples c.wide_row-row.result.now) k 0 ≤ 2 ^ old - 1 = rw c.wide_row-row.ensures.row (c.shape-old.ensures.sizes.bounded c.args.plane k c.args.y) in
+    rw factor (raised_small old new (get_or (wide_samples c.wide_row-row.result.now) k 0) (omega (arith, is, c.if-old-shape.true)) (depth_of c.args.shape c.requires.legal).most few)
 
 pub copy_rounded-requires-clause-few : goal.copy_rounded-requires-clause-few
 copy_rounded-requires-clause-few c =
@@ -50,9 +50,9 @@ returns-then-old-shape-clause-row c =
     let new = c.args.shape.bits in
     let is : c.shape-old.result.bits ≡ old = ap (λ (s : Shape). s.bits) c.shape-old.ensures.shape in
     let factor : c.factor-then-old-shape.result ≡ 2 ^ (new - old) = c.factor-then-old-shape.ensures ∙ ap (λ n. 2 ^ (new - n)) is in
-    scaled_row old new c.factor-then-old-shape.result c.read_row.new.samples c.copy_scaled-then-old-shape.new.out (omega (arith, is, c.if-old-shape.true)) factor
-    (c.copy_scaled-then-old-shape.auto.out ∙ c.requires.whole ∙ sym (c.read_row.auto.samples ∙ c.requires.scratch)) c.copy_scaled-then-old-shape.ensures
-    ∙ ap (map (converted old new)) c.read_row.ensures
+    scaled_row old new c.factor-then-old-shape.result (wide_samples c.wide_row-row.result.now) c.copy_scaled-then-old-shape.new.out (omega (arith, is, c.if-old-shape.true)) factor
+    (c.copy_scaled-then-old-shape.auto.out ∙ c.requires.whole ∙ sym c.wide_row-row.ensures.long) c.copy_scaled-then-old-shape.ensures
+    ∙ ap (map (converted old new)) c.wide_row-row.ensures.row
 
 pub returns-else-old-shape-clause-row : goal.returns-else-old-shape-clause-row
 returns-else-old-shape-clause-row c =
@@ -60,9 +60,9 @@ returns-else-old-shape-clause-row c =
     let old = input.shape.bits in
     let new = c.args.shape.bits in
     let is : c.shape-old.result.bits ≡ old = ap (λ (s : Shape). s.bits) c.shape-old.ensures.shape in
-    rounded_row old new (c.shape-old.result.bits - new) c.largest_sample.result c.read_row.new.samples c.copy_rounded.new.out (omega (arith, is, c.if-old-shape.false))
-    (ap (λ n. n - new) is) c.largest_sample.ensures (c.copy_rounded.auto.out ∙ c.requires.whole ∙ sym (c.read_row.auto.samples ∙ c.requires.scratch)) c.copy_rounded.ensures
-    ∙ ap (map (converted old new)) c.read_row.ensures
+    rounded_row old new (c.shape-old.result.bits - new) c.largest_sample.result (wide_samples c.wide_row-row.result.now) c.copy_rounded.new.out (omega (arith, is, c.if-old-shape.false))
+    (ap (λ n. n - new) is) c.largest_sample.ensures (c.copy_rounded.auto.out ∙ c.requires.whole ∙ sym c.wide_row-row.ensures.long) c.copy_rounded.ensures
+    ∙ ap (map (converted old new)) c.wide_row-row.ensures.row
 
 pub returns-then-old-eq8-clause-fits : goal.returns-then-old-eq8-clause-fits
 returns-then-old-eq8-clause-fits c =

@@ -30,7 +30,6 @@ loop-y-preserved c =
     let again : row_of_bytes c.loop-y.made.shape c.convert_row.new.out ≡ row
     = ap (row_of_bytes c.loop-y.made.shape) c.convert_row.ensures ∙ ap (λ (s : Shape). row_of_bytes s (bytes_of_row shape row)) c.loop-y.invariant.filled.same ∙ row_again shape row in
     record {
-      scratch = c.convert_row.auto.scratch ∙ c.loop-y.invariant.scratch;
       samples = c.convert_row.auto.samples ∙ c.loop-y.invariant.samples;
       row = c.convert_row.auto.out ∙ c.loop-y.invariant.row;
       filled = filled_put (row_converted c.args.input.now shape.bits) shape c.loop-y.made c.put_row.new.self c.loop-plane.plane c.loop-y.y (row_of_bytes c.loop-y.made.shape c.convert_row.new.out)

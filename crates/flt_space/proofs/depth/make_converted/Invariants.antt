@@ -6,7 +6,6 @@ use Rattle.flt_space.proofs.depth.make_converted.Given as goal
 
 abbrev pub invariant-loop-y : goal.invariant-loop-y
 invariant-loop-y l = record {
-  scratch : length l.scratch ≡ plane_width l.shape l.plane;
   samples : length l.samples ≡ plane_width l.shape l.plane;
   row : length l.row ≡ row_bytes l.shape l.plane;
   filled : Filled (row_converted l.input l.shape.bits) l.shape l.made l.plane l.y;

@@ -18,10 +18,6 @@ pub fill_samples-requires-clause-wide : goal.fill_samples-requires-clause-wide
 fill_samples-requires-clause-wide g c =
     two_bytes c.args.input.now.shape (more_bits c.args.input.now.shape c.shape.result c.shape.ensures.shape c.if-shape-eq8.false)
 
-pub fill_samples-requires-clause-scratch : goal.fill_samples-requires-clause-scratch
-fill_samples-requires-clause-scratch g c =
-    c.requires.scratch ∙ wide_row c.args.input.now.shape c.args.plane (more_bits c.args.input.now.shape c.shape.result c.shape.ensures.shape c.if-shape-eq8.false)
-
 pub fill_samples-requires-clause-whole : goal.fill_samples-requires-clause-whole
 fill_samples-requires-clause-whole g c =
     let op = g.F.RowFilter.op c.args.filter.now in

@@ -6,7 +6,6 @@ use Rattle.fv_plane.specs.Look.{look_in}
 use Rattle.fv_plane.proofs.FillLemmas.{filled_put, filled_plane, filled_done}
 use Rattle.clip_term.specs.Space.{space_at}
 use Rattle.flt_space.specs.Kept.{keeps_plane}
-use Rattle.flt_space.specs.Rows.{wide_width}
 use Rattle.fv_plane.proofs.WholePlaneLemmas.{rows_listed, filled_whole, row_seen}
 use Rattle.flt_space.proofs.KeptLemmas.{kept_shape, kept_samples}
 use Rattle.flt_space.proofs.RowLemmas.{made_again, made_fits}
@@ -38,7 +37,7 @@ loop-plane-preserved-then-keeps_plane g c =
     let at = space_at filter input.shape (look_in input) in
     filled_whole (rows_listed c.args.shape at) c.args.shape c.loop-plane.made c.put_plane.new.self c.loop-plane.plane _ c.loop-plane.invariant
     c.in_ok-put_plane.ensures.sizes c.in_ok-put_plane.ensures.shape c.in_ok-put_plane.ensures.put
-    (λ z inside. row_seen input c.loop-plane.plane at c.loop-plane.plane (plane_width c.args.shape c.loop-plane.plane) z c.shape-from.ensures.sizes
+    (λ z inside. row_seen input c.loop-plane.plane at c.loop-plane.plane (plane_width c.args.shape c.loop-plane.plane) z c.shape.ensures.sizes
     (omega (arith, there, ap (λ (s : Shape). planes s.kind) same)) (omega (arith, inside, ap (λ (s : Shape). plane_height s c.loop-plane.plane) same))
     (sym (ap (λ (s : Shape). plane_width s c.loop-plane.plane) same)) (λ x. sym (kept_samples filter input.shape c.loop-plane.plane keeps (look_in input) x z))) there
 
@@ -55,9 +54,6 @@ fill_bytes-requires-clause-inside g c =
     let inside : c.loop-y.y < plane_height c.args.shape c.loop-plane.plane = search rules in
     rw (← c.requires.shape) inside
 
-pub fill_bytes-requires-clause-scratch : goal.fill_bytes-requires-clause-scratch
-fill_bytes-requires-clause-scratch g c = c.loop-y.invariant.scratch ∙ ap (λ (s : Shape). wide_width s c.loop-plane.plane) c.shape-from.ensures.shape
-
 pub fill_bytes-requires-clause-samples : goal.fill_bytes-requires-clause-samples
 fill_bytes-requires-clause-samples g c = rw (← c.requires.shape) c.loop-y.invariant.samples
 
@@ -70,7 +66,7 @@ put_row-requires-clause-whole g c = rw c.loop-y.invariant.filled.same (c.fill_by
 pub put_row-requires-clause-fits : goal.put_row-requires-clause-fits
 put_row-requires-clause-fits g c =
     made_fits (g.F.RowFilter.op c.args.filter.now) c.args.input.now c.args.shape c.loop-y.made.shape c.loop-plane.plane c.loop-y.y c.fill_bytes.new.out c.requires.shape c.loop-y.invariant.filled.same
-    (rw (← c.requires.shape) c.requires.bits) c.fill_bytes.ensures c.requires.accepted c.shape-from.ensures.sizes
+    (rw (← c.requires.shape) c.requires.bits) c.fill_bytes.ensures c.requires.accepted c.shape.ensures.sizes
 
 pub put_row-requires-clause-plane : goal.put_row-requires-clause-plane
 put_row-requires-clause-plane g c =
@@ -88,7 +84,6 @@ loop-y-preserved g c =
     let at = space_at filter c.args.input.now.shape (look_in c.args.input.now) in
     let row = made_again filter c.args.input.now c.args.shape c.loop-y.made.shape c.loop-plane.plane c.loop-y.y c.fill_bytes.new.out c.requires.shape c.loop-y.invariant.filled.same (rw (← c.requires.shape) c.requires.bits) c.fill_bytes.ensures in
     record {
-      scratch = c.fill_bytes.auto.scratch ∙ c.loop-y.invariant.scratch;
       samples = c.fill_bytes.auto.samples ∙ c.loop-y.invariant.samples;
       row = c.fill_bytes.auto.out ∙ c.loop-y.invariant.row;
       filled = filled_put (rows_listed c.args.shape at) c.args.shape c.loop-y.made c.put_row.new.self c.loop-plane.plane c.loop-y.y (row_of_bytes c.loop-y.made.shape c.fill_bytes.new.out) c.loop-y.invariant.filled

@@ -9,7 +9,6 @@ use Rattle.flt_space.proofs.rows.fill_planes.Given as goal
 
 abbrev pub invariant-loop-y : goal.invariant-loop-y
 invariant-loop-y g l = record {
-  scratch : length l.scratch ≡ wide_width l.from l.plane;
   samples : length l.samples ≡ wide_width l.shape l.plane;
   row : length l.row ≡ row_bytes l.shape l.plane;
   filled : Filled (rows_listed l.shape (space_at (g.F.RowFilter.op l.filter) l.input.shape (look_in l.input))) l.shape l.made l.plane l.y;

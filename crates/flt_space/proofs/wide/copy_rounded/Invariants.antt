@@ -1,6 +1,7 @@
 use Rattle.std.proofs.Common.{◌≡◌, ◌+◌, ◌-◌, ◌/◌, ◌^◌, ℕ, ◌<◌, get_or}
 use Rattle.std.specs.Prelude.{min}
+use Rattle.fv_plane.specs.Bytes.{wide_samples}
 use Rattle.flt_space.proofs.wide.copy_rounded.Given as goal
 
 abbrev pub invariant-loop-x : goal.invariant-loop-x
-invariant-loop-x l = (x : ℕ) → x < l.x → get_or l.out x 0 ≡ min l.largest ((get_or l.row x 0 + 2 ^ (l.bits - 1)) / 2 ^ l.bits)
+invariant-loop-x l = (x : ℕ) → x < l.x → get_or l.out x 0 ≡ min l.largest ((get_or (wide_samples l.row) x 0 + 2 ^ (l.bits - 1)) / 2 ^ l.bits)

@@ -8,10 +8,10 @@ use Rattle.flt_space.proofs.RowLemmas.{made_row}
 use Rattle.flt_space.proofs.adjust.InvertRowsRowFilter.fill_samples.Goals as goal
 
 pub copy_inverted-requires-clause-small : goal.copy_inverted-requires-clause-small
-copy_inverted-requires-clause-small c = λ x within.
+copy_inverted-requires-clause-small c = λ x.
     let input = c.args.input.now in
     let most : c.largest_sample.result ≡ largest_sample input.shape = c.largest_sample.ensures ∙ ap (λ (s : Shape). largest_sample s) c.shape.ensures.shape in
-    rw (c.read_row.ensures, most) (c.shape.ensures.sizes.bounded c.args.plane x c.args.y)
+    rw (c.wide_row-row.ensures.row, most) (c.shape.ensures.sizes.bounded c.args.plane x c.args.y)
 
 pub returns : goal.returns
 returns c =
@@ -20,4 +20,4 @@ returns c =
     let most : c.largest_sample.result ≡ largest_sample input.shape = c.largest_sample.ensures ∙ ap (λ (s : Shape). largest_sample s) c.shape.ensures.shape in
     let named : is_among channels c.args.plane ≡ true = negated (is_among channels c.args.plane) true c.requires.changed in
     made_row (op.Invert channels) input c.args.plane c.args.y c.copy_inverted.new.out (search rules)
-    (λ x within. c.copy_inverted.ensures x (search rules) ∙ rw (c.read_row.ensures, named, most) refl)
+    (λ x within. c.copy_inverted.ensures x (search rules) ∙ rw (c.wide_row-row.ensures.row, named, most) refl)

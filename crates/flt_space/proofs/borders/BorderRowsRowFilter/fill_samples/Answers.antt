@@ -9,21 +9,20 @@ use Rattle.flt_space.proofs.BorderLemmas.{fits_between, inside_of, bordered_row,
 use Rattle.flt_space.proofs.RowLemmas.{made_row}
 use Rattle.flt_space.proofs.borders.BorderRowsRowFilter.fill_samples.Goals as goal
 
-pub read_row-requires-clause-inside : goal.read_row-requires-clause-inside
-read_row-requires-clause-inside c =
+pub wide_row-requires-clause-inside : goal.wide_row-requires-clause-inside
+wide_row-requires-clause-inside c =
     let shape = c.args.input.now.shape in
     let high : c.plane_height.result ≡ plane_height shape c.args.plane = search rules in
     let told : is_within c.down-top.result (c.down-top.result + c.plane_height.result) c.args.y ≡ true = sym c.is_within.ensures ∙ c.if-is_within.true in
     let places = inside_of c.down-top.result (c.down-top.result + c.plane_height.result) c.args.y told in
     omega (arith, places.0, places.1, high)
 
-pub pad_row-requires : goal.pad_row-requires
-pad_row-requires c =
+pub pad_row-requires-clause-inside : goal.pad_row-requires-clause-inside
+pad_row-requires-clause-inside c =
     let shape = c.args.input.now.shape in
     let borders = c.args.self.now in
     let left : c.across-left.result ≡ across shape c.args.plane (nat_of borders.left) = search rules in
-    let long : length c.read_row.new.samples ≡ plane_width shape c.args.plane = c.read_row.auto.samples ∙ c.requires.scratch in
-    omega (arith, left, long, c.requires.whole, fits_between shape c.args.plane (nat_of borders.left) (nat_of borders.right) (shape.height + nat_of borders.top + nat_of borders.bottom))
+    omega (arith, left, c.wide_row.ensures.long, c.requires.whole, fits_between shape c.args.plane (nat_of borders.left) (nat_of borders.right) (shape.height + nat_of borders.top + nat_of borders.bottom))
 
 pub returns-then-is_within : goal.returns-then-is_within
 returns-then-is_within c =
@@ -35,10 +34,9 @@ returns-then-is_within c =
     let value : c.wide_paint-colour.result ≡ paint borders.color_yuv input.shape p = search rules in
     let high : c.plane_height.result ≡ plane_height input.shape p = search rules in
     let told : is_within c.down-top.result (c.down-top.result + c.plane_height.result) c.args.y ≡ true = sym c.is_within.ensures ∙ c.if-is_within.true in
-    let read = rw top at c.read_row.ensures in
-    let long : length c.read_row.new.samples ≡ plane_width input.shape p = c.read_row.auto.samples ∙ c.requires.scratch in
+    let read = rw top at c.wide_row.ensures.row in
     let put = rw (left, value, read, c.requires.whole) at c.pad_row.ensures in
-    put ∙ bordered_row input borders.left borders.top borders.right borders.bottom borders.color_yuv p c.args.y _ (rw read at long)
+    put ∙ bordered_row input borders.left borders.top borders.right borders.bottom borders.color_yuv p c.args.y _ (rw read at c.wide_row.ensures.long)
     (fits_between input.shape p (nat_of borders.left) (nat_of borders.right) (input.shape.height + nat_of borders.top + nat_of borders.bottom))
     (rw (top, high) at told)
 

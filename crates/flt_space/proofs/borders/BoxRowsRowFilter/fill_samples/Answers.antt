@@ -2,7 +2,6 @@ use Rattle.std.proofs.Common.{rules, ◌≡◌, ◌-◌, ◌∙◌, true, false,
 use Rattle.std.proofs.lemmas.List.{get_or-replicate}
 use Rattle.fv_plane.specs.Format.{plane_width, plane_height}
 use Rattle.fv_plane.specs.Look.{across, down}
-use Rattle.fv_plane.specs.Picture.{row_of}
 use Rattle.clip_term.specs.declared.op.SpaceOp.TheVariants.{LetterBox}
 use Rattle.clip_term.specs.Refusals.{nat_of, paint}
 use Rattle.clip_term.specs.Space.{is_within}
@@ -17,8 +16,7 @@ cover_row-requires-clause-inside c =
     let p = c.args.plane in
     let left : c.across-left.result ≡ across shape p (nat_of box.x1) = search rules in
     let right : c.across-right.result ≡ across shape p (nat_of box.x2) = search rules in
-    let long : length c.read_row.new.samples ≡ plane_width shape p = c.read_row.auto.samples ∙ c.requires.scratch in
-    omega (arith, left, right, long, fits_across shape p (nat_of box.x1) (nat_of box.x2) (covers_less shape box.top box.bottom box.x1 box.x2 box.color_yuv c.requires.accepted))
+    omega (arith, left, right, c.wide_row.ensures.long, fits_across shape p (nat_of box.x1) (nat_of box.x2) (covers_less shape box.top box.bottom box.x1 box.x2 box.color_yuv c.requires.accepted))
 
 pub returns-then-is_within : goal.returns-then-is_within
 returns-then-is_within c =
@@ -30,11 +28,10 @@ returns-then-is_within c =
     let top : c.down-top.result ≡ down input.shape p (nat_of box.top) = search rules in
     let end : c.saturating_sub-end.result ≡ plane_height input.shape p - down input.shape p (nat_of box.bottom) = search rules in
     let value : c.wide_paint-colour.result ≡ paint box.color_yuv input.shape p = search rules in
-    let row : c.read_row.new.samples ≡ row_of input.planes p c.args.y = c.read_row.ensures in
-    let long : length c.read_row.new.samples ≡ plane_width input.shape p = c.read_row.auto.samples ∙ c.requires.scratch in
+    let row = c.wide_row.ensures.row in
     let told : is_within c.down-top.result c.saturating_sub-end.result c.args.y ≡ true = sym c.is_within.ensures ∙ c.if-is_within.true in
     let put = rw (left, right, value, row) at c.cover_row.ensures in
-    put ∙ boxed_row input box.top box.bottom box.x1 box.x2 box.color_yuv p c.args.y (rw row at long)
+    put ∙ boxed_row input box.top box.bottom box.x1 box.x2 box.color_yuv p c.args.y (rw row at c.wide_row.ensures.long)
     (fits_across input.shape p (nat_of box.x1) (nat_of box.x2) (covers_less input.shape box.top box.bottom box.x1 box.x2 box.color_yuv c.requires.accepted))
     (rw (top, end) at told)
 
