@@ -15,7 +15,7 @@ use Rattle.avs_meaning.specs.declared.fault.FileKind.{FileKind}
 use Rattle.avs_meaning.specs.declared.fault.InputFault.{InputFault}
 use Rattle.avs_meaning.specs.declared.fault.ScriptKind.TheVariants as k
 use Rattle.avs_meaning.specs.declared.stop.ScriptStop.{ScriptStop}
-use Rattle.avs_state.specs.Hosts.{Fails}
+use Rattle.avs_state.specs.Answers.{Fails}
 use Rattle.avs_eval.proofs.Failures.{is_fault, then_fails}
 use Rattle.avs_eval.specs.At as r
 use Rattle.avs_eval.specs.Bodies.{body_by}
@@ -45,8 +45,8 @@ module _ (clips : Text → Result Info InputFault) (scripts : Text → Result Te
       → r.execute clips scripts n from text here line s ≡ r.deeper clips scripts n from body.0 s'
   executed s s' body short is = execute_is s short ∙ ap (λ o. and_then o (λ body. r.deeper clips scripts n from body.0)) is
 
-  pub execute_fails : (s : State) (stop : ScriptStop) → length text ≤ text_limit → Fails (body_by (script_of text) from s) stop
-      → Fails (r.execute clips scripts n from text here line s) stop
+  pub execute_fails : (s : State) (stop : ScriptStop) → length text ≤ text_limit → Fails (Unit {0}) (body_by (script_of text) from s) stop
+      → Fails (Unit {0}) (r.execute clips scripts n from text here line s) stop
   execute_fails s stop short failed =
       is_fault _ _ stop (execute_is s short) (then_fails (body_by (script_of text) from s) (λ body. r.deeper clips scripts n from body.0) stop failed)
 

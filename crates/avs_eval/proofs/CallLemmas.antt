@@ -20,7 +20,7 @@ use Rattle.avs_meaning.specs.declared.fault.InputFault.{InputFault}
 use Rattle.avs_meaning.specs.declared.fault.ScriptKind.{ScriptKind}
 use Rattle.avs_meaning.specs.declared.fault.ScriptKind.TheVariants as k
 use Rattle.avs_meaning.specs.declared.stop.ScriptStop.{ScriptStop}
-use Rattle.avs_state.specs.Hosts.{Fails}
+use Rattle.avs_state.specs.Answers.{Fails}
 use Rattle.avs_eval.specs.OutsideBy.{outside_by}
 use Rattle.avs_eval.proofs.Failures.{is_fault, then_fails}
 use Rattle.avs_eval.specs.At as r
@@ -91,7 +91,7 @@ module _ (clips : Text → Result Info InputFault) (scripts : Text → Result Te
   -- the function fails
   pub range_fails : (values rest : List Value) (range : Given) (c : Callee) (args : List binding.Given) (stop : ScriptStop) (s : State)
       → given_in values ≡ Ok range → called here range.name line s ≡ Ok (c, s) → args ≡ map unnamed (v.Clip range.clip ∷ rest)
-      → Fails (r.apply clips scripts n c args None here line s) stop → Fails (r.ranged_by clips scripts n values rest here line s) stop
+      → Fails (Unit {0}) (r.apply clips scripts n c args None here line s) stop → Fails (Unit {0}) (r.ranged_by clips scripts n values rest here line s) stop
   range_fails values rest range c args stop s is known same failed =
       is_fault _ _ stop
       (range_called values rest range c s is known

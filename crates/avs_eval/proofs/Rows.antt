@@ -16,7 +16,7 @@ use Rattle.avs_meaning.specs.State.{State, Outcome, Run, and_then, pure}
 use Rattle.avs_meaning.specs.declared.fault.FileKind.{FileKind}
 use Rattle.avs_meaning.specs.declared.fault.InputFault.{InputFault}
 use Rattle.avs_meaning.specs.declared.stop.ScriptStop.{ScriptStop}
-use Rattle.avs_state.specs.Hosts.{Fails}
+use Rattle.avs_state.specs.Answers.{Fails}
 use Rattle.avs_eval.proofs.Failures.{first_fails}
 use Rattle.avs_eval.specs.At as r
 
@@ -67,7 +67,7 @@ module _ (clips : Text → Result Info InputFault) (scripts : Text → Result Te
   -- where one method call fails, all do
   pub calls_fail : (xs : List DotCall) (i : ℕ) (x : DotCall) (v : Value) (s : State) (whole : Outcome Value) (stop : ScriptStop)
       → i < length xs → x ≡ get_or xs i x → r.calls_from clips scripts n here (method_calls_of (map method_call_view (drop i xs))) v s ≡ whole
-      → Fails (r.calls_from clips scripts n here (method_calls_of (method_call_view x ∷ [])) v s) stop → Fails whole stop
+      → Fails (Unit {0}) (r.calls_from clips scripts n here (method_calls_of (method_call_view x ∷ [])) v s) stop → Fails (Unit {0}) whole stop
   calls_fail xs i x v s whole stop h is same failed =
       first_fails whole (r.calls_from clips scripts n here (method_calls_of (method_call_view x ∷ [])) v s)
       (r.calls_from clips scripts n here (method_calls_of (map method_call_view (drop (i + 1) xs)))) stop (sym same ∙ calls_more xs i x v s h is) failed

@@ -7,7 +7,7 @@ use Rattle.avs_meaning.specs.Meaning.{below, run}
 use Rattle.avs_meaning.specs.Outside.{Outside}
 use Rattle.avs_meaning.specs.State.{State, Outcome, Run, and_then, ◌>>=◌, ◌>>◌, spend}
 use Rattle.avs_meaning.specs.declared.stop.ScriptStop.{ScriptStop}
-use Rattle.avs_state.specs.Hosts.{Fails}
+use Rattle.avs_state.specs.Answers.{Fails}
 use Rattle.avs_eval.proofs.Failures.{first_fails}
 
 module _ (here : Text) where
@@ -29,7 +29,7 @@ module _ (here : Text) where
 
   -- where a turn fails, the loop does
   pub count_fails : (n i : ℕ) (x : Text) (a z by : ℤ) (line : ℕ) (body : Run m.Flow) (s : State) (whole : Outcome m.Flow) (stop : ScriptStop) → i < n
-      → m.counts here (n - i) x a z by line body s ≡ whole → Fails (m.turn here x a z by line body s) stop → Fails whole stop
+      → m.counts here (n - i) x a z by line body s ≡ whole → Fails (Unit {0}) (m.turn here x a z by line body s) stop → Fails (Unit {0}) whole stop
   count_fails n i x a z by line body s whole stop h same failed =
       first_fails whole (m.turn here x a z by line body s) (m.continues (λ k. m.counts here (n - (i + 1)) x k z by line body)) stop
       (sym same ∙ count_more n i x a z by line body s h) failed

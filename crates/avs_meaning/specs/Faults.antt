@@ -1,8 +1,8 @@
 -- Why a script has no clip.
 use Rattle.std.specs.Prelude.{◌≡◌, ℕ}
+use Rattle.avs_values.specs.Refusals.{Refusal}
+use Rattle.avs_values.specs.Refusals as v
 use Rattle.avs_values.specs.Values.{Text}
-use Rattle.avs_values.specs.declared.fault.ValueFault.{ValueFault}
-use Rattle.avs_values.specs.declared.fault.ValueFault.TheVariants as v
 use Rattle.avs_meaning.specs.declared.fault.InputFault.{InputFault}
 use Rattle.avs_meaning.specs.declared.fault.ScriptKind.{ScriptKind}
 use Rattle.avs_meaning.specs.declared.fault.ScriptKind.TheVariants as k
@@ -15,8 +15,8 @@ pub data Fault : Type 0 where
   -- the file of this name is no clip
   input : Text → InputFault → Fault
 
--- No definition gives Memory.
-abbrev pub kind_of : ValueFault → ScriptKind
+-- the same fault of a script
+abbrev pub kind_of : Refusal → ScriptKind
 kind_of v.TypeFault = k.TypeFault
 kind_of v.Overflow = k.Overflow
 kind_of v.DivZero = k.DivZero
@@ -24,7 +24,6 @@ kind_of v.BadText = k.BadText
 kind_of v.BadRange = k.BadRange
 kind_of v.TextLimit = k.TextLimit
 kind_of (v.AssertFailed message) = k.AssertFailed message
-kind_of v.Memory = k.TextLimit
 
 -- what a stop shows: this fault, or that memory ran out
 abbrev pub Shows : Fault → ScriptStop → Type 0

@@ -3,8 +3,8 @@ use Rattle.std.specs.Prelude.{ℕ, [], ◌∷◌, Bool, true, false, Result, Ok,
 use Rattle.avs_tree.specs.declared.tree.Operator.{Operator}
 use Rattle.avs_tree.specs.declared.tree.Operator.TheVariants as op
 use Rattle.avs_values.specs.Operators.{binary, unary}
+use Rattle.avs_values.specs.Outcome.{Outcome}
 use Rattle.avs_values.specs.Values.{Text}
-use Rattle.avs_values.specs.declared.fault.ValueFault.{ValueFault}
 use Rattle.avs_values.specs.declared.operators.BinaryOp.{BinaryOp}
 use Rattle.avs_values.specs.declared.operators.BinaryOp.TheVariants as b
 use Rattle.avs_values.specs.declared.operators.UnaryOp.{UnaryOp}
@@ -34,7 +34,7 @@ binary_of _ = b.Add
 
 -- in the text of this name
 module _ (here : Text) where
-  abbrev pub placed : ℕ → Result Value ValueFault → Result Value Fault
+  abbrev pub placed : ℕ → Outcome → Result Value Fault
   placed line (Ok x) = Ok x
   placed line (Err fault) = Err (script (kind_of fault) here line)
 

@@ -12,7 +12,7 @@ use Rattle.avs_values.specs.Numbers.{absolute, sign, folded, least, greatest, bi
 use Rattle.avs_values.specs.Outcome.{Outcome, number, is_number}
 use Rattle.avs_values.specs.Texts.{str_len, u_case, l_case, rev_str, first, after, at_most, left_str, right_str, cut, mid_str, position_from, find_str, chr, number_of, ord}
 use Rattle.avs_values.specs.Values.{Text, has_kind}
-use Rattle.avs_values.specs.declared.fault.ValueFault.TheVariants as f
+use Rattle.avs_values.specs.Refusals as f
 use Rattle.avs_values.specs.declared.plain_fn.PlainFn.{PlainFn}
 use Rattle.avs_values.specs.declared.plain_fn.PlainFn.TheVariants as p
 use Rattle.avs_values.specs.declared.value.Kind.{Kind}

@@ -11,7 +11,7 @@ use Rattle.std.proofs.lemmas.Int.Digits.{digits_value-lt}
 use Rattle.avs_values.specs.Numbers.{is_decimal, is_hexadecimal}
 use Rattle.avs_values.specs.Outcome.{number, is_number}
 use Rattle.avs_values.specs.Values.{Text}
-use Rattle.avs_values.specs.declared.fault.ValueFault.TheVariants as f
+use Rattle.avs_values.specs.Refusals as f
 
 left : (a b : Bool) → (a && b) ≡ true → a ≡ true
 left a b x = grind arith

@@ -6,7 +6,7 @@ use Rattle.avs_values.specs.Numbers.{absolute, sign, least, greatest, bit_and, b
 use Rattle.avs_values.specs.Outcome.{Outcome}
 use Rattle.avs_values.specs.Texts.{str_len, u_case, l_case, rev_str, left_str, right_str, mid_str, find_str, chr, ord}
 use Rattle.avs_values.specs.Values.{Text, has_kind, is_undefined}
-use Rattle.avs_values.specs.declared.fault.ValueFault.TheVariants as f
+use Rattle.avs_values.specs.Refusals as f
 use Rattle.avs_values.specs.declared.parameter.Param.{Param}
 use Rattle.avs_values.specs.declared.plain_fn.PlainFn.{PlainFn}
 use Rattle.avs_values.specs.declared.plain_fn.PlainFn.TheVariants as p

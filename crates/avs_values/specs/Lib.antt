@@ -1,6 +1,7 @@
 pub mod Values
 pub mod Binding
 pub mod Views
+pub mod Refusals
 pub mod Outcome
 pub mod Operators
 pub mod Numbers

@@ -9,7 +9,7 @@ use Rattle.std.specs.List.{list_all}
 use Rattle.std.specs.Str.Parse.{digits_value, signed_digits_value, starts_with_minus}
 use Rattle.avs_values.specs.Outcome.{Outcome, number}
 use Rattle.avs_values.specs.Values.{Text}
-use Rattle.avs_values.specs.declared.fault.ValueFault.TheVariants as f
+use Rattle.avs_values.specs.Refusals as f
 use Rattle.avs_values.specs.declared.value.Value.{Value}
 use Rattle.avs_values.specs.declared.value.Value.TheVariants as v
 

@@ -1,13 +1,14 @@
 -- What an operator or a function gives: a value, or why there is none.
-use Rattle.std.specs.Prelude.{◌≡◌, ◌^◌, ℕ, ℤ, pos, negsuc, nat_lt, nat_le, length, Bool, Result, Ok, Err, if◌then◌else◌}
+use Rattle.std.specs.Prelude.{◌≡◌, ◌^◌, ℕ, ℤ, pos, negsuc, nat_lt, nat_le, length, Bool, MatchOption, Result, Ok, Err, if◌then◌else◌}
 use Rattle.avs_values.specs.Values.{Text}
+use Rattle.avs_values.specs.Refusals.{Refusal, refusal_of}
+use Rattle.avs_values.specs.Refusals as f
 use Rattle.avs_values.specs.declared.fault.ValueFault.{ValueFault}
-use Rattle.avs_values.specs.declared.fault.ValueFault.TheVariants as f
 use Rattle.avs_values.specs.declared.value.Value.{Value}
 use Rattle.avs_values.specs.declared.value.Value.TheVariants as v
 
 abbrev pub Outcome : Type 0
-Outcome = Result Value ValueFault
+Outcome = Result Value Refusal
 
 -- The numbers of scripts have 64 bits: they go from -2^63 to 2^63 - 1.
 abbrev pub is_number : ℤ → Bool
@@ -25,6 +26,6 @@ abbrev pub text : Text → Outcome
 text t = if nat_le (length t) text_limit then Ok (v.Text t) else Err f.TextLimit
 
 -- The call gives this outcome, or is out of memory.
-abbrev pub Gives : Outcome → Outcome → Type 0
-Gives outcome (Err f.Memory) = Unit {0}
-Gives outcome result = outcome ≡ result
+abbrev pub Gives : Outcome → Result Value ValueFault → Type 0
+Gives outcome (Ok x) = outcome ≡ Ok x
+Gives outcome (Err fault) = MatchOption (refusal_of fault) (Unit {0}) (λ refusal. outcome ≡ Err refusal)

@@ -7,7 +7,7 @@ use Rattle.std.specs.List.{starts_with}
 use Rattle.std.specs.Str.{chars, encode_utf8_all, str_to_ascii_uppercase, str_to_ascii_lowercase}
 use Rattle.avs_values.specs.Outcome.{Outcome, number}
 use Rattle.avs_values.specs.Values.{Text}
-use Rattle.avs_values.specs.declared.fault.ValueFault.TheVariants as f
+use Rattle.avs_values.specs.Refusals as f
 use Rattle.avs_values.specs.declared.value.Value.{Value}
 use Rattle.avs_values.specs.declared.value.Value.TheVariants as v
 

@@ -1,5 +1,4 @@
 // Functions on values of any kind: `Select`, `Defined`, `Default`, `Assert` and the tests of kinds.
-ghost use Rattle.std.specs.Prelude.{◌≡◌};
 ghost use Rattle.avs_values.specs.Functions as s;
 ghost use Rattle.avs_values.specs.Outcome.{Gives};
 
@@ -27,7 +26,7 @@ pub fn select(alloc: Global, values: &[Value], rest: &[Value]) -> Result<Value, 
 }
 
 pub fn defined(values: &[Value]) -> Result<Value, ValueFault>
-    ensures { result ≡ s.defined values.now }
+    ensures { Gives (s.defined values.now) result }
 {
     let [value] = values else {
         return Err(ValueFault::TypeFault);
@@ -69,7 +68,7 @@ pub fn assertion(alloc: Global, values: &[Value]) -> Result<Value, ValueFault>
 }
 
 pub fn is_of_kind(kind: Kind, values: &[Value]) -> Result<Value, ValueFault>
-    ensures { result ≡ s.is_of_kind kind values.now }
+    ensures { Gives (s.is_of_kind kind values.now) result }
 {
     let [value] = values else {
         return Err(ValueFault::TypeFault);

@@ -63,7 +63,7 @@ fn position(text: &str, wanted: &str) -> usize
 }
 
 fn number(n: usize) -> Result<Value, ValueFault>
-    ensures { result ≡ o.number (pos n) }
+    ensures { Gives (o.number (pos n)) result }
 {
     match i64::try_from(n) {
         Ok(n) => Ok(Value::Int(n)),
@@ -79,7 +79,7 @@ pub fn copied(alloc: Global, text: &str) -> Result<Value, ValueFault>
 }
 
 pub fn str_len(values: &[Value]) -> Result<Value, ValueFault>
-    ensures { result ≡ s.str_len values.now }
+    ensures { Gives (s.str_len values.now) result }
 {
     let [Value::Text(text)] = values else {
         return Err(ValueFault::TypeFault);
@@ -175,7 +175,7 @@ pub fn mid_str(alloc: Global, values: &[Value]) -> Result<Value, ValueFault>
 }
 
 pub fn find_str(values: &[Value]) -> Result<Value, ValueFault>
-    ensures { result ≡ s.find_str values.now }
+    ensures { Gives (s.find_str values.now) result }
 {
     let [Value::Text(text), Value::Text(wanted)] = values else {
         return Err(ValueFault::TypeFault);
@@ -198,7 +198,7 @@ pub fn chr(alloc: Global, values: &[Value]) -> Result<Value, ValueFault>
 }
 
 pub fn ord(values: &[Value]) -> Result<Value, ValueFault>
-    ensures { result ≡ s.ord values.now }
+    ensures { Gives (s.ord values.now) result }
 {
     let [Value::Text(text)] = values else {
         return Err(ValueFault::TypeFault);

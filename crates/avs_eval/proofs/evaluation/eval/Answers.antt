@@ -4,7 +4,7 @@ use Rattle.avs_meaning.specs.Meaning.{executed, imports_by}
 use Rattle.avs_meaning.specs.State.{State}
 use Rattle.avs_state.specs.States.{state_of}
 use Rattle.avs_eval.proofs.Kept.{all_fetched}
-use Rattle.avs_state.specs.Hosts.{Fails}
+use Rattle.avs_state.specs.Answers.{Fails}
 use Rattle.avs_eval.specs.OutsideBy.{outside_by}
 use Rattle.avs_eval.proofs.RunLemmas.{stop_shows}
 use Rattle.avs_eval.proofs.evaluation.eval.Goals as goal
@@ -15,7 +15,7 @@ returns-in_err-root-clause-told g c = λ told.
     let stop = c.in_err-root.field-0.0 in
     let is : c.from_residual-in_err-root.result ≡ Err stop = search rules in
     rw is (stop_shows _ stop
-    (subst (λ s. Fails (executed outside c.args.name.now c.args.text.now s) stop) c.new-machine.ensures (c.in_err-root.ensures.told told)))
+    (subst (λ s. Fails (Unit {0}) (executed outside c.args.name.now c.args.text.now s) stop) c.new-machine.ensures (c.in_err-root.ensures.told told)))
 
 pub returns-clause-fetched : goal.returns-clause-fetched
 returns-clause-fetched g c = λ told.
