@@ -40,20 +40,10 @@ text_more {X = X} text xs i d within =
 row_width : (shape : Shape) (p : ℕ) → plane_width shape p ≤ shape.width
 row_width shape p = grind (arith, nat_tests)
 
-size_by : (b : Bool) → (if b then 1 else 2) ≤ 2
-size_by true = omega arith
-size_by false = omega arith
-
 wide : (w h : ℕ) → 0 < h → w ≤ w * h
 wide w h some = grind arith
 
--- a row of a legal frame is no longer than 128 KiB, nor than the frame
-pub row_room : (shape : Shape) (p : ℕ) → IsLegal shape → row_bytes shape p ≤ 131072
-row_room shape p legal =
-    let width = legal.most_width in
-    let row : plane_width shape p ≤ 65536 = omega (arith, row_width shape p) in
-    omega (arith, mul-le (plane_width shape p) (sample_bytes shape) 65536 2 row (size_by (shape.bits == 8)))
-
+-- a row of a legal frame is no longer than the frame
 pub row_inside : (shape : Shape) (p : ℕ) → IsLegal shape → row_bytes shape p ≤ frame_bytes shape
 row_inside shape p legal =
     let row = row_width shape p in

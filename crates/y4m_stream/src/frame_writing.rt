@@ -13,8 +13,8 @@ use fv_plane::Frame;
 const HEAD: &[u8] = b"FRAME\n";
 /// A frame that has at most this number of bytes with its line is put in one piece.
 const SMALL: usize = 16_384;
-/// Rows with gaps between them are put in pieces of at most this number of bytes.
-const PIECE: usize = 131_072;
+/// Rows with gaps between them are put in pieces of at most this number of bytes, and longer rows one by one.
+const PIECE: usize = 32_768;
 
 // Makes room for `size` bytes in a buffer whose first `end` bytes are still to be put. If there is no room, they are
 // put now. Answers how many bytes are still to be put.
@@ -81,10 +81,24 @@ fn write_gathered<K: Sink>(out: &mut K, frame: &Frame) -> Result<(), Failed>
     out.put(&buf[..end])
 }
 
-// Puts a plane whose rows have gaps between them.
-fn write_rows<K: Sink>(out: &mut K, frame: &Frame, plane: u32) -> Result<(), Failed>
+// Puts the rows of a plane one by one.
+fn write_long_rows<K: Sink>(out: &mut K, frame: &Frame, plane: u32) -> Result<(), Failed>
+    requires { plane < planes frame.now.shape.kind }
+    ensures put { OnOk result (Puts K.Sink out.old out.new (bytes_of_plane frame.now plane)) }
+    ensures cut { OnErr result (PutsPrefix K.Sink out.old out.new (bytes_of_plane frame.now plane)) }
+    ensures later { IsLater K.Sink out.old out.new }
+    ensures failed { OnErr result (SinkFailed K.Sink out.old out.new) }
+{
+    for y in 0..frame.shape().plane_height(plane) {
+        out.put(frame.row(plane, y))?;
+    }
+    Ok(())
+}
+
+// Puts the rows of a plane in pieces.
+fn write_short_rows<K: Sink>(out: &mut K, frame: &Frame, plane: u32) -> Result<(), Failed>
     requires plane { plane < planes frame.now.shape.kind }
-    requires room { row_bytes frame.now.shape plane ≤ 2 ^ 17 }
+    requires room { row_bytes frame.now.shape plane ≤ 2 ^ 15 }
     ensures put { OnOk result (Puts K.Sink out.old out.new (bytes_of_plane frame.now plane)) }
     ensures cut { OnErr result (PutsPrefix K.Sink out.old out.new (bytes_of_plane frame.now plane)) }
     ensures later { IsLater K.Sink out.old out.new }
@@ -93,6 +107,20 @@ fn write_rows<K: Sink>(out: &mut K, frame: &Frame, plane: u32) -> Result<(), Fai
     let mut buf = [0; PIECE];
     let end = gather_plane(out, frame, plane, &mut buf, 0)?;
     out.put(&buf[..end])
+}
+
+// Puts a plane whose rows have gaps between them.
+fn write_rows<K: Sink>(out: &mut K, frame: &Frame, plane: u32) -> Result<(), Failed>
+    requires { plane < planes frame.now.shape.kind }
+    ensures put { OnOk result (Puts K.Sink out.old out.new (bytes_of_plane frame.now plane)) }
+    ensures cut { OnErr result (PutsPrefix K.Sink out.old out.new (bytes_of_plane frame.now plane)) }
+    ensures later { IsLater K.Sink out.old out.new }
+    ensures failed { OnErr result (SinkFailed K.Sink out.old out.new) }
+{
+    if frame.shape().row_bytes(plane) as usize > PIECE {
+        return write_long_rows(out, frame, plane);
+    }
+    write_short_rows(out, frame, plane)
 }
 
 // Puts a plane: in one piece where no bytes are between its rows.

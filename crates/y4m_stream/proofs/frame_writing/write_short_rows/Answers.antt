@@ -3,7 +3,7 @@ use Rattle.std.proofs.Common.{take}
 use Rattle.std.proofs.lemmas.Result.{on_err_weaker, on_ok_weaker}
 use Rattle.y4m_stream.specs.Planes.{bytes_of_plane}
 use Rattle.y4m_stream.proofs.WaitingLemmas.{put_rest, cut_rest}
-use Rattle.y4m_stream.proofs.frame_writing.write_rows.Goals as goal
+use Rattle.y4m_stream.proofs.frame_writing.write_short_rows.Goals as goal
 
 pub returns-clause-put : goal.returns-clause-put
 returns-clause-put g c =
