@@ -50,7 +50,9 @@ def stacked(clips):
 
 FOUR = head(1, 1) + b"".join(b"FRAME\n" + bytes([n]) for n in range(4))
 REVERSED = head(1, 1) + b"".join(b"FRAME\n" + bytes([n]) for n in reversed(range(4)))
-WIDE = 32_768
+# A row is longer than the pieces in which rows with gaps between them are put.
+WIDE = 40_000
+PIECE = 32_768
 
 
 def stack_of(clips):
@@ -98,6 +100,9 @@ def rows(folder):
     yield "wide: softened", source + ".Loop(9).TemporalSoften(7, 255, 255).Trim(4, 4)", of_wide(wide)
     yield "wide: limited", source + ".Limiter(0, 255)", of_wide(wide)
     yield "wide: cut and joined", f"c = {source}\nStackHorizontal(c.Crop(0, 0, 1, 0), c.Crop(1, 0, 0, 0))", of_wide(wide)
+    for width in (WIDE - 1, PIECE + 1, PIECE):
+        cut = [row[WIDE - width :] for row in wide]
+        yield f"wide: cut to {width:,} columns", f"{source}.Crop({WIDE - width}, 0, 0, 0)", head(width, 3) + b"FRAME\n" + b"".join(cut)
     yield "wide: bordered", f"{source}.Crop(0, 1, 0, 1).AddBorders(0, 1, 0, 1, $AB8080)", of_wide(bordered(wide))
 
 

@@ -1,7 +1,4 @@
-mod Kept
-mod Failures
-mod Rows
 mod BodyLemmas
 mod CallLemmas
-mod Turns
+mod DepthLemmas
 mod RunLemmas

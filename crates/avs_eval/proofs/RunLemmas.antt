@@ -15,7 +15,7 @@ use Rattle.avs_meaning.specs.declared.stop.ScriptStop.TheVariants as e
 use Rattle.avs_state.specs.Answers.{Fails}
 use Rattle.avs_eval.specs.OutsideBy.{outside_by}
 use Rattle.avs_eval.proofs.BodyLemmas.{loaded_then}
-use Rattle.avs_eval.proofs.Failures.{also_fails, first_fails, then_fails}
+use Rattle.avs_state.proofs.Failures.{also_fails, first_fails, then_fails}
 use Rattle.avs_eval.specs.Bodies.{body_by}
 use Rattle.avs_eval.specs.Evaluates.{Evaluates}
 

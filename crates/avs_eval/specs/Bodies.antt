@@ -1,9 +1,13 @@
--- The statements of a text, once its functions are added.
-use Rattle.std.specs.Prelude.{ℕ, Result}
+-- The statements of a text, once its functions are added, and the text of `Eval`.
+use Rattle.std.specs.Prelude.{ℕ, [], ◌∷◌, Result}
 use Rattle.avs_tree.specs.Loaded.{Loaded, NoTree}
 use Rattle.avs_tree.specs.Tree.{Block}
 use Rattle.avs_tree.specs.View.{block_view}
 use Rattle.avs_values.specs.Values.{Text}
+use Rattle.avs_values.specs.declared.value.Value.{Value}
+use Rattle.avs_values.specs.declared.value.Value.TheVariants as v
+use Rattle.avs_meaning.specs.Context.{Context}
+use Rattle.avs_meaning.specs.Expressions as e
 use Rattle.avs_meaning.specs.State.{Run, ◌>>=◌, pure}
 use Rattle.avs_meaning.specs.Texts.{loaded_by}
 use Rattle.avs_eval.specs.declared.texts.Body.{Body}
@@ -14,3 +18,7 @@ body_by tree here = loaded_by tree here >>= (λ loaded. pure (loaded.tree.statem
 
 abbrev pub body_view : Body → Block × ℕ
 body_view body = (block_view body.statements.items, body.last_line)
+
+-- `Eval` of one text
+unfoldable pub eval_text : Context → Text → Text → ℕ → Run Value
+eval_text context here text line = e.eval context here (v.Text text ∷ []) line

@@ -1,7 +1,5 @@
 pub mod OutsideBy
 pub mod Ranges
 pub mod Bodies
-pub mod Flows
-pub mod At
-pub mod Walks
+pub mod Deeper
 pub mod Evaluates

@@ -1,24 +1,20 @@
 // Calls of the script's functions, of built-in functions and of filters, by name and with bound arguments.
 ghost use Rattle.std.specs.Prelude.{◌≡◌, ◌<◌};
-ghost use Rattle.avs_tree.specs.Tree as t;
 ghost use Rattle.avs_values.specs.Views.{bound_view};
 ghost use Rattle.avs_meaning.specs.Calls as c;
 ghost use Rattle.avs_meaning.specs.Expressions as e;
 ghost use Rattle.avs_meaning.specs.Filters as f;
-ghost use Rattle.avs_state.specs.Answers.{Gives};
 ghost use Rattle.avs_state.specs.Hosts.{Told};
-ghost use Rattle.avs_eval.specs.OutsideBy.{outside_by};
-ghost use Rattle.avs_state.specs.States.{state_of, defined_view};
-ghost use Rattle.avs_calls.specs.Views.{callee_view};
-ghost use Rattle.avs_eval.specs.At as r;
-ghost use Rattle.avs_eval.specs.Walks.{Deeper, Keeps, stop_in};
+ghost use Rattle.avs_state.specs.Walks.{Keeps, stop_in};
+ghost use Rattle.avs_eval.specs.OutsideBy.{context_in, outside_by};
+ghost use Rattle.avs_state.specs.States.{defined_view};
+ghost use Rattle.avs_expressions.specs.Views.{callee_view};
+ghost use Rattle.avs_eval.specs.Deeper.{Deeper};
 
 use crate::ranges::{positional_args, range_in};
 use crate::walker::Walker;
-use avs_calls::{
-    Callee, callee_of, clip_property, filter, fit_callee, parameters, plain, prefetch, ranged,
-    set_mode,
-};
+use avs_calls::{clip_property, filter, plain, prefetch, ranged, set_mode};
+use avs_expressions::{Callee, called, fit_callee, parameters};
 use avs_meaning::{Builtin, ScriptKind, ScriptStop, Table, Variable};
 use avs_state::{ByName, Definition, Host, Machine, stop_of};
 use avs_tree::Statement;
@@ -87,7 +83,7 @@ impl<
     ) -> Result<Value, ScriptStop>
         requires deeper { Deeper H.Host self.now.depth F.Fn self.now.run }
         requires room { 0 < self.now.depth }
-        ensures told { Told H.told (λ v. v) (r.inside H.clips H.scripts self.now.depth (defined_view definition.now)
+        ensures told { Told H.told (λ v. v) (e.inside (context_in H.Host self.now.depth) (defined_view definition.now)
             env) machine.old result machine.new }
         ensures kept { Keeps H.Host machine.old host.old (stop_in result) machine.new host.new }
     {
@@ -137,7 +133,7 @@ impl<
     ) -> Result<Value, ScriptStop>
         requires deeper { Deeper H.Host self.now.depth F.Fn self.now.run }
         requires other { builtin ≡ Builtin.ApplyRange → ⊥ }
-        ensures told { Told H.told (λ v. v) (r.applied H.clips H.scripts self.now.depth (c.builtin builtin) signature
+        ensures told { Told H.told (λ v. v) (e.performed (context_in H.Host self.now.depth) (c.builtin builtin) signature
             (bound_view given.now) self.now.script_name.now line) machine.old result machine.new }
         ensures kept { Keeps H.Host machine.old host.old (stop_in result) machine.new host.new }
     {
@@ -184,7 +180,7 @@ impl<
     ) -> Result<Value, ScriptStop>
         requires deeper { Deeper H.Host self.now.depth F.Fn self.now.run }
         requires other { callee_view callee.now ≡ c.builtin Builtin.ApplyRange → ⊥ }
-        ensures told { Told H.told (λ v. v) (r.applied H.clips H.scripts self.now.depth (callee_view callee.now)
+        ensures told { Told H.told (λ v. v) (e.performed (context_in H.Host self.now.depth) (callee_view callee.now)
             signature (bound_view given.now) self.now.script_name.now line) machine.old result machine.new }
         ensures kept { Keeps H.Host machine.old host.old (stop_in result) machine.new host.new }
     {
@@ -202,22 +198,6 @@ impl<
         }
     }
 
-    /// What a name calls.
-    pub(crate) fn called(
-        &self,
-        machine: &Machine,
-        name: &Text,
-        line: u32,
-    ) -> Result<Callee<'t>, ScriptStop>
-        ensures { Gives callee_view (e.called self.now.script_name.now name.now line (state_of machine.now)) result
-            (state_of machine.now) }
-    {
-        match callee_of(self.alloc, self.table, machine, name)? {
-            Some(callee) => Ok(callee),
-            None => Err(self.fault(ScriptKind::UnknownName, line)),
-        }
-    }
-
     // `ApplyRange`: calls the function of a name with the clip and further values, and shows what that gives in a range of
     // frames.
     #[cycle(calls)]
@@ -229,7 +209,7 @@ impl<
         line: u32,
     ) -> Result<Value, ScriptStop>
         requires deeper { Deeper H.Host self.now.depth F.Fn self.now.run }
-        ensures told { Told H.told (λ v. v) (r.ranged_by H.clips H.scripts self.now.depth given.now.values.items
+        ensures told { Told H.told (λ v. v) (e.ranged_by (e.direct (context_in H.Host self.now.depth)) given.now.values.items
             given.now.rest.items self.now.script_name.now line) machine.old result machine.new }
         ensures kept { Keeps H.Host machine.old host.old (stop_in result) machine.new host.new }
     {
@@ -237,9 +217,16 @@ impl<
             Ok(range) => range,
             Err(kind) => return Err(self.fault(kind, line)),
         };
-        let callee = self.called(machine, range.name, line)?;
+        let callee = called(
+            self.alloc,
+            self.table,
+            machine,
+            range.name,
+            self.script_name,
+            line,
+        )?;
         let args = positional_args(self.alloc, range.clip, &given.rest)?;
-        let shown = match self.apply(machine, host, &callee, args, None, line) {
+        let shown = match self.call(machine, host, &callee, args, None, line) {
             Ok(shown) => shown,
             Err(stop) => return Err(stop),
         };
@@ -257,7 +244,7 @@ impl<
 
     /// A call with these arguments, tried again with `last` first, if it is given.
     #[cycle(calls)]
-    pub(crate) fn apply(
+    pub(crate) fn call(
         &self,
         machine: &mut Machine,
         host: &mut H,
@@ -267,7 +254,7 @@ impl<
         line: u32,
     ) -> Result<Value, ScriptStop>
         requires deeper { Deeper H.Host self.now.depth F.Fn self.now.run }
-        ensures told { Told H.told (λ v. v) (r.apply H.clips H.scripts self.now.depth (callee_view callee.now)
+        ensures told { Told H.told (λ v. v) (e.apply (context_in H.Host self.now.depth) (callee_view callee.now)
             args.items last self.now.script_name.now line) machine.old result machine.new }
         ensures kept { Keeps H.Host machine.old host.old (stop_in result) machine.new host.new }
     {
@@ -280,45 +267,5 @@ impl<
             }
             _ => self.applied(machine, host, callee, signature, &given, line),
         }
-    }
-
-    /// A call with these arguments, tried again with the variable `last` first, where that is set.
-    pub(crate) fn apply_last(
-        &self,
-        machine: &mut Machine,
-        host: &mut H,
-        callee: &Callee<'_>,
-        args: Vec<Given>,
-        line: u32,
-    ) -> Result<Value, ScriptStop>
-        requires deeper { Deeper H.Host self.now.depth F.Fn self.now.run }
-        ensures told { Told H.told (λ v. v) (r.apply_last H.clips H.scripts self.now.depth self.now.script_name.now
-            (callee_view callee.now) args.items line) machine.old result machine.new }
-        ensures kept { Keeps H.Host machine.old host.old (stop_in result) machine.new host.new }
-    {
-        let name = Text::from_str(self.alloc, "last")?;
-        let last = machine.local(self.alloc, &name)?;
-        self.apply(machine, host, callee, args, last, line)
-    }
-
-    /// A variable, or else a call without arguments.
-    pub(crate) fn named(
-        &self,
-        machine: &mut Machine,
-        host: &mut H,
-        name: &Text,
-        line: u32,
-    ) -> Result<Value, ScriptStop>
-        requires deeper { Deeper H.Host self.now.depth F.Fn self.now.run }
-        ensures told { Told H.told (λ v. v)
-            (r.value_of H.clips H.scripts self.now.depth self.now.script_name.now (t.name name.now line))
-            machine.old result machine.new }
-        ensures kept { Keeps H.Host machine.old host.old (stop_in result) machine.new host.new }
-    {
-        if let Some(value) = machine.variable(self.alloc, name)? {
-            return Ok(value);
-        }
-        let callee = self.called(machine, name, line)?;
-        self.apply_last(machine, host, &callee, Vec::new(self.alloc), line)
     }
 }

@@ -3,11 +3,12 @@ ghost use Rattle.avs_tree.specs.View.{block_view};
 ghost use Rattle.avs_meaning.specs.Meaning as m;
 ghost use Rattle.avs_state.specs.Hosts.{Told};
 ghost use Rattle.avs_eval.specs.OutsideBy.{outside_by};
-ghost use Rattle.avs_eval.specs.Walks.{Keeps, stop_in};
+ghost use Rattle.avs_state.specs.Walks.{Keeps, stop_in};
 
 use crate::walker::Walker;
 use avs_meaning::{ScriptStop, Table};
 use avs_state::{Host, Machine};
+use avs_statements::body_of;
 use avs_tree::Statement;
 use avs_values::Value;
 use fv_io::Text;
@@ -37,5 +38,5 @@ pub(crate) fn run<H: Host>(
         run: run::<H>,
         of: PhantomData,
     };
-    walker.body_of(machine, host, body)
+    body_of(alloc, &walker, machine, host, body)
 }

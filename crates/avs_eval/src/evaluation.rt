@@ -8,7 +8,7 @@ ghost use Rattle.avs_state.specs.Hosts.{Told};
 ghost use Rattle.avs_eval.specs.OutsideBy.{outside_by};
 ghost use Rattle.avs_state.specs.States.{state_of};
 ghost use Rattle.avs_eval.specs.Evaluates.{Evaluates, Opens, CountsFaults};
-ghost use Rattle.avs_eval.specs.Walks.{Keeps, stop_in};
+ghost use Rattle.avs_state.specs.Walks.{Keeps, stop_in};
 
 use crate::depth::run;
 use crate::texts::load_body;

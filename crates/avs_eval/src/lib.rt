@@ -3,19 +3,14 @@
 //! Where the host tells its files, `eval` answers what the text means there (`avs_meaning/specs/Meaning.antt`), in both
 //! directions: a graph is that of the clip, and a fault is the first fault.
 //!
-//! A `Walker` is what a run has in one text. Its methods do what the definitions say of expressions, calls and
-//! statements. What executes the statements of a text one call deeper is a function value of it. `specs/Walks.antt` has
-//! the words that their contracts share.
+//! A `Walker` is what a run has in one text. It makes the calls that expressions ask for, and gives statements the values of
+//! their expressions. What executes the statements of a text one call deeper is a function value of it.
 #![tactic(auto)]
 
 mod calls;
 mod depth;
 mod evaluation;
-mod expressions;
-mod flow;
-mod loops;
 mod ranges;
-mod statements;
 mod texts;
 mod walker;
 

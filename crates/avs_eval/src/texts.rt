@@ -4,13 +4,16 @@ ghost use Rattle.avs_tree.specs.View.{block_view};
 ghost use Rattle.avs_values.specs.Outcome.{text_limit};
 ghost use Rattle.avs_parse.specs.Load.{script_of};
 ghost use Rattle.avs_meaning.specs.Expressions as e;
+ghost use Rattle.avs_meaning.specs.Meaning as m;
 ghost use Rattle.avs_state.specs.Answers.{Gives};
 ghost use Rattle.avs_state.specs.Hosts.{Told};
+ghost use Rattle.avs_state.specs.Walks.{Keeps, stop_in};
 ghost use Rattle.avs_state.specs.Sources.{sources_of};
 ghost use Rattle.avs_state.specs.States.{state_of, AsksNothing};
-ghost use Rattle.avs_eval.specs.At as r;
+ghost use Rattle.avs_eval.specs.Bodies as b;
 ghost use Rattle.avs_eval.specs.Bodies.{body_by, body_view};
-ghost use Rattle.avs_eval.specs.Walks.{Deeper, Keeps, stop_in};
+ghost use Rattle.avs_eval.specs.OutsideBy.{context_in, outside_by};
+ghost use Rattle.avs_eval.specs.Deeper.{Deeper};
 
 use crate::walker::Walker;
 use avs_meaning::{ScriptKind, ScriptStop, Table};
@@ -93,7 +96,7 @@ impl<
     ) -> Result<Value, ScriptStop>
         requires deeper { Deeper H.Host self.now.depth F.Fn self.now.run }
         requires room { 0 < self.now.depth }
-        ensures told { Told H.told (λ v. v) (r.deeper H.clips H.scripts self.now.depth script_name.now (block_view
+        ensures told { Told H.told (λ v. v) (m.below (outside_by H.clips H.scripts) self.now.depth script_name.now (block_view
             body.now)) machine.old result machine.new }
         ensures kept { Keeps H.Host machine.old host.old (stop_in result) machine.new host.new }
     {
@@ -121,7 +124,7 @@ impl<
         requires deeper { Deeper H.Host self.now.depth F.Fn self.now.run }
         requires room { 0 < self.now.depth }
         ensures told { Told H.told (λ v. v)
-            (r.execute H.clips H.scripts self.now.depth from.now text.now self.now.script_name.now line)
+            (e.execute (context_in H.Host self.now.depth) from.now text.now self.now.script_name.now line)
             machine.old result machine.new }
         ensures kept { Keeps H.Host machine.old host.old (stop_in result) machine.new host.new }
     {
@@ -143,7 +146,7 @@ impl<
         requires deeper { Deeper H.Host self.now.depth F.Fn self.now.run }
         requires room { 0 < self.now.depth }
         ensures told { Told H.told (λ v. v)
-            (r.execute H.clips H.scripts self.now.depth e.eval_name text.now self.now.script_name.now line)
+            (e.execute (context_in H.Host self.now.depth) e.eval_name text.now self.now.script_name.now line)
             machine.old result machine.new }
         ensures kept { Keeps H.Host machine.old host.old (stop_in result) machine.new host.new }
     {
@@ -152,7 +155,7 @@ impl<
     }
 
     // `Eval` of a text.
-    #[tactic(auto, unfolding(crate::specs::At::eval_text))]
+    #[tactic(auto, unfolding(crate::specs::Bodies::eval_text))]
     fn eval_text(
         &self,
         machine: &mut Machine,
@@ -162,7 +165,7 @@ impl<
     ) -> Result<Value, ScriptStop>
         requires deeper { Deeper H.Host self.now.depth F.Fn self.now.run }
         ensures told { Told H.told (λ v. v)
-            (r.eval_text H.clips H.scripts self.now.depth self.now.script_name.now text.now line)
+            (b.eval_text (context_in H.Host self.now.depth) self.now.script_name.now text.now line)
             machine.old result machine.new }
         ensures kept { Keeps H.Host machine.old host.old (stop_in result) machine.new host.new }
     {
@@ -182,7 +185,7 @@ impl<
     ) -> Result<Value, ScriptStop>
         requires deeper { Deeper H.Host self.now.depth F.Fn self.now.run }
         ensures told { Told H.told (λ v. v)
-            (r.eval H.clips H.scripts self.now.depth self.now.script_name.now values.now line) machine.old result
+            (e.eval (context_in H.Host self.now.depth) self.now.script_name.now values.now line) machine.old result
             machine.new }
         ensures kept { Keeps H.Host machine.old host.old (stop_in result) machine.new host.new }
     {
@@ -226,7 +229,7 @@ impl<
     ) -> Result<Value, ScriptStop>
         requires deeper { Deeper H.Host self.now.depth F.Fn self.now.run }
         ensures told { Told H.told (λ v. v)
-            (r.import_ H.clips H.scripts self.now.depth self.now.script_name.now values.now line)
+            (e.import_ (context_in H.Host self.now.depth) self.now.script_name.now values.now line)
             machine.old result machine.new }
         ensures kept { Keeps H.Host machine.old host.old (stop_in result) machine.new host.new }
     {

@@ -1,8 +1,14 @@
 // What a run has in one text.
 ghost use Rattle.avs_meaning.specs.Faults.{Shows, script};
+ghost use Rattle.avs_eval.specs.Deeper.{Deeper};
+ghost use Rattle.avs_eval.specs.OutsideBy.{context_in};
 
+use avs_expressions::{Callee, Calls, value_of};
 use avs_meaning::{ScriptKind, ScriptStop, Table};
-use avs_state::fault_at;
+use avs_state::{Host, Machine, fault_at};
+use avs_statements::Evaluator;
+use avs_tree::{Expr, Statement};
+use avs_values::{Given, Value};
 use fv_io::Text;
 use std::alloc::Global;
 use std::marker::PhantomData;
@@ -28,5 +34,78 @@ impl<'t, H, F> Walker<'t, H, F> {
         ensures { Shows (script kind self.now.script_name.now line) result }
     {
         fault_at(self.alloc, kind, self.script_name, line)
+    }
+}
+
+impl<
+    't,
+    H: Host,
+    F: Fn(
+        Global,
+        &Table,
+        &mut Machine,
+        &mut H,
+        u32,
+        &Text,
+        &[Statement],
+    ) -> Result<Value, ScriptStop>,
+> Calls<H> for Walker<'t, H, F> {
+    ghost may = { λ walker. Deeper H.Host walker.depth F.Fn walker.run };
+
+    ghost here = { λ walker. walker.script_name.now };
+
+    ghost context = { λ walker. context_in H.Host walker.depth };
+
+    fn script_name(&self) -> &Text {
+        self.script_name
+    }
+
+    fn table(&self) -> &Table {
+        self.table
+    }
+
+    fn apply(
+        &self,
+        machine: &mut Machine,
+        host: &mut H,
+        callee: &Callee<'_>,
+        args: Vec<Given>,
+        last: Option<Value>,
+        line: u32,
+    ) -> Result<Value, ScriptStop> {
+        self.call(machine, host, callee, args, last, line)
+    }
+}
+
+impl<
+    't,
+    H: Host,
+    F: Fn(
+        Global,
+        &Table,
+        &mut Machine,
+        &mut H,
+        u32,
+        &Text,
+        &[Statement],
+    ) -> Result<Value, ScriptStop>,
+> Evaluator<H> for Walker<'t, H, F> {
+    ghost may = { λ walker. Deeper H.Host walker.depth F.Fn walker.run };
+
+    ghost here = { λ walker. walker.script_name.now };
+
+    ghost context = { λ walker. context_in H.Host walker.depth };
+
+    fn script_name(&self) -> &Text {
+        self.script_name
+    }
+
+    fn value_of(
+        &self,
+        machine: &mut Machine,
+        host: &mut H,
+        expr: &Expr,
+    ) -> Result<Value, ScriptStop> {
+        value_of(self.alloc, self, machine, host, expr)
     }
 }

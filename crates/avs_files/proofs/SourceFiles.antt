@@ -27,6 +27,7 @@ use Rattle.mt_modes.specs.Modes.{is_mode, mode_in, with_setting}
 use Rattle.avs_meaning.specs.Arguments as arguments
 use Rattle.avs_meaning.specs.Arguments.{Reading}
 use Rattle.avs_meaning.specs.Expressions.{told, Caller, ranged_by, call_within, script_by, known, called, may_nest, execute, eval_name, eval, import_, inside, applied, apply_by, apply, apply_last, named, value_of, givens_of, calls_from, steps_from}
+use Rattle.avs_meaning.specs.Context.{Context}
 use Rattle.avs_meaning.specs.Crews.{Numbers}
 use Rattle.avs_meaning.specs.Faults.{Fault}
 use Rattle.avs_meaning.specs.Filters as filters
@@ -319,32 +320,35 @@ module _ (outside : Outside) where
   -- ---- trees, where what is executed one call deeper keeps them
 
   module _ (depth : ℕ) (deeper : Text → Block → Run Value) (kept_below : (here : Text) (body : Block) → Keeps (deeper here body)) where
-    may_nest_keeps : (here : Text) (line : ℕ) (s : State) → AreFiles s.plan → Has (may_nest outside depth deeper here line s)
+    abbrev context : Context
+    context = record { outside = outside; depth = depth; deeper = deeper }
+
+    may_nest_keeps : (here : Text) (line : ℕ) (s : State) → AreFiles s.plan → Has (may_nest context here line s)
     may_nest_keeps here line s are = if_runs (nat_eq depth 0) _ _ s tt are
 
-    execute_keeps : (from text here : Text) (line : ℕ) (s : State) → AreFiles s.plan → Has (execute outside depth deeper from text here line s)
+    execute_keeps : (from text here : Text) (line : ℕ) (s : State) → AreFiles s.plan → Has (execute context from text here line s)
     execute_keeps from text here line s are =
         then_keeps (load_short outside from text here line s) _ (load_short_keeps from text here line s are) (λ loaded t kept. kept_below from loaded.tree.statements t kept)
 
-    eval_keeps : (here : Text) (values : List Value) (line : ℕ) (s : State) → AreFiles s.plan → Has (eval outside depth deeper here values line s)
+    eval_keeps : (here : Text) (values : List Value) (line : ℕ) (s : State) → AreFiles s.plan → Has (eval context here values line s)
     eval_keeps here (v.Text text ∷ []) line s are =
-        then_keeps (may_nest outside depth deeper here line s) _ (may_nest_keeps here line s are) (λ _ t kept. execute_keeps eval_name text here line t kept)
+        then_keeps (may_nest context here line s) _ (may_nest_keeps here line s are) (λ _ t kept. execute_keeps eval_name text here line t kept)
     eval_keeps here _ line s are = tt
 
-    import_keeps : (here : Text) (values : List Value) (line : ℕ) (s : State) → AreFiles s.plan → Has (import_ outside depth deeper here values line s)
+    import_keeps : (here : Text) (values : List Value) (line : ℕ) (s : State) → AreFiles s.plan → Has (import_ context here values line s)
     import_keeps here (v.Text file ∷ []) line s are =
-        then_keeps (and_then (may_nest outside depth deeper here line s) (λ _. script_by here (outside.scripts file) line)) _
-        (then_keeps (may_nest outside depth deeper here line s) _ (may_nest_keeps here line s are) (λ _ t kept. script_keeps here (outside.scripts file) line t kept))
+        then_keeps (and_then (may_nest context here line s) (λ _. script_by here (outside.scripts file) line)) _
+        (then_keeps (may_nest context here line s) _ (may_nest_keeps here line s are) (λ _ t kept. script_keeps here (outside.scripts file) line t kept))
         (λ text t kept. execute_keeps file text here line t kept)
     import_keeps here _ line s are = tt
 
-    inside_keeps : (d : Defined) (env : Env) (s : State) → AreFiles s.plan → Has (inside outside depth deeper d env s)
+    inside_keeps : (d : Defined) (env : Env) (s : State) → AreFiles s.plan → Has (inside context d env s)
     inside_keeps d env s are =
         then_keeps (deeper d.text d.function.body (record s { env = env })) _ (kept_below d.text d.function.body (record s { env = env }) are) (λ x t kept. kept)
 
-    applied_keeps : (again : Caller) → Calls again → (c : Callee) (sig : ℕ) (bound : Bound) (here : Text) (line : ℕ) (s : State) → AreFiles s.plan → Has (applied outside depth deeper again c sig bound here line s)
+    applied_keeps : (again : Caller) → Calls again → (c : Callee) (sig : ℕ) (bound : Bound) (here : Text) (line : ℕ) (s : State) → AreFiles s.plan → Has (applied context again c sig bound here line s)
     applied_keeps again kept (user d) sig bound here line s are =
-        then_keeps (may_nest outside depth deeper here line s) _ (may_nest_keeps here line s are) (λ _ t kept. inside_keeps d _ t kept)
+        then_keeps (may_nest context here line s) _ (may_nest_keeps here line s are) (λ _ t kept. inside_keeps d _ t kept)
     applied_keeps again kept (builtin b.Eval) sig bound here line s are = eval_keeps here bound.values line s are
     applied_keeps again kept (builtin b.Import) sig bound here line s are = import_keeps here bound.values line s are
     applied_keeps again kept (builtin b.SetFilterMTMode) sig bound here line s are = set_mode_keeps here bound.values line s are
@@ -354,130 +358,130 @@ module _ (outside : Outside) where
     applied_keeps again kept (builtin (b.Clip function)) sig bound here line s are = told_keeps here function bound.values line s are
     applied_keeps again kept (builtin (b.Filter filter)) sig bound here line s are = filtered_keeps here filter sig bound line s are
 
-    apply_by_keeps : (again : Caller) → Calls again → (o : Fit) (c : Callee) (here : Text) (line : ℕ) (s : State) → AreFiles s.plan → Has (apply_by outside depth deeper again o c here line s)
+    apply_by_keeps : (again : Caller) → Calls again → (o : Fit) (c : Callee) (here : Text) (line : ℕ) (s : State) → AreFiles s.plan → Has (apply_by context again o c here line s)
     apply_by_keeps again kept (Some found) c here line s are = applied_keeps again kept c found.0 found.1 here line s are
     apply_by_keeps again kept None c here line s are = tt
 
-    within_keeps : (k : ℕ) → Calls (call_within outside depth deeper k)
+    within_keeps : (k : ℕ) → Calls (call_within context k)
     unfolding call_within
     within_keeps zero = λ c args here line s are. tt
-    within_keeps (suc k) = λ c args here line s are. apply_by_keeps (call_within outside depth deeper k) (within_keeps k) (fit_or_last (takes c) args None) c here line s are
+    within_keeps (suc k) = λ c args here line s are. apply_by_keeps (call_within context k) (within_keeps k) (fit_or_last (takes c) args None) c here line s are
 
-    apply_keeps : (c : Callee) (args : List Given) (last : Option Value) (here : Text) (line : ℕ) (s : State) → AreFiles s.plan → Has (apply outside depth deeper c args last here line s)
-    apply_keeps c args last here line s are = apply_by_keeps (call_within outside depth deeper (length args)) (within_keeps (length args)) (fit_or_last (takes c) args last) c here line s are
+    apply_keeps : (c : Callee) (args : List Given) (last : Option Value) (here : Text) (line : ℕ) (s : State) → AreFiles s.plan → Has (apply context c args last here line s)
+    apply_keeps c args last here line s are = apply_by_keeps (call_within context (length args)) (within_keeps (length args)) (fit_or_last (takes c) args last) c here line s are
 
     module _ (here : Text) where
-      apply_last_keeps : (c : Callee) (args : List Given) (line : ℕ) (s : State) → AreFiles s.plan → Has (apply_last outside depth deeper here c args line s)
+      apply_last_keeps : (c : Callee) (args : List Given) (line : ℕ) (s : State) → AreFiles s.plan → Has (apply_last context here c args line s)
       apply_last_keeps c args line s are = apply_keeps c args (lookup last_name s.env) here line s are
 
-      named_keeps : (o : Option Value) (word : Text) (line : ℕ) (s : State) → AreFiles s.plan → Has (named outside depth deeper here o word line s)
+      named_keeps : (o : Option Value) (word : Text) (line : ℕ) (s : State) → AreFiles s.plan → Has (named context here o word line s)
       named_keeps (Some x) word line s are = are
       named_keeps None word line s are =
           then_keeps (called here word line s) _ (called_keeps here word line s are) (λ c t kept. apply_last_keeps c [] line t kept)
 
       mutual
-        value_keeps : (e : Expr) (s : State) → AreFiles s.plan → Has (value_of outside depth deeper here e s)
+        value_keeps : (e : Expr) (s : State) → AreFiles s.plan → Has (value_of context here e s)
         value_keeps (int i) s are = are
         value_keeps (bool holds) s are = are
         value_keeps (str x) s are = are
         value_keeps (name word line) s are = named_keeps (variable word s) word line s are
         value_keeps (call word args line) s are =
             then_keeps (called here word line s) _ (called_keeps here word line s are) (λ c t kept.
-            then_keeps (givens_of outside depth deeper here args [] t) _ (givens_keep args [] t kept) (λ given w still. apply_last_keeps c given line w still))
+            then_keeps (givens_of context here args [] t) _ (givens_keep args [] t kept) (λ given w still. apply_last_keeps c given line w still))
         value_keeps (method_calls e calls) s are =
-            then_keeps (value_of outside depth deeper here e s) _ (value_keeps e s are) (λ x t kept. calls_keep calls x t kept)
+            then_keeps (value_of context here e s) _ (value_keeps e s are) (λ x t kept. calls_keep calls x t kept)
         value_keeps (minus e line) s are =
-            then_keeps (value_of outside depth deeper here e s) _ (value_keeps e s are) (λ x t kept. lifted_keeps _ t kept)
+            then_keeps (value_of context here e s) _ (value_keeps e s are) (λ x t kept. lifted_keeps _ t kept)
         value_keeps (not_ e line) s are =
-            then_keeps (value_of outside depth deeper here e s) _ (value_keeps e s are) (λ x t kept. lifted_keeps _ t kept)
+            then_keeps (value_of context here e s) _ (value_keeps e s are) (λ x t kept. lifted_keeps _ t kept)
         value_keeps (chain e rest) s are =
-            then_keeps (value_of outside depth deeper here e s) _ (value_keeps e s are) (λ x t kept. steps_keep rest x t kept)
+            then_keeps (value_of context here e s) _ (value_keeps e s are) (λ x t kept. steps_keep rest x t kept)
         value_keeps (compare o l r line) s are =
-            then_keeps (value_of outside depth deeper here l s) _ (value_keeps l s are) (λ x t kept.
-            then_keeps (value_of outside depth deeper here r t) _ (value_keeps r t kept) (λ y w still. lifted_keeps _ w still))
+            then_keeps (value_of context here l s) _ (value_keeps l s are) (λ x t kept.
+            then_keeps (value_of context here r t) _ (value_keeps r t kept) (λ y w still. lifted_keeps _ w still))
         value_keeps (conditional c l r line) s are =
-            then_keeps (value_of outside depth deeper here c s) _ (value_keeps c s are) (λ x t kept.
+            then_keeps (value_of context here c s) _ (value_keeps c s are) (λ x t kept.
             then_keeps (lifted (truth here line x) t) _ (lifted_keeps (truth here line x) t kept) (λ holds w still.
-            if_runs holds (value_of outside depth deeper here l) (value_of outside depth deeper here r) w (value_keeps l w still) (value_keeps r w still)))
+            if_runs holds (value_of context here l) (value_of context here r) w (value_keeps l w still) (value_keeps r w still)))
         value_keeps (group e) s are = value_keeps e s are
 
-        givens_keep : (args : Args) (before : List Given) (s : State) → AreFiles s.plan → Has (givens_of outside depth deeper here args before s)
+        givens_keep : (args : Args) (before : List Given) (s : State) → AreFiles s.plan → Has (givens_of context here args before s)
         givens_keep no_args before s are = are
         givens_keep (arg word e rest) before s are =
-            then_keeps (value_of outside depth deeper here e s) _ (value_keeps e s are) (λ x t kept. givens_keep rest (before ++ record { name = word; value = x } ∷ []) t kept)
+            then_keeps (value_of context here e s) _ (value_keeps e s are) (λ x t kept. givens_keep rest (before ++ record { name = word; value = x } ∷ []) t kept)
 
-        calls_keep : (calls : MethodCalls) (x : Value) (s : State) → AreFiles s.plan → Has (calls_from outside depth deeper here calls x s)
+        calls_keep : (calls : MethodCalls) (x : Value) (s : State) → AreFiles s.plan → Has (calls_from context here calls x s)
         calls_keep no_method_calls x s are = are
         calls_keep (method word line rest) x s are =
-            then_keeps (and_then (called here word line s) (λ c. apply outside depth deeper c (unnamed x ∷ []) None here line)) _
+            then_keeps (and_then (called here word line s) (λ c. apply context c (unnamed x ∷ []) None here line)) _
             (then_keeps (called here word line s) _ (called_keeps here word line s are) (λ c t kept. apply_keeps c (unnamed x ∷ []) None here line t kept))
             (λ y w still. calls_keep rest y w still)
         calls_keep (method_call word args line rest) x s are =
-            then_keeps (and_then (called here word line s) (λ c t. and_then (givens_of outside depth deeper here args (unnamed x ∷ []) t) (λ given. apply outside depth deeper c given None here line))) _
+            then_keeps (and_then (called here word line s) (λ c t. and_then (givens_of context here args (unnamed x ∷ []) t) (λ given. apply context c given None here line))) _
             (then_keeps (called here word line s) _ (called_keeps here word line s are) (λ c t kept.
-            then_keeps (givens_of outside depth deeper here args (unnamed x ∷ []) t) _ (givens_keep args (unnamed x ∷ []) t kept) (λ given w still. apply_keeps c given None here line w still)))
+            then_keeps (givens_of context here args (unnamed x ∷ []) t) _ (givens_keep args (unnamed x ∷ []) t kept) (λ given w still. apply_keeps c given None here line w still)))
             (λ y w still. calls_keep rest y w still)
 
-        steps_keep : (steps : Steps) (x : Value) (s : State) → AreFiles s.plan → Has (steps_from outside depth deeper here steps x s)
+        steps_keep : (steps : Steps) (x : Value) (s : State) → AreFiles s.plan → Has (steps_from context here steps x s)
         steps_keep no_steps x s are = are
         steps_keep (step o e line rest) x s are =
-            then_keeps (joined here o line (value_of outside depth deeper here e) x s) _ (joined_keeps here o line (value_of outside depth deeper here e) x (value_keeps e) s are) (λ y t kept. steps_keep rest y t kept)
+            then_keeps (joined here o line (value_of context here e) x s) _ (joined_keeps here o line (value_of context here e) x (value_keeps e) s are) (λ y t kept. steps_keep rest y t kept)
 
-      condition_keeps : (c : Expr) (line : ℕ) (s : State) → AreFiles s.plan → Has (condition outside depth deeper here c line s)
-      condition_keeps c line s are = then_keeps (value_of outside depth deeper here c s) _ (value_keeps c s are) (λ x t kept. lifted_keeps _ t kept)
+      condition_keeps : (c : Expr) (line : ℕ) (s : State) → AreFiles s.plan → Has (condition context here c line s)
+      condition_keeps c line s are = then_keeps (value_of context here c s) _ (value_keeps c s are) (λ x t kept. lifted_keeps _ t kept)
 
-      step_keeps : (o : Option Expr) (s : State) → AreFiles s.plan → Has (step_of outside depth deeper here o s)
+      step_keeps : (o : Option Expr) (s : State) → AreFiles s.plan → Has (step_of context here o s)
       step_keeps None s are = are
       step_keeps (Some e) s are = value_keeps e s are
 
-      bounds_keep : (a z : Expr) (by : Option Expr) (line : ℕ) (s : State) → AreFiles s.plan → Has (bounds outside depth deeper here a z by line s)
+      bounds_keep : (a z : Expr) (by : Option Expr) (line : ℕ) (s : State) → AreFiles s.plan → Has (bounds context here a z by line s)
       bounds_keep a z by line s are =
-          then_keeps (value_of outside depth deeper here a s) _ (value_keeps a s are) (λ x t kept.
-          then_keeps (value_of outside depth deeper here z t) _ (value_keeps z t kept) (λ y w still.
-          then_keeps (step_of outside depth deeper here by w) _ (step_keeps by w still) (λ p q yet. lifted_keeps _ q yet)))
+          then_keeps (value_of context here a s) _ (value_keeps a s are) (λ x t kept.
+          then_keeps (value_of context here z t) _ (value_keeps z t kept) (λ y w still.
+          then_keeps (step_of context here by w) _ (step_keeps by w still) (λ p q yet. lifted_keeps _ q yet)))
 
       mutual
-        effect_keeps : (kind : Kind) (line : ℕ) (s : State) → AreFiles s.plan → Has (effect_of outside depth deeper here kind line s)
+        effect_keeps : (kind : Kind) (line : ℕ) (s : State) → AreFiles s.plan → Has (effect_of context here kind line s)
         effect_keeps (global word e) line s are =
-            then_keeps (value_of outside depth deeper here e s) _ (value_keeps e s are) (λ x t kept. kept)
+            then_keeps (value_of context here e s) _ (value_keeps e s are) (λ x t kept. kept)
         effect_keeps (assign word e) line s are =
-            then_keeps (value_of outside depth deeper here e s) _ (value_keeps e s are) (λ x t kept. kept)
+            then_keeps (value_of context here e s) _ (value_keeps e s are) (λ x t kept. kept)
         effect_keeps (return e) line s are =
-            then_keeps (value_of outside depth deeper here e s) _ (value_keeps e s are) (λ x t kept. kept)
+            then_keeps (value_of context here e s) _ (value_keeps e s are) (λ x t kept. kept)
         effect_keeps (if_ arms other) line s are =
-            then_keeps (arms_of outside depth deeper here arms line s) _ (arms_keep arms line s are) (λ o t kept. chosen_keeps (other_of outside depth deeper here other) o (other_keeps other) t kept)
+            then_keeps (arms_of context here arms line s) _ (arms_keep arms line s are) (λ o t kept. chosen_keeps (other_of context here other) o (other_keeps other) t kept)
         effect_keeps (while c body) line s are =
-            turns_keep here s.units (condition outside depth deeper here c line) line (block_of outside depth deeper here body) (condition_keeps c line) (block_keeps body) s are
+            turns_keep here s.units (condition context here c line) line (block_of context here body) (condition_keeps c line) (block_keeps body) s are
         effect_keeps (for word a z by body) line s are =
-            then_keeps (bounds outside depth deeper here a z by line s) _ (bounds_keep a z by line s are) (λ i t kept.
-            counts_keep here t.units word i.0 i.1 i.2 line (block_of outside depth deeper here body) (block_keeps body) _ kept)
+            then_keeps (bounds context here a z by line s) _ (bounds_keep a z by line s are) (λ i t kept.
+            counts_keep here t.units word i.0 i.1 i.2 line (block_of context here body) (block_keeps body) _ kept)
         effect_keeps (value e) line s are =
-            then_keeps (value_of outside depth deeper here e s) _ (value_keeps e s are) (λ x t kept. sets_last_keeps x t kept)
+            then_keeps (value_of context here e s) _ (value_keeps e s are) (λ x t kept. sets_last_keeps x t kept)
 
-        arms_keep : (arms : Arms) (line : ℕ) (s : State) → AreFiles s.plan → Has (arms_of outside depth deeper here arms line s)
+        arms_keep : (arms : Arms) (line : ℕ) (s : State) → AreFiles s.plan → Has (arms_of context here arms line s)
         arms_keep no_arms line s are = are
         arms_keep (arm c body rest) line s are =
-            then_keeps (condition outside depth deeper here c line s) _ (condition_keeps c line s are) (λ holds t kept. if_runs holds _ _ t
-            (then_keeps (block_of outside depth deeper here body t) _ (block_keeps body t kept) (λ flow w still. still))
+            then_keeps (condition context here c line s) _ (condition_keeps c line s are) (λ holds t kept. if_runs holds _ _ t
+            (then_keeps (block_of context here body t) _ (block_keeps body t kept) (λ flow w still. still))
             (arms_keep rest line t kept))
 
-        other_keeps : (other : Else) (s : State) → AreFiles s.plan → Has (other_of outside depth deeper here other s)
+        other_keeps : (other : Else) (s : State) → AreFiles s.plan → Has (other_of context here other s)
         other_keeps no_else s are = are
         other_keeps (else_ body) s are = block_keeps body s are
 
-        block_keeps : (block : Block) (s : State) → AreFiles s.plan → Has (block_of outside depth deeper here block s)
+        block_keeps : (block : Block) (s : State) → AreFiles s.plan → Has (block_of context here block s)
         block_keeps no_more s are = are
         block_keeps (then_ kind line rest) s are =
-            then_keeps (and_then (spend here line s) (λ _. effect_of outside depth deeper here kind line)) _
+            then_keeps (and_then (spend here line s) (λ _. effect_of context here kind line)) _
             (then_keeps (spend here line s) _ (spend_keeps here line s are) (λ _ t kept. effect_keeps kind line t kept))
-            (λ flow w still. go_on_keeps (block_of outside depth deeper here rest) flow (block_keeps rest) w still)
+            (λ flow w still. go_on_keeps (block_of context here rest) flow (block_keeps rest) w still)
 
-      body_keeps : (body : Block) (x : Value) (s : State) → AreFiles s.plan → Has (body_of outside depth deeper here body x s)
+      body_keeps : (body : Block) (x : Value) (s : State) → AreFiles s.plan → Has (body_of context here body x s)
       body_keeps no_more x s are = settled_keeps x s are
       body_keeps (then_ kind line rest) x s are =
-          then_keeps (and_then (spend here line s) (λ _. effect_of outside depth deeper here kind line)) _
+          then_keeps (and_then (spend here line s) (λ _. effect_of context here kind line)) _
           (then_keeps (spend here line s) _ (spend_keeps here line s are) (λ _ t kept. effect_keeps kind line t kept))
-          (λ flow w still. ends_with_keeps (body_of outside depth deeper here rest) flow (λ y s are. body_keeps rest y s are) w still)
+          (λ flow w still. ends_with_keeps (body_of context here rest) flow (λ y s are. body_keeps rest y s are) w still)
 
   -- however deep calls nest
   below_keeps : (depth : ℕ) (here : Text) (body : Block) (s : State) → AreFiles s.plan → Has (below outside depth here body s)

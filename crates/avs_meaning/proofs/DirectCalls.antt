@@ -10,7 +10,8 @@ use Rattle.avs_values.specs.declared.value.Value.TheVariants as v
 use Rattle.avs_meaning.proofs.TextArguments.{HasForm, has_form}
 use Rattle.avs_meaning.specs.Arguments.{is_filter_number, out_of_range}
 use Rattle.avs_meaning.specs.Calls.{Callee, user, builtin, takes, Fit, fit_or_last, unnamed}
-use Rattle.avs_meaning.specs.Expressions.{Caller, called, ranged_by, applied, apply_by, call_within, apply}
+use Rattle.avs_meaning.specs.Context.{Context}
+use Rattle.avs_meaning.specs.Expressions.{Caller, called, ranged_by, applied, apply_by, call_within, apply, direct}
 use Rattle.avs_meaning.specs.Filters.{ranged}
 use Rattle.avs_meaning.specs.Outside.{Outside}
 use Rattle.avs_meaning.specs.State.{State, Outcome, Run, and_then, fails}
@@ -38,35 +39,31 @@ range_alike again other count same (v.Clip i ∷ v.Int first ∷ v.Int last ∷ 
     either_way (is_filter_number first && is_filter_number last) _ _ (fails out_of_range here line) s (ap (λ o. and_then o (ranged here i first last line)) (followed (called here word line s) (λ c. again c args here line) (λ c. other c args here line) (λ c t. same c args here line t fewer)))
 range_alike again other count same _ rest here line s few = refl
 
-module _ (outside : Outside) (depth : ℕ) (deeper : Text → Block → Run Value) where
+module _ (context : Context) where
   applied_alike : (again other : Caller) (count : ℕ) → Alike again other count → (c : Callee) (sig : ℕ) (bound : Bound) (here : Text) (line : ℕ) (s : State) → HasForm c count bound
-      → applied outside depth deeper again c sig bound here line s ≡ applied outside depth deeper other c sig bound here line s
+      → applied context again c sig bound here line s ≡ applied context other c sig bound here line s
   applied_alike again other count same (user d) sig bound here line s has = refl
   applied_alike again other count same (builtin b.ApplyRange) sig bound here line s has = range_alike again other count same bound.values bound.rest here line s has.1
   applied_alike again other count same (builtin _) sig bound here line s has = refl
 
   apply_by_alike : (again other : Caller) (args : List Given) (last : Option Value) → Alike again other (length args) → (c : Callee) (o : Fit) (here : Text) (line : ℕ) (s : State) → fit_or_last (takes c) args last ≡ o
-      → apply_by outside depth deeper again o c here line s ≡ apply_by outside depth deeper other o c here line s
+      → apply_by context again o c here line s ≡ apply_by context other o c here line s
   apply_by_alike again other args last same c (Some found) here line s is = applied_alike again other (length args) same c found.0 found.1 here line s (has_form c args last found.0 found.1 is)
   apply_by_alike again other args last same c None here line s is = refl
 
-  within_alike : (j k count : ℕ) → count ≤ j → count ≤ k → Alike (call_within outside depth deeper j) (call_within outside depth deeper k) count
+  within_alike : (j k count : ℕ) → count ≤ j → count ≤ k → Alike (call_within context j) (call_within context k) count
   unfolding call_within
   within_alike zero k count few fewer = λ c args here line s less. absurd (omega arith)
   within_alike (suc j) zero count few fewer = λ c args here line s less. absurd (omega arith)
   within_alike (suc j) (suc k) count few fewer = λ c args here line s less.
-      apply_by_alike (call_within outside depth deeper j) (call_within outside depth deeper k) args None (within_alike j k (length args) (omega arith) (omega arith)) c (fit_or_last (takes c) args None) here line s refl
+      apply_by_alike (call_within context j) (call_within context k) args None (within_alike j k (length args) (omega arith) (omega arith)) c (fit_or_last (takes c) args None) here line s refl
 
-  -- a call whose arguments are tried as they are
-  abbrev pub direct : Caller
-  direct c args here line = apply outside depth deeper c args None here line
-
-  within_direct : (k : ℕ) → Alike (call_within outside depth deeper k) direct k
+  within_direct : (k : ℕ) → Alike (call_within context k) (direct context) k
   unfolding call_within
   within_direct k = λ c args here line s less.
       within_alike k (suc (length args)) (suc (length args)) (omega arith) (omega arith) c args here line s (omega arith)
 
   pub apply_direct : (c : Callee) (args : List Given) (last : Option Value) (here : Text) (line : ℕ) (s : State)
-      → apply outside depth deeper c args last here line s ≡ apply_by outside depth deeper direct (fit_or_last (takes c) args last) c here line s
+      → apply context c args last here line s ≡ apply_by context (direct context) (fit_or_last (takes c) args last) c here line s
   apply_direct c args last here line s =
-      apply_by_alike (call_within outside depth deeper (length args)) direct args last (within_direct (length args)) c (fit_or_last (takes c) args last) here line s refl
+      apply_by_alike (call_within context (length args)) (direct context) args last (within_direct (length args)) c (fit_or_last (takes c) args last) here line s refl

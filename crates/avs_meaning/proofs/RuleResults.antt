@@ -18,7 +18,7 @@ use Rattle.avs_meaning.specs.Arguments.{is_filter_number, out_of_range}
 use Rattle.avs_meaning.specs.Calls.{Callee, user, builtin, callee, Fit, fit_or_last, takes, unnamed}
 use Rattle.avs_meaning.specs.Expressions.{ranged_by, eval_name, known, called, eval, import_, applied, apply_by, apply, named, value_of, givens_of, calls_from, steps_from}
 use Rattle.avs_meaning.specs.Filters.{ranged}
-use Rattle.avs_meaning.specs.Meaning.{below, run}
+use Rattle.avs_meaning.specs.Meaning.{below, context_of, run}
 use Rattle.avs_meaning.specs.Operators.{compared, joined}
 use Rattle.avs_meaning.specs.Outside.{Outside}
 use Rattle.avs_meaning.specs.Rules as r
@@ -87,15 +87,15 @@ module _ (outside : Outside) (n : ℕ) (here : Text) where
   after_arguments (Err fault) next known_as is later = r.arguments_fail known_as is
 
   after_name : {s : State} {before : Option Value} {word : Text} {args : Args} {line : ℕ} (o : Option Callee) (list : Outcome (List Given)) (next : Callee → List Given → Run Value)
-      → callee word s.functions ≡ o → r.Lists outside n here s args (receiver before) (givens_of outside n (below outside n) here args (receiver before) s)
+      → callee word s.functions ≡ o → r.Lists outside n here s args (receiver before) (givens_of (context_of outside n) here args (receiver before) s)
       → ((c : Callee) (given : List Given) (t : State) → r.Applies outside n here t c given (retried before t) line (next c given t))
-      → r.Calls outside n here s before word args line (and_then (known here o line s) (λ c. givens_of outside n (below outside n) here args (receiver before) >>= next c))
-  after_name {s = s} {before = before} {args = args} (Some c) list next is lists applies = after_arguments (givens_of outside n (below outside n) here args (receiver before) s) (next c) is lists (applies c)
+      → r.Calls outside n here s before word args line (and_then (known here o line s) (λ c. givens_of (context_of outside n) here args (receiver before) >>= next c))
+  after_name {s = s} {before = before} {args = args} (Some c) list next is lists applies = after_arguments (givens_of (context_of outside n) here args (receiver before) s) (next c) is lists (applies c)
   after_name None list next is lists applies = r.name_unknown is
 
   after_fit : {s : State} {c : Callee} {given : List Given} {last : Option Value} {line : ℕ} (o : Fit) → fit_or_last (takes c) given last ≡ o
-      → ((sig : ℕ) (bound : Bound) → HasForm c (length given) bound → r.Performs outside n here s c sig bound line (applied outside n (below outside n) (again_of outside n) c sig bound here line s))
-      → r.Applies outside n here s c given last line (apply_by outside n (below outside n) (again_of outside n) o c here line s)
+      → ((sig : ℕ) (bound : Bound) → HasForm c (length given) bound → r.Performs outside n here s c sig bound line (applied (context_of outside n) (again_of outside n) c sig bound here line s))
+      → r.Applies outside n here s c given last line (apply_by (context_of outside n) (again_of outside n) o c here line s)
   after_fit {c = c} {given = given} {last = last} (Some found) is performs = r.fits is (performs found.0 found.1 (has_form c given last found.0 found.1 is))
   after_fit None is performs = r.fits_not is
 
@@ -115,33 +115,33 @@ module _ (outside : Outside) where
   some_loads n deeper here from text line s = after_load outside n here (load_short outside from text here line s) _ refl (λ loaded t. deeper from loaded.tree.statements t)
 
   some_eval : (n sig : ℕ) → AllBelow outside n → (here : Text) (values : List Value) (bound : Bound) (line : ℕ) (s : State) → bound.values ≡ values → IsText values
-      → r.Performs outside n here s (builtin b.Eval) sig bound line (eval outside n (below outside n) here values line s)
+      → r.Performs outside n here s (builtin b.Eval) sig bound line (eval (context_of outside n) here values line s)
   some_eval zero sig deeper here (v.Text text ∷ []) bound line s is has = r.too_deep refl
   some_eval (suc n) sig deeper here (v.Text text ∷ []) bound line s is has =
       rw (eval_called outside n text here line s) (r.performs_eval is (some_loads n deeper here eval_name text line s))
   some_eval _ sig deeper here _ bound line s is has = absurd has
 
   after_script : (n sig : ℕ) → AllBelow outside (suc n) → (here file : Text) (bound : Bound) (line : ℕ) (s : State) (o : Result Text FileKind) → bound.values ≡ v.Text file ∷ [] → outside.scripts file ≡ o
-      → r.Performs outside (suc n) here s (builtin b.Import) sig bound line (import_ outside (suc n) (below outside (suc n)) here (v.Text file ∷ []) line s)
+      → r.Performs outside (suc n) here s (builtin b.Import) sig bound line (import_ (context_of outside (suc n)) here (v.Text file ∷ []) line s)
   after_script n sig deeper here file bound line s (Ok text) is found =
       rw (import_called outside n file text here line s found) (r.performs_import is found (some_loads n deeper here file text line (imported s)))
   after_script n sig deeper here file bound line s (Err kind) is found = rw (import_failed outside n file kind here line s found) (r.import_fails is found)
 
   some_import : (n sig : ℕ) → AllBelow outside n → (here : Text) (values : List Value) (bound : Bound) (line : ℕ) (s : State) → bound.values ≡ values → IsText values
-      → r.Performs outside n here s (builtin b.Import) sig bound line (import_ outside n (below outside n) here values line s)
+      → r.Performs outside n here s (builtin b.Import) sig bound line (import_ (context_of outside n) here values line s)
   some_import zero sig deeper here (v.Text file ∷ []) bound line s is has = r.too_deep refl
   some_import (suc n) sig deeper here (v.Text file ∷ []) bound line s is has = after_script n sig deeper here file bound line s (outside.scripts file) is refl
   some_import _ sig deeper here _ bound line s is has = absurd has
 
   some_user : (n sig : ℕ) → AllBelow outside n → (here : Text) (d : Defined) (bound : Bound) (line : ℕ) (s : State)
-      → r.Performs outside n here s (user d) sig bound line (applied outside n (below outside n) (again_of outside n) (user d) sig bound here line s)
+      → r.Performs outside n here s (user d) sig bound line (applied (context_of outside n) (again_of outside n) (user d) sig bound here line s)
   some_user zero sig deeper here d bound line s = r.too_deep refl
   some_user (suc n) sig deeper here d bound line s = rw (user_called outside n sig (again_of outside (suc n)) d bound here line s) (r.performs_user (deeper d.text d.function.body _))
 
   -- The rules allow what is called with fewer arguments than these.
   abbrev SomeApply : ℕ → Text → ℕ → Type 0
   SomeApply n here count = (c : Callee) (given : List Given) (last : Option Value) (line : ℕ) (s : State) → length given < count
-      → r.Applies outside n here s c given last line (apply outside n (below outside n) c given last here line s)
+      → r.Applies outside n here s c given last line (apply (context_of outside n) c given last here line s)
 
   after_called : (n sig count : ℕ) (here : Text) → SomeApply n here count → (i : ℕ) (first last : ℤ) (word : Text) (bound : Bound) (line : ℕ) (s : State) (o : Option Callee)
       → bound.values ≡ v.Clip i ∷ v.Int first ∷ v.Int last ∷ v.Text word ∷ [] → (is_filter_number first && is_filter_number last) ≡ true
@@ -168,7 +168,7 @@ module _ (outside : Outside) where
   some_range n sig count here some _ bound line s is has few = absurd has
 
   some_performs : (n : ℕ) → AllBelow outside n → (here : Text) (c : Callee) (count sig : ℕ) (bound : Bound) (line : ℕ) (s : State) → SomeApply n here count → HasForm c count bound
-      → r.Performs outside n here s c sig bound line (applied outside n (below outside n) (again_of outside n) c sig bound here line s)
+      → r.Performs outside n here s c sig bound line (applied (context_of outside n) (again_of outside n) c sig bound here line s)
   some_performs n deeper here (user d) count sig bound line s some has = some_user n sig deeper here d bound line s
   some_performs n deeper here (builtin b.Eval) count sig bound line s some has = some_eval n sig deeper here bound.values bound line s refl has
   some_performs n deeper here (builtin b.Import) count sig bound line s some has = some_import n sig deeper here bound.values bound line s refl has
@@ -183,60 +183,60 @@ module _ (outside : Outside) where
     some_applies_within : (count : ℕ) → SomeApply n here count
     some_applies_within zero = λ c given last line s few. absurd (omega arith)
     some_applies_within (suc count) = λ c given last line s few.
-        rw (apply_direct outside n (below outside n) c given last here line s)
+        rw (apply_direct (context_of outside n) c given last here line s)
         (after_fit outside n here (fit_or_last (takes c) given last) refl
         (λ sig bound has. some_performs n deeper here c (length given) sig bound line s (λ d args x line t less. some_applies_within count d args x line t (omega arith)) has))
 
-    some_applies : (c : Callee) (given : List Given) (last : Option Value) (line : ℕ) (s : State) → r.Applies outside n here s c given last line (apply outside n (below outside n) c given last here line s)
+    some_applies : (c : Callee) (given : List Given) (last : Option Value) (line : ℕ) (s : State) → r.Applies outside n here s c given last line (apply (context_of outside n) c given last here line s)
     some_applies c given last line s = some_applies_within (suc (length given)) c given last line s (omega arith)
 
-    some_calls : (before : Option Value) (word : Text) (args : Args) (line : ℕ) (s : State) → r.Lists outside n here s args (receiver before) (givens_of outside n (below outside n) here args (receiver before) s)
+    some_calls : (before : Option Value) (word : Text) (args : Args) (line : ℕ) (s : State) → r.Lists outside n here s args (receiver before) (givens_of (context_of outside n) here args (receiver before) s)
         → r.Calls outside n here s before word args line (call_of outside n here before word args line s)
     some_calls before word args line s lists =
-        after_name outside n here (callee word s.functions) (givens_of outside n (below outside n) here args (receiver before) s)
-        (λ c given t. apply outside n (below outside n) c given (retried before t) here line t) refl lists (λ c given t. some_applies c given (retried before t) line t)
+        after_name outside n here (callee word s.functions) (givens_of (context_of outside n) here args (receiver before) s)
+        (λ c given t. apply (context_of outside n) c given (retried before t) here line t) refl lists (λ c given t. some_applies c given (retried before t) line t)
 
-    after_variable : {word : Text} {line : ℕ} {s : State} (o : Option Value) → variable word s ≡ o → r.Gives outside n here s (name word line) (named outside n (below outside n) here o word line s)
+    after_variable : {word : Text} {line : ℕ} {s : State} (o : Option Value) → variable word s ≡ o → r.Gives outside n here s (name word line) (named (context_of outside n) here o word line s)
     after_variable (Some x) is = r.gives_variable is
     after_variable {word = word} {line = line} {s = s} None is = r.gives_named_call is (some_calls None word no_args line s r.list_ends)
 
     -- ---- expressions
 
-    some_branch : (c l e : Expr) (line : ℕ) (s : State) → r.Gives outside n here s c (value_of outside n (below outside n) here c s)
-        → ((t : State) → r.Gives outside n here t l (value_of outside n (below outside n) here l t)) → ((t : State) → r.Gives outside n here t e (value_of outside n (below outside n) here e t))
-        → r.Gives outside n here s (conditional c l e line) (value_of outside n (below outside n) here (conditional c l e line) s)
+    some_branch : (c l e : Expr) (line : ℕ) (s : State) → r.Gives outside n here s c (value_of (context_of outside n) here c s)
+        → ((t : State) → r.Gives outside n here t l (value_of (context_of outside n) here l t)) → ((t : State) → r.Gives outside n here t e (value_of (context_of outside n) here e t))
+        → r.Gives outside n here s (conditional c l e line) (value_of (context_of outside n) here (conditional c l e line) s)
     some_branch c l e line s is first second = subst (λ o. r.Gives outside n here s (conditional c l e line) o) (sym (branched outside n here c l e line s))
-        (after_test outside n here (condition outside n (below outside n) here c line s) (value_of outside n (below outside n) here l) (value_of outside n (below outside n) here e) (r.condition_tested is) first second)
+        (after_test outside n here (condition (context_of outside n) here c line s) (value_of (context_of outside n) here l) (value_of (context_of outside n) here e) (r.condition_tested is) first second)
 
     mutual
-      pub some_gives : (e : Expr) (s : State) → r.Gives outside n here s e (value_of outside n (below outside n) here e s)
+      pub some_gives : (e : Expr) (s : State) → r.Gives outside n here s e (value_of (context_of outside n) here e s)
       some_gives (int i) s = r.gives_number
       some_gives (bool holds) s = r.gives_truth
       some_gives (str x) s = r.gives_text
       some_gives (name word line) s = after_variable (variable word s) refl
       some_gives (call word args line) s = r.gives_call (some_calls None word args line s (some_lists args [] s))
-      some_gives (method_calls e calls) s = after_receiver outside n here (value_of outside n (below outside n) here e s) (calls_from outside n (below outside n) here calls) (some_gives e s) (some_methods calls)
+      some_gives (method_calls e calls) s = after_receiver outside n here (value_of (context_of outside n) here e s) (calls_from (context_of outside n) here calls) (some_gives e s) (some_methods calls)
       some_gives (minus e line) s = r.gives_negative (some_gives e s)
       some_gives (not_ e line) s = r.gives_opposite (some_gives e s)
-      some_gives (chain e rest) s = after_operand outside n here (value_of outside n (below outside n) here e s) (steps_from outside n (below outside n) here rest) (some_gives e s) (some_chains rest)
-      some_gives (compare o l e line) s = after_left outside n here (value_of outside n (below outside n) here l s) (value_of outside n (below outside n) here e) (some_gives l s) (some_gives e)
+      some_gives (chain e rest) s = after_operand outside n here (value_of (context_of outside n) here e s) (steps_from (context_of outside n) here rest) (some_gives e s) (some_chains rest)
+      some_gives (compare o l e line) s = after_left outside n here (value_of (context_of outside n) here l s) (value_of (context_of outside n) here e) (some_gives l s) (some_gives e)
       some_gives (conditional c l e line) s = some_branch c l e line s (some_gives c s) (some_gives l) (some_gives e)
       some_gives (group e) s = r.gives_group (some_gives e s)
 
-      some_lists : (args : Args) (before : List Given) (s : State) → r.Lists outside n here s args before (givens_of outside n (below outside n) here args before s)
+      some_lists : (args : Args) (before : List Given) (s : State) → r.Lists outside n here s args before (givens_of (context_of outside n) here args before s)
       some_lists no_args before s = r.list_ends
       some_lists (arg word e rest) before s =
-          after_argument outside n here (value_of outside n (below outside n) here e s) (λ x. givens_of outside n (below outside n) here rest (before ++ record { name = word; value = x } ∷ [])) (some_gives e s)
+          after_argument outside n here (value_of (context_of outside n) here e s) (λ x. givens_of (context_of outside n) here rest (before ++ record { name = word; value = x } ∷ [])) (some_gives e s)
           (λ x t. some_lists rest (before ++ record { name = word; value = x } ∷ []) t)
 
-      some_methods : (rest : MethodCalls) (x : Value) (s : State) → r.CallsMethods outside n here s rest x (calls_from outside n (below outside n) here rest x s)
+      some_methods : (rest : MethodCalls) (x : Value) (s : State) → r.CallsMethods outside n here s rest x (calls_from (context_of outside n) here rest x s)
       some_methods no_method_calls x s = r.methods_end
       some_methods (method word line rest) x s =
-          r.without_arguments (after_method outside n here (call_of outside n here (Some x) word no_args line s) (calls_from outside n (below outside n) here rest) (some_calls (Some x) word no_args line s r.list_ends) (some_methods rest))
+          r.without_arguments (after_method outside n here (call_of outside n here (Some x) word no_args line s) (calls_from (context_of outside n) here rest) (some_calls (Some x) word no_args line s r.list_ends) (some_methods rest))
       some_methods (method_call word args line rest) x s =
-          after_method outside n here (call_of outside n here (Some x) word args line s) (calls_from outside n (below outside n) here rest) (some_calls (Some x) word args line s (some_lists args (unnamed x ∷ []) s)) (some_methods rest)
+          after_method outside n here (call_of outside n here (Some x) word args line s) (calls_from (context_of outside n) here rest) (some_calls (Some x) word args line s (some_lists args (unnamed x ∷ []) s)) (some_methods rest)
 
-      some_chains : (rest : Steps) (x : Value) (s : State) → r.Chains outside n here s rest x (steps_from outside n (below outside n) here rest x s)
+      some_chains : (rest : Steps) (x : Value) (s : State) → r.Chains outside n here s rest x (steps_from (context_of outside n) here rest x s)
       some_chains no_steps x s = r.chain_ends
       some_chains (step o e line rest) x s =
-          after_step outside n here (joined here o line (value_of outside n (below outside n) here e) x s) (steps_from outside n (below outside n) here rest) (some_joins outside n here o x (value_of outside n (below outside n) here e) (some_gives e s)) (some_chains rest)
+          after_step outside n here (joined here o line (value_of (context_of outside n) here e) x s) (steps_from (context_of outside n) here rest) (some_joins outside n here o x (value_of (context_of outside n) here e) (some_gives e s)) (some_chains rest)

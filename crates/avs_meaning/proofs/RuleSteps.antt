@@ -9,13 +9,12 @@ use Rattle.avs_values.specs.declared.value.Value.{Value}
 use Rattle.avs_values.specs.declared.value.Value.TheVariants as v
 use Rattle.avs_meaning.proofs.ExecutionUnits.{condition_leaves, block_leaves, below_leaves}
 use Rattle.avs_meaning.proofs.LoopLemmas.{turn_of, unrolled, counted_past, counted}
-use Rattle.avs_meaning.proofs.DirectCalls.{direct}
 use Rattle.avs_meaning.proofs.TextArguments.{IsText, HasForm}
 use Rattle.avs_meaning.specs.Calls.{Callee, user, builtin, parameters}
-use Rattle.avs_meaning.specs.Expressions.{Caller, eval_name, called, eval, import_, applied, apply, value_of, givens_of}
+use Rattle.avs_meaning.specs.Expressions.{Caller, direct, eval_name, called, eval, import_, applied, apply, value_of, givens_of}
 use Rattle.avs_meaning.specs.Faults.{Fault, script}
 use Rattle.avs_meaning.specs.Loops.{Flow, on, go_on, ends, is_past, continues, turned, counts}
-use Rattle.avs_meaning.specs.Meaning.{below, run}
+use Rattle.avs_meaning.specs.Meaning.{below, context_of, run}
 use Rattle.avs_meaning.specs.Operators.{truth, truth_of, combined, joined}
 use Rattle.avs_meaning.specs.Outside.{Outside}
 use Rattle.avs_meaning.specs.Rules.{is_logical, receiver, retried, nests}
@@ -42,20 +41,20 @@ module _ (outside : Outside) where
   module _ (n : ℕ) where
     -- what ApplyRange calls its function by
     abbrev pub again_of : Caller
-    again_of = direct outside n (below outside n)
+    again_of = direct (context_of outside n)
 
     -- a call of a name, after a value and a dot or not
     abbrev pub call_of : Text → Option Value → Text → Args → ℕ → Run Value
     call_of here before word args line =
-        called here word line >>= (λ c. givens_of outside n (below outside n) here args (receiver before)
-        >>= (λ given s. apply outside n (below outside n) c given (retried before s) here line s))
+        called here word line >>= (λ c. givens_of (context_of outside n) here args (receiver before)
+        >>= (λ given s. apply (context_of outside n) c given (retried before s) here line s))
 
     -- a statement with its unit
     abbrev pub paid_effect : Text → Kind → ℕ → Run Flow
-    paid_effect here kind line = spend here line >> effect_of outside n (below outside n) here kind line
+    paid_effect here kind line = spend here line >> effect_of (context_of outside n) here kind line
 
     abbrev pub choice_of : Text → Arms → Else → ℕ → Run Flow
-    choice_of here arms other line = arms_of outside n (below outside n) here arms line >>= chosen (other_of outside n (below outside n) here other)
+    choice_of here arms other line = arms_of (context_of outside n) here arms line >>= chosen (other_of (context_of outside n) here other)
 
     -- a text that is loaded and executed
     abbrev pub load_of : Text → Text → Text → ℕ → Run Value
@@ -63,65 +62,65 @@ module _ (outside : Outside) where
 
     -- the branches of `?:`, by the condition
     pub branched : (here : Text) (c l r : Expr) (line : ℕ) (s : State)
-        → value_of outside n (below outside n) here (conditional c l r line) s
-        ≡ and_then (condition outside n (below outside n) here c line s) (λ holds. if holds then value_of outside n (below outside n) here l else value_of outside n (below outside n) here r)
+        → value_of (context_of outside n) here (conditional c l r line) s
+        ≡ and_then (condition (context_of outside n) here c line s) (λ holds. if holds then value_of (context_of outside n) here l else value_of (context_of outside n) here r)
     branched here c l r line s =
-        grouped (value_of outside n (below outside n) here c s) (λ x. lifted (truth here line x)) (λ holds. if holds then value_of outside n (below outside n) here l else value_of outside n (below outside n) here r)
+        grouped (value_of (context_of outside n) here c s) (λ x. lifted (truth here line x)) (λ holds. if holds then value_of (context_of outside n) here l else value_of (context_of outside n) here r)
 
     -- `while`: its condition, and then a turn and the loop again, or nothing
     pub while_unrolled : (here : Text) (c : Expr) (body : Block) (line : ℕ) (s : State)
-        → effect_of outside n (below outside n) here (while c body) line s
-        ≡ and_then (condition outside n (below outside n) here c line s) (λ holds. if holds
-        then (turn_of here line (block_of outside n (below outside n) here body) >>= go_on (effect_of outside n (below outside n) here (while c body) line)) else ends)
+        → effect_of (context_of outside n) here (while c body) line s
+        ≡ and_then (condition (context_of outside n) here c line s) (λ holds. if holds
+        then (turn_of here line (block_of (context_of outside n) here body) >>= go_on (effect_of (context_of outside n) here (while c body) line)) else ends)
     while_unrolled here c body line s =
-        unrolled here (condition outside n (below outside n) here c line) line (block_of outside n (below outside n) here body)
-        (condition_leaves outside n (below outside n) (below_leaves outside n) here c line) (block_leaves outside n (below outside n) (below_leaves outside n) here body) s
+        unrolled here (condition (context_of outside n) here c line) line (block_of (context_of outside n) here body)
+        (condition_leaves (context_of outside n) (below_leaves outside n) here c line) (block_leaves (context_of outside n) (below_leaves outside n) here body) s
 
     -- `for` from a number on
     abbrev pub count_of : Text → Text → ℤ → ℤ → ℕ → Block → ℤ → Run Flow
-    count_of here word last by line body i s = counts here s.units word i last by line (block_of outside n (below outside n) here body) s
+    count_of here word last by line body i s = counts here s.units word i last by line (block_of (context_of outside n) here body) s
 
     pub for_ended : (here word : Text) (last by : ℤ) (line : ℕ) (body : Block) (i : ℤ) (s : State) → is_past last by i ≡ true
         → count_of here word last by line body i s ≡ Ok (on v.Undefined, s)
-    for_ended here word last by line body = counted_past here word last by line (block_of outside n (below outside n) here body) (block_leaves outside n (below outside n) (below_leaves outside n) here body)
+    for_ended here word last by line body = counted_past here word last by line (block_of (context_of outside n) here body) (block_leaves (context_of outside n) (below_leaves outside n) here body)
 
     pub for_unrolled : (here word : Text) (last by : ℤ) (line : ℕ) (body : Block) (i : ℤ) (s : State) → is_past last by i ≡ false
         → count_of here word last by line body i s
-        ≡ and_then (and_then (turn_of here line (block_of outside n (below outside n) here body) s) (turned here word by line)) (continues (count_of here word last by line body))
-    for_unrolled here word last by line body = counted here word last by line (block_of outside n (below outside n) here body) (block_leaves outside n (below outside n) (below_leaves outside n) here body)
+        ≡ and_then (and_then (turn_of here line (block_of (context_of outside n) here body) s) (turned here word by line)) (continues (count_of here word last by line body))
+    for_unrolled here word last by line body = counted here word last by line (block_of (context_of outside n) here body) (block_leaves (context_of outside n) (below_leaves outside n) here body)
 
   -- ---- one call deeper
 
   pub user_called : (n sig : ℕ) (again : Caller) (d : Defined) (bound : Bound) (here : Text) (line : ℕ) (s : State)
-      → applied outside (suc n) (below outside (suc n)) again (user d) sig bound here line s
+      → applied (context_of outside (suc n)) again (user d) sig bound here line s
       ≡ and_then (run outside n d.text d.function.body (record s { env = parameters d.function.params bound.values [] })) (λ x after. Ok (x, record after { env = s.env }))
   unfolding below
   user_called n sig again d bound here line s = rw (not_zero n)
 
   pub eval_called : (n : ℕ) (text : Text) (here : Text) (line : ℕ) (s : State)
-      → eval outside (suc n) (below outside (suc n)) here (v.Text text ∷ []) line s ≡ load_of n here eval_name text line s
+      → eval (context_of outside (suc n)) here (v.Text text ∷ []) line s ≡ load_of n here eval_name text line s
   unfolding below
   eval_called n text here line s = rw (not_zero n)
 
   pub import_called : (n : ℕ) (file text : Text) (here : Text) (line : ℕ) (s : State) → outside.scripts file ≡ Ok text
-      → import_ outside (suc n) (below outside (suc n)) here (v.Text file ∷ []) line s ≡ load_of n here file text line (imported s)
+      → import_ (context_of outside (suc n)) here (v.Text file ∷ []) line s ≡ load_of n here file text line (imported s)
   unfolding below
   import_called n file text here line s is = rw (not_zero n, is)
 
   pub import_failed : (n : ℕ) (file : Text) (kind : FileKind) (here : Text) (line : ℕ) (s : State) → outside.scripts file ≡ Err kind
-      → import_ outside (suc n) (below outside (suc n)) here (v.Text file ∷ []) line s ≡ Err (script (k.File kind) here line)
+      → import_ (context_of outside (suc n)) here (v.Text file ∷ []) line s ≡ Err (script (k.File kind) here line)
   import_failed n file kind here line s is = rw (not_zero n, is)
 
-  eval_too_deep : (values : List Value) (here : Text) (line : ℕ) (s : State) → IsText values → eval outside zero (below outside zero) here values line s ≡ Err (script k.CallDepth here line)
+  eval_too_deep : (values : List Value) (here : Text) (line : ℕ) (s : State) → IsText values → eval (context_of outside zero) here values line s ≡ Err (script k.CallDepth here line)
   eval_too_deep (v.Text text ∷ []) here line s is = refl
   eval_too_deep _ here line s is = absurd is
 
-  import_too_deep : (values : List Value) (here : Text) (line : ℕ) (s : State) → IsText values → import_ outside zero (below outside zero) here values line s ≡ Err (script k.CallDepth here line)
+  import_too_deep : (values : List Value) (here : Text) (line : ℕ) (s : State) → IsText values → import_ (context_of outside zero) here values line s ≡ Err (script k.CallDepth here line)
   import_too_deep (v.Text text ∷ []) here line s is = refl
   import_too_deep _ here line s is = absurd is
 
   pub called_too_deep : (again : Caller) (c : Callee) (count sig : ℕ) (bound : Bound) (here : Text) (line : ℕ) (s : State) → nests c ≡ true → HasForm c count bound
-      → applied outside zero (below outside zero) again c sig bound here line s ≡ Err (script k.CallDepth here line)
+      → applied (context_of outside zero) again c sig bound here line s ≡ Err (script k.CallDepth here line)
   called_too_deep again (user d) count sig bound here line s deep is = refl
   called_too_deep again (builtin b.Eval) count sig bound here line s deep is = eval_too_deep bound.values here line s is
   called_too_deep again (builtin b.Import) count sig bound here line s deep is = import_too_deep bound.values here line s is

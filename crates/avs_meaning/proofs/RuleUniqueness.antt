@@ -13,7 +13,7 @@ use Rattle.avs_meaning.proofs.TextArguments.{HasForm, has_form}
 use Rattle.avs_meaning.specs.Calls.{Callee}
 use Rattle.avs_meaning.specs.Expressions.{applied, apply, value_of, givens_of, calls_from, steps_from}
 use Rattle.avs_meaning.specs.Loops.{Flow, counts}
-use Rattle.avs_meaning.specs.Meaning.{below}
+use Rattle.avs_meaning.specs.Meaning.{below, context_of}
 use Rattle.avs_meaning.specs.Operators.{joined}
 use Rattle.avs_meaning.specs.Outside.{Outside}
 use Rattle.avs_meaning.specs.Rules as r
@@ -23,7 +23,7 @@ use Rattle.avs_meaning.specs.Statements.{condition, other_of, bounds, effect_of,
 module _ (outside : Outside) where
   mutual
     pub only_gives : {n : ℕ} {here : Text} {s : State} {e : Expr} {out : Outcome Value}
-        → r.Gives outside n here s e out → value_of outside n (below outside n) here e s ≡ out
+        → r.Gives outside n here s e out → value_of (context_of outside n) here e s ≡ out
     only_gives r.gives_number = refl
     only_gives r.gives_truth = refl
     only_gives r.gives_text = refl
@@ -46,26 +46,26 @@ module _ (outside : Outside) where
     only_gives (r.gives_group e) = only_gives e
 
     only_tests : {n line : ℕ} {here : Text} {s : State} {c : Expr} {out : Outcome Bool}
-        → r.Tests outside n here s c line out → condition outside n (below outside n) here c line s ≡ out
+        → r.Tests outside n here s c line out → condition (context_of outside n) here c line s ≡ out
     only_tests (r.condition_tested e) = rw (only_gives e)
 
     only_chains : {n : ℕ} {here : Text} {s : State} {rest : Steps} {x : Value} {out : Outcome Value}
-        → r.Chains outside n here s rest x out → steps_from outside n (below outside n) here rest x s ≡ out
+        → r.Chains outside n here s rest x out → steps_from (context_of outside n) here rest x s ≡ out
     only_chains r.chain_ends = refl
     only_chains (r.chain_goes_on first rest) = rw (only_joins first) (only_chains rest)
     only_chains (r.chain_fails first) = rw (only_joins first)
 
     only_joins : {n line : ℕ} {here : Text} {s : State} {o : Operator} {x : Value} {e : Expr} {out : Outcome Value}
-        → r.Joins outside n here s o x e line out → joined here o line (value_of outside n (below outside n) here e) x s ≡ out
-    only_joins {n = n} {line = line} {here = here} {s = s} {o = o} {x = x} {e = e} (r.both_operands is right) = both_operands_joined here o line (value_of outside n (below outside n) here e) x s is ∙ rw (only_gives right)
+        → r.Joins outside n here s o x e line out → joined here o line (value_of (context_of outside n) here e) x s ≡ out
+    only_joins {n = n} {line = line} {here = here} {s = s} {o = o} {x = x} {e = e} (r.both_operands is right) = both_operands_joined here o line (value_of (context_of outside n) here e) x s is ∙ rw (only_gives right)
     only_joins r.or_holds = refl
-    only_joins {n = n} {line = line} {here = here} {s = s} {e = e} (r.or_goes_on test) = truth_grouped here line (value_of outside n (below outside n) here e) s ∙ rw (only_tests test)
-    only_joins {n = n} {line = line} {here = here} {s = s} {e = e} (r.and_goes_on test) = truth_grouped here line (value_of outside n (below outside n) here e) s ∙ rw (only_tests test)
+    only_joins {n = n} {line = line} {here = here} {s = s} {e = e} (r.or_goes_on test) = truth_grouped here line (value_of (context_of outside n) here e) s ∙ rw (only_tests test)
+    only_joins {n = n} {line = line} {here = here} {s = s} {e = e} (r.and_goes_on test) = truth_grouped here line (value_of (context_of outside n) here e) s ∙ rw (only_tests test)
     only_joins r.and_ends = refl
-    only_joins {n = n} {line = line} {here = here} {s = s} {o = o} {x = x} {e = e} (r.left_is_no_truth {fault = fault} is wrong) = no_truth_joined here o line (value_of outside n (below outside n) here e) x s fault is wrong
+    only_joins {n = n} {line = line} {here = here} {s = s} {o = o} {x = x} {e = e} (r.left_is_no_truth {fault = fault} is wrong) = no_truth_joined here o line (value_of (context_of outside n) here e) x s fault is wrong
 
     only_methods : {n : ℕ} {here : Text} {s : State} {rest : MethodCalls} {x : Value} {out : Outcome Value}
-        → r.CallsMethods outside n here s rest x out → calls_from outside n (below outside n) here rest x s ≡ out
+        → r.CallsMethods outside n here s rest x out → calls_from (context_of outside n) here rest x s ≡ out
     only_methods r.methods_end = refl
     only_methods (r.methods_go_on first rest) = rw (only_calls first) (only_methods rest)
     only_methods (r.method_fails first) = rw (only_calls first)
@@ -78,19 +78,19 @@ module _ (outside : Outside) where
     only_calls (r.arguments_fail is list) = rw (is, only_lists list)
 
     only_lists : {n : ℕ} {here : Text} {s : State} {args : Args} {before : List Given} {out : Outcome (List Given)}
-        → r.Lists outside n here s args before out → givens_of outside n (below outside n) here args before s ≡ out
+        → r.Lists outside n here s args before out → givens_of (context_of outside n) here args before s ≡ out
     only_lists r.list_ends = refl
     only_lists (r.list_goes_on first rest) = rw (only_gives first) (only_lists rest)
     only_lists (r.list_fails first) = rw (only_gives first)
 
     only_applies : {n line : ℕ} {here : Text} {s : State} {c : Callee} {given : List Given} {last : Option Value} {out : Outcome Value}
-        → r.Applies outside n here s c given last line out → apply outside n (below outside n) c given last here line s ≡ out
+        → r.Applies outside n here s c given last line out → apply (context_of outside n) c given last here line s ≡ out
     only_applies {n = n} {line = line} {here = here} {s = s} {c = c} {given = given} {last = last} (r.fits {sig = sig} {args = bound} is does) =
-        apply_direct outside n (below outside n) c given last here line s ∙ rw is (only_performs does (length given) (has_form c given last sig bound is))
+        apply_direct (context_of outside n) c given last here line s ∙ rw is (only_performs does (length given) (has_form c given last sig bound is))
     only_applies (r.fits_not is) = rw is
 
     only_performs : {n line sig : ℕ} {here : Text} {s : State} {c : Callee} {bound : Bound} {out : Outcome Value}
-        → r.Performs outside n here s c sig bound line out → (count : ℕ) → HasForm c count bound → applied outside n (below outside n) (again_of outside n) c sig bound here line s ≡ out
+        → r.Performs outside n here s c sig bound line out → (count : ℕ) → HasForm c count bound → applied (context_of outside n) (again_of outside n) c sig bound here line s ≡ out
     only_performs r.performs_plain count form = refl
     only_performs r.performs_clip count form = refl
     only_performs r.performs_filter count form = refl
@@ -111,14 +111,14 @@ module _ (outside : Outside) where
     only_loads (r.load_fails is) = rw is
 
     pub only_executes : {n : ℕ} {here : Text} {s : State} {body : Block} {x : Value} {out : Outcome Value}
-        → r.Executes outside n here s body x out → body_of outside n (below outside n) here body x s ≡ out
+        → r.Executes outside n here s body x out → body_of (context_of outside n) here body x s ≡ out
     only_executes r.body_ends = refl
     only_executes (r.body_goes_on first rest) = rw (only_pays first) (only_executes rest)
     only_executes (r.body_returns first) = rw (only_pays first)
     only_executes (r.body_fails first) = rw (only_pays first)
 
     only_does_all : {n : ℕ} {here : Text} {s : State} {block : Block} {out : Outcome Flow}
-        → r.DoesAll outside n here s block out → block_of outside n (below outside n) here block s ≡ out
+        → r.DoesAll outside n here s block out → block_of (context_of outside n) here block s ≡ out
     only_does_all r.block_ends = refl
     only_does_all (r.block_goes_on first rest) = rw (only_pays first) (only_does_all rest)
     only_does_all (r.block_returns first) = rw (only_pays first)
@@ -130,7 +130,7 @@ module _ (outside : Outside) where
     only_pays (r.unpaid is) = rw is
 
     only_does : {n line : ℕ} {here : Text} {s : State} {kind : Kind} {out : Outcome Flow}
-        → r.Does outside n here s kind line out → effect_of outside n (below outside n) here kind line s ≡ out
+        → r.Does outside n here s kind line out → effect_of (context_of outside n) here kind line s ≡ out
     only_does (r.sets_global e) = rw (only_gives e)
     only_does (r.sets_variable e) = rw (only_gives e)
     only_does (r.returns e) = rw (only_gives e)
@@ -147,19 +147,19 @@ module _ (outside : Outside) where
     only_chooses : {n line : ℕ} {here : Text} {s : State} {arms : Arms} {other : Else} {out : Outcome Flow}
         → r.Chooses outside n here s arms other line out → choice_of outside n here arms other line s ≡ out
     only_chooses {n = n} {here = here} (r.arm_taken {after = after} {body = body} {other = other} test block) =
-        rw (only_tests test) (chosen_block (block_of outside n (below outside n) here body after) (other_of outside n (below outside n) here other) ∙ only_does_all block)
+        rw (only_tests test) (chosen_block (block_of (context_of outside n) here body after) (other_of (context_of outside n) here other) ∙ only_does_all block)
     only_chooses (r.arm_passed_over test rest) = rw (only_tests test) (only_chooses rest)
     only_chooses (r.arm_test_fails test) = rw (only_tests test)
     only_chooses (r.else_taken block) = only_does_all block
     only_chooses r.nothing_taken = refl
 
     only_turns : {n line : ℕ} {here : Text} {s : State} {body : Block} {out : Outcome Flow}
-        → r.Turns outside n here s body line out → turn_of here line (block_of outside n (below outside n) here body) s ≡ out
+        → r.Turns outside n here s body line out → turn_of here line (block_of (context_of outside n) here body) s ≡ out
     only_turns (r.turn_paid is block) = rw is (only_does_all block)
     only_turns (r.turn_unpaid is) = rw is
 
     only_takes : {n line : ℕ} {here : Text} {s : State} {a z : Expr} {by : Option Expr} {out : Outcome (ℤ × ℤ × ℤ)}
-        → r.TakesNumbers outside n here s a z by line out → bounds outside n (below outside n) here a z by line s ≡ out
+        → r.TakesNumbers outside n here s a z by line out → bounds (context_of outside n) here a z by line s ≡ out
     only_takes (r.step_is_one taken) = only_takes taken
     only_takes (r.takes_numbers first last by) = rw (only_gives first, only_gives last, only_gives by)
     only_takes (r.first_number_fails first) = rw (only_gives first)
@@ -167,7 +167,7 @@ module _ (outside : Outside) where
 
     only_counts : {n line : ℕ} {here word : Text} {s : State} {i last by : ℤ} {body : Block} {out : Outcome Flow}
         → r.Counts outside n here s word i last by body line out
-        → counts here s.units word i last by line (block_of outside n (below outside n) here body) s ≡ out
+        → counts here s.units word i last by line (block_of (context_of outside n) here body) s ≡ out
     only_counts {n = n} {line = line} {here = here} {word = word} {s = s} {i = i} {last = last} {by = by} {body = body} (r.for_ends is) = for_ended outside n here word last by line body i s is
     only_counts {n = n} {line = line} {here = here} {word = word} {s = s} {i = i} {last = last} {by = by} {body = body} (r.for_goes_on is turn next rest) = for_unrolled outside n here word last by line body i s is ∙ rw (only_turns turn, next) (only_counts rest)
     only_counts {n = n} {line = line} {here = here} {word = word} {s = s} {i = i} {last = last} {by = by} {body = body} (r.for_leaves_range is turn next) = for_unrolled outside n here word last by line body i s is ∙ rw (only_turns turn, next)

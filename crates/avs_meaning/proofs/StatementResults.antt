@@ -10,7 +10,7 @@ use Rattle.avs_meaning.proofs.RuleResults.{AllBelow, some_gives}
 use Rattle.avs_meaning.proofs.RuleSteps.{chosen_block, paid_effect, choice_of, while_unrolled, count_of, for_ended, for_unrolled}
 use Rattle.avs_meaning.proofs.UnitLemmas.{Leaves}
 use Rattle.avs_meaning.specs.Loops.{Flow, on, back, go_on, ends, turned, advanced_to, advance, continues, numbers, is_past}
-use Rattle.avs_meaning.specs.Meaning.{below}
+use Rattle.avs_meaning.specs.Meaning.{below, context_of}
 use Rattle.avs_meaning.specs.Outside.{Outside}
 use Rattle.avs_meaning.specs.Rules as r
 use Rattle.avs_meaning.specs.State.{State, Outcome, Run, and_then, ◌>>=◌, ◌>>◌, pure, lifted, spend, set}
@@ -102,29 +102,29 @@ module _ (outside : Outside) (n : ℕ) (here : Text) where
     after_for_turn (Err fault) is turn less later = r.for_turn_fails is turn
 
 module _ (outside : Outside) (n : ℕ) (deeper : AllBelow outside n) (here : Text) where
-  some_tests : (c : Expr) (line : ℕ) (s : State) → r.Tests outside n here s c line (condition outside n (below outside n) here c line s)
+  some_tests : (c : Expr) (line : ℕ) (s : State) → r.Tests outside n here s c line (condition (context_of outside n) here c line s)
   some_tests c line s = r.condition_tested (some_gives outside n deeper here c s)
 
-  some_takes : (a z : Expr) (step : Option Expr) (line : ℕ) (s : State) → r.TakesNumbers outside n here s a z step line (bounds outside n (below outside n) here a z step line s)
+  some_takes : (a z : Expr) (step : Option Expr) (line : ℕ) (s : State) → r.TakesNumbers outside n here s a z step line (bounds (context_of outside n) here a z step line s)
   some_takes a z None line s =
-      r.step_is_one (after_first outside n here _ _ (step_of outside n (below outside n) here None) (some_gives outside n deeper here a s) (some_gives outside n deeper here z) (λ w. r.gives_number))
+      r.step_is_one (after_first outside n here _ _ (step_of (context_of outside n) here None) (some_gives outside n deeper here a s) (some_gives outside n deeper here z) (λ w. r.gives_number))
   some_takes a z (Some e) line s =
-      after_first outside n here _ _ (step_of outside n (below outside n) here (Some e)) (some_gives outside n deeper here a s) (some_gives outside n deeper here z) (some_gives outside n deeper here e)
+      after_first outside n here _ _ (step_of (context_of outside n) here (Some e)) (some_gives outside n deeper here a s) (some_gives outside n deeper here z) (some_gives outside n deeper here e)
 
-  module _ (body : Block) (does : (s : State) → r.DoesAll outside n here s body (block_of outside n (below outside n) here body s)) where
-    some_turns : (line : ℕ) (s : State) → r.Turns outside n here s body line (turn_of here line (block_of outside n (below outside n) here body) s)
-    some_turns line s = after_turn_payment outside n here (spend here line s) (block_of outside n (below outside n) here body) refl does
+  module _ (body : Block) (does : (s : State) → r.DoesAll outside n here s body (block_of (context_of outside n) here body s)) where
+    some_turns : (line : ℕ) (s : State) → r.Turns outside n here s body line (turn_of here line (block_of (context_of outside n) here body) s)
+    some_turns line s = after_turn_payment outside n here (spend here line s) (block_of (context_of outside n) here body) refl does
 
-    few_units : (line : ℕ) (s t : State) → t.units ≤ s.units → LeavesLess s.units (turn_of here line (block_of outside n (below outside n) here body) t)
-    few_units line s t few = turn_less here line (block_of outside n (below outside n) here body) (block_leaves outside n (below outside n) (below_leaves outside n) here body) s.units t few
+    few_units : (line : ℕ) (s t : State) → t.units ≤ s.units → LeavesLess s.units (turn_of here line (block_of (context_of outside n) here body) t)
+    few_units line s t few = turn_less here line (block_of (context_of outside n) here body) (block_leaves (context_of outside n) (below_leaves outside n) here body) s.units t few
 
-    some_while : (c : Expr) (line k : ℕ) (s : State) → s.units < k → r.Does outside n here s (while c body) line (effect_of outside n (below outside n) here (while c body) line s)
+    some_while : (c : Expr) (line k : ℕ) (s : State) → s.units < k → r.Does outside n here s (while c body) line (effect_of (context_of outside n) here (while c body) line s)
     some_while c line zero s few = absurd (omega arith)
     some_while c line (suc k) s few =
         subst (λ o. r.Does outside n here s (while c body) line o) (sym (while_unrolled outside n here c body line s))
-        (after_while_test outside n here c body line (effect_of outside n (below outside n) here (while c body) line) (condition outside n (below outside n) here c line s)
-        (turn_of here line (block_of outside n (below outside n) here body)) (some_tests c line s)
-        (condition_leaves outside n (below outside n) (below_leaves outside n) here c line s.units s (omega arith)) (some_turns line) (few_units line s)
+        (after_while_test outside n here c body line (effect_of (context_of outside n) here (while c body) line) (condition (context_of outside n) here c line s)
+        (turn_of here line (block_of (context_of outside n) here body)) (some_tests c line s)
+        (condition_leaves (context_of outside n) (below_leaves outside n) here c line s.units s (omega arith)) (some_turns line) (few_units line s)
         (λ w less. some_while c line k w (omega (arith, few, less))))
 
     some_counts : (word : Text) (last by : ℤ) (line k : ℕ) (i : ℤ) (s : State) → s.units < k → r.Counts outside n here s word i last by body line (count_of outside n here word last by line body i s)
@@ -133,45 +133,45 @@ module _ (outside : Outside) (n : ℕ) (deeper : AllBelow outside n) (here : Tex
         elim (is_past last by i) as (λ past. is_past last by i ≡ past → r.Counts outside n here s word i last by body line (count_of outside n here word last by line body i s)) [
           | true ↦ λ is. subst (λ o. r.Counts outside n here s word i last by body line o) (sym (for_ended outside n here word last by line body i s is)) (r.for_ends is)
           | false ↦ λ is. subst (λ o. r.Counts outside n here s word i last by body line o) (sym (for_unrolled outside n here word last by line body i s is))
-              (after_for_turn outside n here word last by line body (count_of outside n here word last by line body) (turn_of here line (block_of outside n (below outside n) here body) s) is (some_turns line s)
+              (after_for_turn outside n here word last by line body (count_of outside n here word last by line body) (turn_of here line (block_of (context_of outside n) here body) s) is (some_turns line s)
               (few_units line s s (omega arith)) (λ next w less. some_counts word last by line k next w (omega (arith, few, less))))
         ]
         refl
 
   mutual
-    pub some_does : (kind : Kind) (line : ℕ) (s : State) → r.Does outside n here s kind line (effect_of outside n (below outside n) here kind line s)
+    pub some_does : (kind : Kind) (line : ℕ) (s : State) → r.Does outside n here s kind line (effect_of (context_of outside n) here kind line s)
     some_does (global word e) line s = r.sets_global (some_gives outside n deeper here e s)
     some_does (assign word e) line s = r.sets_variable (some_gives outside n deeper here e s)
     some_does (return e) line s = r.returns (some_gives outside n deeper here e s)
     some_does (if_ arms other) line s = r.branches (some_chooses arms other line (some_other other line) s)
     some_does (while c body) line s = some_while body (some_does_all body) c line (suc s.units) s (omega arith)
     some_does (for word a z step body) line s =
-        after_numbers outside n here (bounds outside n (below outside n) here a z step line s) (λ first last by. count_of outside n here word last by line body first) (some_takes a z step line s)
+        after_numbers outside n here (bounds (context_of outside n) here a z step line s) (λ first last by. count_of outside n here word last by line body first) (some_takes a z step line s)
         (λ first last by t. some_counts body (some_does_all body) word last by line (suc t.units) first t (omega arith))
     some_does (value e) line s = r.evaluates (some_gives outside n deeper here e s)
 
-    some_chooses : (arms : Arms) (other : Else) (line : ℕ) → ((t : State) → r.Chooses outside n here t no_arms other line (other_of outside n (below outside n) here other t))
+    some_chooses : (arms : Arms) (other : Else) (line : ℕ) → ((t : State) → r.Chooses outside n here t no_arms other line (other_of (context_of outside n) here other t))
         → (s : State) → r.Chooses outside n here s arms other line (choice_of outside n here arms other line s)
     some_chooses no_arms other line last s = last s
     some_chooses (arm c body rest) other line last s =
-        after_arm_test outside n here (condition outside n (below outside n) here c line s) (block_of outside n (below outside n) here body) (arms_of outside n (below outside n) here rest line) (other_of outside n (below outside n) here other)
+        after_arm_test outside n here (condition (context_of outside n) here c line s) (block_of (context_of outside n) here body) (arms_of (context_of outside n) here rest line) (other_of (context_of outside n) here other)
         (some_tests c line s) (some_does_all body) (some_chooses rest other line last)
 
-    some_other : (other : Else) (line : ℕ) (s : State) → r.Chooses outside n here s no_arms other line (other_of outside n (below outside n) here other s)
+    some_other : (other : Else) (line : ℕ) (s : State) → r.Chooses outside n here s no_arms other line (other_of (context_of outside n) here other s)
     some_other no_else line s = r.nothing_taken
     some_other (else_ body) line s = r.else_taken (some_does_all body s)
 
-    some_does_all : (block : Block) (s : State) → r.DoesAll outside n here s block (block_of outside n (below outside n) here block s)
+    some_does_all : (block : Block) (s : State) → r.DoesAll outside n here s block (block_of (context_of outside n) here block s)
     some_does_all no_more s = r.block_ends
     some_does_all (then_ kind line rest) s =
-        after_statement outside n here (paid_effect outside n here kind line s) (block_of outside n (below outside n) here rest)
-        (after_payment outside n here (spend here line s) (effect_of outside n (below outside n) here kind line) refl (some_does kind line)) (some_does_all rest)
+        after_statement outside n here (paid_effect outside n here kind line s) (block_of (context_of outside n) here rest)
+        (after_payment outside n here (spend here line s) (effect_of (context_of outside n) here kind line) refl (some_does kind line)) (some_does_all rest)
 
-  pub some_executes : (body : Block) (x : Value) (s : State) → r.Executes outside n here s body x (body_of outside n (below outside n) here body x s)
+  pub some_executes : (body : Block) (x : Value) (s : State) → r.Executes outside n here s body x (body_of (context_of outside n) here body x s)
   some_executes no_more x s = r.body_ends
   some_executes (then_ kind line rest) x s =
-      after_body_statement outside n here (paid_effect outside n here kind line s) (body_of outside n (below outside n) here rest)
-      (after_payment outside n here (spend here line s) (effect_of outside n (below outside n) here kind line) refl (some_does kind line)) (some_executes rest)
+      after_body_statement outside n here (paid_effect outside n here kind line s) (body_of (context_of outside n) here rest)
+      (after_payment outside n here (spend here line s) (effect_of (context_of outside n) here kind line) refl (some_does kind line)) (some_executes rest)
 
 -- however deep calls nest
 pub all_below : (outside : Outside) (n : ℕ) → AllBelow outside n

@@ -11,9 +11,9 @@ use Rattle.avs_values.specs.declared.value.Value.TheVariants as v
 use Rattle.avs_meaning.specs.Arguments.{is_filter_number, out_of_range}
 use Rattle.avs_meaning.specs.Calls.{Callee, user, builtin, callee, takes, Fit, fit_or_last, unnamed, last_name, parameters}
 use Rattle.avs_meaning.specs.ClipFunctions.{clip_value}
+use Rattle.avs_meaning.specs.Context.{Context}
 use Rattle.avs_meaning.specs.Filters.{info_of, filtered, ranged}
 use Rattle.avs_meaning.specs.Operators.{placed, truth, prefixed, compared, joined}
-use Rattle.avs_meaning.specs.Outside.{Outside}
 use Rattle.avs_meaning.specs.Settings.{set_mode, prefetch}
 use Rattle.avs_meaning.specs.State.{Env, Defined, Run, and_then, ◌>>=◌, ◌>>◌, pure, fails, lifted, imported, lookup, variable}
 use Rattle.avs_meaning.specs.Texts.{load_short}
@@ -57,15 +57,14 @@ ranged_by again (v.Clip i ∷ v.Int first ∷ v.Int last ∷ v.Text word ∷ [])
     else fails out_of_range here line
 ranged_by again _ rest here line = fails k.NoMatch here line
 
--- how many calls may still nest, and what executes the statements of a text one call deeper
-module _ (outside : Outside) (depth : ℕ) (deeper : Text → Block → Run Value) where
+module _ (context : Context) where
   abbrev pub may_nest : Text → ℕ → Run (Unit {0})
-  may_nest here line = if nat_eq depth 0 then fails k.CallDepth here line else pure tt
+  may_nest here line = if nat_eq context.depth 0 then fails k.CallDepth here line else pure tt
 
   -- ---- calls
 
   abbrev pub execute : Text → Text → Text → ℕ → Run Value
-  execute from text here line = load_short outside from text here line >>= (λ loaded. deeper from loaded.tree.statements)
+  execute from text here line = load_short context.outside from text here line >>= (λ loaded. context.deeper from loaded.tree.statements)
 
   abbrev pub eval : Text → List Value → ℕ → Run Value
   eval here (v.Text text ∷ []) line = may_nest here line >> execute eval_name text here line
@@ -73,13 +72,13 @@ module _ (outside : Outside) (depth : ℕ) (deeper : Text → Block → Run Valu
 
   abbrev pub import_ : Text → List Value → ℕ → Run Value
   import_ here (v.Text file ∷ []) line =
-      may_nest here line >> script_by here (outside.scripts file) line >>= (λ text. execute file text here line)
+      may_nest here line >> script_by here (context.outside.scripts file) line >>= (λ text. execute file text here line)
   import_ here _ line = fails k.NoMatch here line
 
   -- A user function has an environment of its own, with its parameters alone.
   abbrev pub inside : Defined → Env → Run Value
   inside d env = λ s.
-      and_then (deeper d.text d.function.body (record s { env = env })) (λ x after. Ok (x, record after { env = s.env }))
+      and_then (context.deeper d.text d.function.body (record s { env = env })) (λ x after. Ok (x, record after { env = s.env }))
 
   -- a call whose arguments are bound by the signature of this number, with what ApplyRange calls its function by
   abbrev pub applied : Caller → Callee → ℕ → Bound → Text → ℕ → Run Value
@@ -91,7 +90,7 @@ module _ (outside : Outside) (depth : ℕ) (deeper : Text → Block → Run Valu
   applied again (builtin b.ApplyRange) n given here line = ranged_by again given.values given.rest here line
   applied again (builtin (b.Plain function)) n given here line = lifted (placed here line (plain function given))
   applied again (builtin (b.Clip function)) n given here line = told here function given.values line
-  applied again (builtin (b.Filter filter)) n given here line = filtered here outside filter n given line
+  applied again (builtin (b.Filter filter)) n given here line = filtered here context.outside filter n given line
 
   abbrev pub apply_by : Caller → Fit → Callee → Text → ℕ → Run Value
   apply_by again (Some found) c here line = applied again c found.0 found.1 here line
@@ -105,6 +104,14 @@ module _ (outside : Outside) (depth : ℕ) (deeper : Text → Block → Run Valu
   -- a call with these arguments, tried again with `last` first where it is set
   abbrev pub apply : Callee → List Given → Option Value → Text → ℕ → Run Value
   apply c args last here line = apply_by (call_within (length args)) (fit_or_last (takes c) args last) c here line
+
+  -- a call whose arguments are tried as they are
+  abbrev pub direct : Caller
+  direct c args here line = apply c args None here line
+
+  -- a call whose arguments are bound by the signature of this number
+  abbrev pub performed : Callee → ℕ → Bound → Text → ℕ → Run Value
+  performed = applied direct
 
   -- ---- expressions
 

@@ -5,6 +5,7 @@ pub mod FaultNames
 pub mod Crews
 pub mod State
 pub mod Outside
+pub mod Context
 pub mod Calls
 pub mod ClipFunctions
 pub mod Arguments

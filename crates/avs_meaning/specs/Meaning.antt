@@ -6,6 +6,7 @@ use Rattle.avs_values.specs.declared.value.Value.{Value}
 use Rattle.avs_values.specs.declared.value.Value.TheVariants as v
 use Rattle.clip_graph.specs.Plan.{Application, sources_in}
 use Rattle.mt_modes.specs.Modes.{no_modes}
+use Rattle.avs_meaning.specs.Context.{Context}
 use Rattle.avs_meaning.specs.Crews.{Numbers}
 use Rattle.avs_meaning.specs.Faults.{Fault, script}
 use Rattle.avs_meaning.specs.Filters.{info_of}
@@ -19,11 +20,15 @@ use Rattle.avs_meaning.specs.declared.fault.ScriptKind.TheVariants as k
 -- one call deeper, where n calls may nest
 unfoldable pub below : Outside → ℕ → Text → Block → Run Value
 below outside zero here body = fails k.CallDepth here 0
-below outside (suc n) here body = body_of outside n (below outside n) here body v.Undefined
+below outside (suc n) here body = body_of (record { outside = outside; depth = n; deeper = below outside n }) here body v.Undefined
+
+-- where n calls may nest
+abbrev pub context_of : Outside → ℕ → Context
+context_of outside n = record { outside = outside; depth = n; deeper = below outside n }
 
 -- the statements of a text or a function, where n calls may nest
 abbrev pub run : Outside → ℕ → Text → Block → Run Value
-run outside n here body = body_of outside n (below outside n) here body v.Undefined
+run outside n here body = body_of (context_of outside n) here body v.Undefined
 
 abbrev pub call_limit : ℕ
 call_limit = 64

@@ -5,7 +5,7 @@ use Rattle.avs_values.specs.Values.{Text}
 use Rattle.avs_values.specs.declared.value.Value.{Value}
 use Rattle.avs_values.specs.declared.value.Value.TheVariants as v
 use Rattle.avs_meaning.specs.Expressions.{value_of}
-use Rattle.avs_meaning.specs.Meaning.{below, run}
+use Rattle.avs_meaning.specs.Meaning.{below, context_of, run}
 use Rattle.avs_meaning.specs.Outside.{Outside}
 use Rattle.avs_meaning.specs.Rules.{Gives, Executes}
 use Rattle.avs_meaning.specs.State.{State, Outcome}
@@ -20,6 +20,6 @@ pub record RulesAreExecution : Type 0 where
 -- expressions
 pub record RulesAreEvaluation : Type 0 where
   pub some_value : (outside : Outside) (n : ℕ) (here : Text) (s : State) (e : Expr)
-      → Gives outside n here s e (value_of outside n (below outside n) here e s)
+      → Gives outside n here s e (value_of (context_of outside n) here e s)
   pub one_value : (outside : Outside) (n : ℕ) (here : Text) (s : State) (e : Expr) (out : Outcome Value)
-      → Gives outside n here s e out → out ≡ value_of outside n (below outside n) here e s
+      → Gives outside n here s e out → out ≡ value_of (context_of outside n) here e s

@@ -5,10 +5,10 @@ use Rattle.avs_values.specs.Values.{Text}
 use Rattle.avs_values.specs.declared.value.Value.{Value}
 use Rattle.avs_values.specs.declared.value.Value.TheVariants as v
 use Rattle.avs_meaning.specs.Calls.{last_name}
+use Rattle.avs_meaning.specs.Context.{Context}
 use Rattle.avs_meaning.specs.Expressions.{value_of}
 use Rattle.avs_meaning.specs.Loops.{Flow, on, back, go_on, ends, turns, numbers, counts}
 use Rattle.avs_meaning.specs.Operators.{truth}
-use Rattle.avs_meaning.specs.Outside.{Outside}
 use Rattle.avs_meaning.specs.State.{Run, ◌>>=◌, ◌>>◌, pure, lifted, spend, lookup, set, set_global}
 
 -- the first arm whose condition holds, and else what comes after `else`
@@ -34,31 +34,31 @@ abbrev pub ends_with : (Value → Run Value) → Flow → Run Value
 ends_with next (on x) = next x
 ends_with next (back x) = pure x
 
--- how many calls may still nest, what executes the statements of a text one call deeper, and the name of the text
-module _ (outside : Outside) (depth : ℕ) (deeper : Text → Block → Run Value) (here : Text) where
+-- in the text of this name
+module _ (context : Context) (here : Text) where
   abbrev pub condition : Expr → ℕ → Run Bool
-  condition c line = value_of outside depth deeper here c >>= (λ x. lifted (truth here line x))
+  condition c line = value_of context here c >>= (λ x. lifted (truth here line x))
 
   abbrev pub step_of : Option Expr → Run Value
   step_of None = pure (v.Int (pos 1))
-  step_of (Some e) = value_of outside depth deeper here e
+  step_of (Some e) = value_of context here e
 
   abbrev pub bounds : Expr → Expr → Option Expr → ℕ → Run (ℤ × ℤ × ℤ)
   bounds a z by line =
-      value_of outside depth deeper here a >>= (λ first. value_of outside depth deeper here z >>= (λ last.
+      value_of context here a >>= (λ first. value_of context here z >>= (λ last.
       step_of by >>= (λ step. lifted (numbers here line first last step))))
 
   abbrev mutual
     pub effect_of : Kind → ℕ → Run Flow
-    effect_of (global x e) line = value_of outside depth deeper here e >>= (λ y. set_global x y >> ends)
-    effect_of (assign x e) line = value_of outside depth deeper here e >>= (λ y. set x y >> ends)
-    effect_of (return e) line = value_of outside depth deeper here e >>= (λ y. pure (back y))
+    effect_of (global x e) line = value_of context here e >>= (λ y. set_global x y >> ends)
+    effect_of (assign x e) line = value_of context here e >>= (λ y. set x y >> ends)
+    effect_of (return e) line = value_of context here e >>= (λ y. pure (back y))
     effect_of (if_ arms other) line = arms_of arms line >>= chosen (other_of other)
     effect_of (while c body) line = λ s. turns here s.units (condition c line) line (block_of body) s
     effect_of (for x a z by body) line =
         bounds a z by line >>= (λ n. set x (v.Int n.0)
         >> (λ s. counts here s.units x n.0 n.1 n.2 line (block_of body) s))
-    effect_of (value e) line = value_of outside depth deeper here e >>= sets_last
+    effect_of (value e) line = value_of context here e >>= sets_last
 
     pub arms_of : Arms → ℕ → Run (Option Flow)
     arms_of no_arms line = pure None

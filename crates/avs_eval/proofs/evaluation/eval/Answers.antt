@@ -3,7 +3,7 @@ use Rattle.std.proofs.Common.{◌≡◌, ◌∙◌, Ok, Err, sym, ap, subst, rul
 use Rattle.avs_meaning.specs.Meaning.{executed, imports_by}
 use Rattle.avs_meaning.specs.State.{State}
 use Rattle.avs_state.specs.States.{state_of}
-use Rattle.avs_eval.proofs.Kept.{all_fetched}
+use Rattle.avs_state.proofs.Kept.{all_fetched}
 use Rattle.avs_state.specs.Answers.{Fails}
 use Rattle.avs_eval.specs.OutsideBy.{outside_by}
 use Rattle.avs_eval.proofs.RunLemmas.{stop_shows}

@@ -5,44 +5,45 @@ use Rattle.avs_meaning.specs.Calls.{builtin, takes, fit_or_last}
 use Rattle.avs_meaning.specs.Faults.{script}
 use Rattle.avs_meaning.specs.declared.builtin.Builtin.TheVariants as b
 use Rattle.avs_state.specs.States.{state_of}
-use Rattle.avs_calls.specs.Views.{callee_view}
+use Rattle.avs_expressions.specs.Views.{callee_view}
 use Rattle.avs_eval.proofs.CallLemmas.{few_further, range_applies, range_fails, range_refused, range_shows}
-use Rattle.avs_eval.proofs.Failures.{shown_fails}
+use Rattle.avs_state.proofs.Failures.{shown_fails}
+use Rattle.avs_eval.specs.OutsideBy.{context_in}
 use Rattle.avs_eval.specs.Ranges.{given_view}
 use Rattle.avs_eval.proofs.walker.Walker.+calls.Goals as goal
 
-pub apply-apply_range-requires : goal.apply-apply_range-requires
-apply-apply_range-requires g t c κs within =
+pub call-apply_range-requires : goal.call-apply_range-requires
+call-apply_range-requires g t c κs within =
     let same : callee_view c.args.callee.now ≡ builtin b.ApplyRange = search rules in
     let is : fit_or_last (takes (callee_view c.args.callee.now)) c.args.args.items c.args.last ≡ Some (c.in-Some.signature, bound_view c.in-Some.given) = search rules in
     let few : length c.in-Some.given.rest.items + 3 ≤ length c.args.args.items =
     few_further (callee_view c.args.callee.now) c.args.args.items c.args.last c.in-Some.signature (bound_view c.in-Some.given) same is in
     (omega (arith, few, c.decreases), (within.0, (within.1, c.requires.deeper)))
 
-pub apply-returns-in-Builtin-clause-told : goal.apply-returns-in-Builtin-clause-told
-apply-returns-in-Builtin-clause-told g t c = λ told.
+pub call-returns-in-Builtin-clause-told : goal.call-returns-in-Builtin-clause-told
+call-returns-in-Builtin-clause-told g t c = λ told.
     let same : callee_view c.args.callee.now ≡ builtin b.ApplyRange = search rules in
     let is : fit_or_last (takes (callee_view c.args.callee.now)) c.args.args.items c.args.last ≡ Some (c.in-Some.signature, bound_view c.in-Some.given) = search rules in
-    rw (range_applies g.H.Host.clips g.H.Host.scripts c.args.self.now.depth c.args.self.now.script_name.now c.args.line (callee_view c.args.callee.now) c.args.args.items c.args.last
+    rw (range_applies (context_in g.H.Host c.args.self.now.depth) c.args.self.now.script_name.now c.args.line (callee_view c.args.callee.now) c.args.args.items c.args.last
     (state_of c.args.machine.now) c.in-Some.signature (bound_view c.in-Some.given) same is)
     (c.apply_range.ensures.told told)
 
 pub apply_range-returns-in-Err-clause-told : goal.apply_range-returns-in-Err-clause-told
 apply_range-returns-in-Err-clause-told g t c = λ told.
     shown_fails _ (script c.in-Err.kind c.args.self.now.script_name.now c.args.line) c.fault.result
-    (range_refused g.H.Host.clips g.H.Host.scripts c.args.self.now.depth c.args.self.now.script_name.now c.args.line c.args.given.now.values.items c.args.given.now.rest.items c.in-Err.kind
+    (range_refused (context_in g.H.Host c.args.self.now.depth) c.args.self.now.script_name.now c.args.line c.args.given.now.values.items c.args.given.now.rest.items c.in-Err.kind
     (state_of c.args.machine.now) (search rules))
     c.fault.ensures
 
-pub apply_range-returns-in-Err-apply-clause-told : goal.apply_range-returns-in-Err-apply-clause-told
-apply_range-returns-in-Err-apply-clause-told g t c = λ told.
-    range_fails g.H.Host.clips g.H.Host.scripts c.args.self.now.depth c.args.self.now.script_name.now c.args.line c.args.given.now.values.items c.args.given.now.rest.items
-    (given_view c.in-Ok.range) (callee_view c.in_ok-callee.callee) c.in_ok-args.args.items c.in-Err-apply.stop (state_of c.args.machine.now) (search rules) (search rules)
-    (rw c.deref-2.ensures.value at c.in_ok-args.ensures) (c.in-Err-apply.ensures.told told)
+pub apply_range-returns-in-Err-call-clause-told : goal.apply_range-returns-in-Err-call-clause-told
+apply_range-returns-in-Err-call-clause-told g t c = λ told.
+    range_fails (context_in g.H.Host c.args.self.now.depth) c.args.self.now.script_name.now c.args.line c.args.given.now.values.items c.args.given.now.rest.items
+    (given_view c.in-Ok.range) (callee_view c.in_ok-callee.callee) c.in_ok-args.args.items c.in-Err-call.stop (state_of c.args.machine.now) (search rules) (search rules)
+    (rw c.deref-2.ensures.value at c.in_ok-args.ensures) (c.in-Err-call.ensures.told told)
 
 pub apply_range-returns-clause-told : goal.apply_range-returns-clause-told
 apply_range-returns-clause-told g t c = λ told.
-    rw (range_shows g.H.Host.clips g.H.Host.scripts c.args.self.now.depth c.args.self.now.script_name.now c.args.line c.args.given.now.values.items c.args.given.now.rest.items
-    (given_view c.in-Ok.range) (callee_view c.in_ok-callee.callee) c.in_ok-args.args.items c.in-Ok-apply.shown (state_of c.args.machine.now) (state_of c.apply.new.machine) (search rules) (search rules)
-    (rw c.deref-2.ensures.value at c.in_ok-args.ensures) (c.in-Ok-apply.ensures.told told))
+    rw (range_shows (context_in g.H.Host c.args.self.now.depth) c.args.self.now.script_name.now c.args.line c.args.given.now.values.items c.args.given.now.rest.items
+    (given_view c.in-Ok.range) (callee_view c.in_ok-callee.callee) c.in_ok-args.args.items c.in-Ok-call.shown (state_of c.args.machine.now) (state_of c.call.new.machine) (search rules) (search rules)
+    (rw c.deref-2.ensures.value at c.in_ok-args.ensures) (c.in-Ok-call.ensures.told told))
     (search rules)

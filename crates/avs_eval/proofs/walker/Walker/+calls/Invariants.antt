@@ -2,8 +2,8 @@
 use Rattle.std.proofs.Common.{◌+◌, ◌*◌, length}
 use Rattle.avs_eval.proofs.walker.Walker.+calls.Given as goal
 
-abbrev pub decreases-apply : goal.decreases-apply
-decreases-apply g c = 2 * length c.args.items + 1
+abbrev pub decreases-call : goal.decreases-call
+decreases-call g c = 2 * length c.args.items + 1
 
 abbrev pub decreases-apply_range : goal.decreases-apply_range
 decreases-apply_range g c = 2 * (length c.given.now.rest.items + 2)

@@ -3,7 +3,7 @@ use Rattle.avs_values.specs.Views.{bound_view}
 use Rattle.avs_meaning.specs.Filters.{filtered}
 use Rattle.avs_eval.specs.OutsideBy.{outside_by}
 use Rattle.avs_state.specs.States.{state_of}
-use Rattle.avs_eval.proofs.Failures.{given, unread}
+use Rattle.avs_state.proofs.Failures.{given, unread}
 use Rattle.avs_eval.proofs.walker.Walker.filter.Goals as goal
 
 pub returns-in_default-clause-told : goal.returns-in_default-clause-told

@@ -1,8 +1,8 @@
 use Rattle.std.proofs.Common.{Ok, rules}
 use Rattle.avs_meaning.specs.Filters.{open_by}
 use Rattle.avs_state.specs.States.{state_of}
-use Rattle.avs_eval.proofs.Failures.{given, unread}
-use Rattle.avs_eval.proofs.Kept.{one_fetched}
+use Rattle.avs_state.proofs.Failures.{given, unread}
+use Rattle.avs_state.proofs.Kept.{one_fetched}
 use Rattle.avs_eval.proofs.walker.Walker.open.Goals as goal
 
 pub returns-in-Ok-clause-told : goal.returns-in-Ok-clause-told

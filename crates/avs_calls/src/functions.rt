@@ -1,0 +1,27 @@
+// The functions that need no state.
+ghost use Rattle.avs_values.specs.Functions as p;
+ghost use Rattle.avs_values.specs.Views.{bound_view};
+ghost use Rattle.avs_meaning.specs.Operators as m;
+ghost use Rattle.avs_state.specs.Answers.{Answers};
+
+use avs_meaning::ScriptStop;
+use avs_state::value_fault;
+use avs_values::{Bound, PlainFn, Value, call_plain};
+use fv_io::Text;
+use std::alloc::Global;
+
+/// The value of a function that needs no state.
+pub fn plain(
+    alloc: Global,
+    function: PlainFn,
+    given: &Bound,
+    script_name: &Text,
+    line: u32,
+) -> Result<Value, ScriptStop>
+    ensures { Answers (λ x. x) (m.placed script_name.now line (p.plain function (bound_view given.now))) result }
+{
+    match call_plain(alloc, function, given) {
+        Ok(value) => Ok(value),
+        Err(fault) => Err(value_fault(alloc, fault, script_name, line)),
+    }
+}

@@ -1,0 +1,111 @@
+// What a name calls, and what that takes.
+ghost use Rattle.std.specs.Prelude.{◌≡◌, [], map, IfOk, option_map};
+ghost use Rattle.avs_values.specs.Views.{signature_view};
+ghost use Rattle.avs_meaning.specs.Calls as m;
+ghost use Rattle.avs_state.specs.States.{state_of};
+ghost use Rattle.avs_expressions.specs.Views.{callee_view, fit_view};
+
+use crate::fits::fit_or_last;
+use avs_meaning::{Row, Table, Variable};
+use avs_state::{ByName, Definition, Machine, set_in};
+use avs_tree::{Parameter, TypeWord};
+use avs_values::{Bound, Given, Kind, Param, Signature, Value};
+use fv_io::Text;
+use std::alloc::{AllocError, Global};
+use std::rc::Rc;
+
+/// What a name calls.
+#[derive(Drop)]
+pub enum Callee<'t> {
+    User(Rc<Definition>),
+    Builtin(&'t Row),
+}
+
+/// What a name calls. A function of the script hides a built-in one. An `Err` is out of memory.
+pub fn callee_of<'t>(
+    alloc: Global,
+    table: &'t Table,
+    machine: &Machine,
+    name: &Text,
+) -> Result<Option<Callee<'t>>, AllocError>
+    ensures { IfOk result (λ found. option_map callee_view found ≡ m.callee name.now (state_of machine.now).functions) }
+{
+    if let Some(definition) = machine.find(alloc, name)? {
+        return Ok(Some(Callee::User(definition)));
+    }
+    match table.find(name.as_str()) {
+        Some(row) => Ok(Some(Callee::Builtin(row))),
+        None => Ok(None),
+    }
+}
+
+fn kind_of(word: TypeWord) -> Kind
+    ensures { result ≡ m.kind_of word }
+{
+    match word {
+        TypeWord::Clip => Kind::Clip,
+        TypeWord::Int => Kind::Int,
+        TypeWord::String => Kind::Text,
+        TypeWord::Bool => Kind::Bool,
+        TypeWord::Val => Kind::Val,
+    }
+}
+
+fn signature_of(alloc: Global, params: &[Parameter]) -> Result<Signature, AllocError>
+    ensures { IfOk result (λ made. signature_view made ≡ m.signature_of params.now) }
+{
+    let mut taken = Vec::new(alloc);
+    for param in params {
+        let name = Text::from_str(alloc, param.name.as_str())?;
+        taken.push(Param {
+            name,
+            kind: kind_of(param.word),
+            optional: param.optional,
+        })?;
+    }
+    Ok(Signature {
+        params: taken,
+        rest: None,
+        least: 0,
+    })
+}
+
+/// The first signature of what is called that the arguments fit, by its number, and what they are bound to; where they fit
+/// none, the same with `last` first, if it is given. An `Err` is out of memory.
+pub fn fit_callee(
+    alloc: Global,
+    callee: &Callee<'_>,
+    args: Vec<Given>,
+    last: Option<Value>,
+) -> Result<Option<(usize, Bound)>, AllocError>
+    ensures { IfOk result (λ found.
+        fit_view found ≡ m.fit_or_last (m.takes (callee_view callee.now)) args.items last) }
+{
+    match callee {
+        Callee::User(definition) => {
+            let taken = signature_of(alloc, &definition.function.params)?;
+            fit_or_last(alloc, &[taken], args, last)
+        }
+        Callee::Builtin(row) => fit_or_last(alloc, row.signatures(), args, last),
+    }
+}
+
+/// The parameters of a function as its variables. An `Err` is out of memory.
+#[tactic(auto, using(crate::proofs::ParameterLemmas::no_more))]
+pub fn parameters(
+    alloc: Global,
+    params: &[Parameter],
+    values: &[Value],
+) -> Result<ByName<Variable>, AllocError>
+    ensures { IfOk result (λ made. made ≡ m.parameters params.now values.now []) }
+{
+    let mut env = ByName::new(alloc);
+    for k in 0..params.len() {
+        let Some(value) = values.get(k) else {
+            return Ok(env);
+        };
+        let value = value.try_clone(alloc)?;
+        set_in(alloc, &mut env, &params[k].name, value)?;
+    }
+    Ok(env)
+}

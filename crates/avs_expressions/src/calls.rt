@@ -1,0 +1,49 @@
+// `Calls`: what makes the calls of a text.
+use crate::callee::Callee;
+use avs_meaning::{ScriptStop, Table};
+use avs_state::{Host, Machine};
+use avs_values::{Given, Value};
+use fv_io::Text;
+
+/// What makes the calls of a text, over a host.
+pub trait Calls<H: Host> {
+    ghost use Rattle.std.specs.Prelude.{◌≡◌};
+    ghost use Rattle.avs_values.specs.Values.{Text as Name};
+    ghost use Rattle.avs_meaning.specs.Context.{Context};
+    ghost use Rattle.avs_meaning.specs.Expressions as e;
+    ghost use Rattle.avs_state.specs.Hosts.{Told};
+    ghost use Rattle.avs_state.specs.Walks.{Keeps, stop_in};
+    ghost use Rattle.avs_expressions.specs.Views.{callee_view};
+
+    /// Whether it may be asked.
+    ghost may: { Self → Type 0 };
+
+    /// The name of the text.
+    ghost here: { Self → Name };
+
+    /// What the calls are made in.
+    ghost context: { Self → Context };
+
+    /// The name of the text.
+    fn script_name(&self) -> &Text
+        ensures { result.now ≡ here self.now };
+
+    /// The built-in functions.
+    fn table(&self) -> &Table;
+
+    /// A call with these arguments, tried again with `last` first, if it is given.
+    fn apply(
+        &self,
+        machine: &mut Machine,
+        host: &mut H,
+        callee: &Callee<'_>,
+        args: Vec<Given>,
+        last: Option<Value>,
+        line: u32,
+    ) -> Result<Value, ScriptStop>
+        requires may { may self.now }
+        ensures told { Told H.told (λ v. v)
+            (e.apply (context self.now) (callee_view callee.now) args.items last (here self.now) line)
+            machine.old result machine.new }
+        ensures kept { Keeps H.Host machine.old host.old (stop_in result) machine.new host.new };
+}

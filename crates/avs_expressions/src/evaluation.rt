@@ -1,0 +1,14 @@
+// What gives the expressions of a text their values.
+use crate::calls::Calls;
+use avs_state::Host;
+use std::alloc::Global;
+use std::marker::PhantomData;
+
+/// What gives the expressions of a text their values.
+#[derive_where(Clone, Copy)]
+pub(crate) struct Evaluation<'c, H, C> {
+    pub(crate) alloc: Global,
+    /// What makes the calls of the text.
+    pub(crate) calls: &'c C,
+    pub(crate) of: PhantomData<H>,
+}

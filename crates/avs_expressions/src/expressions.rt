@@ -1,0 +1,296 @@
+// The value of an expression: one method for each kind of list that an expression holds.
+ghost use Rattle.std.specs.Prelude.{◌≡◌, ◌∷◌, [], map};
+ghost use Rattle.avs_tree.specs.Tree as t;
+ghost use Rattle.avs_tree.specs.View.{expr_view, arg_view, method_call_view, step_view, args_of, method_calls_of, steps_of};
+ghost use Rattle.avs_meaning.specs.Expressions as m;
+ghost use Rattle.avs_state.specs.Hosts.{Told};
+ghost use Rattle.avs_state.specs.Walks.{Keeps, stop_in};
+ghost use Rattle.avs_expressions.specs.Operands as s;
+
+use crate::calls::Calls;
+use crate::evaluation::Evaluation;
+use crate::operate::{combined, compared, prefixed};
+use avs_meaning::ScriptStop;
+use avs_state::{Host, Machine, truth};
+use avs_tree::{Arg, DotCall, Expr, Operator, Step};
+use avs_values::{Given, UnaryOp, Value};
+use fv_io::Text;
+use std::alloc::{AllocError, Global};
+use std::marker::PhantomData;
+
+impl<'c, H: Host, C: Calls<H>> Evaluation<'c, H, C> {
+    // The value of an expression.
+    #[cycle(expressions)]
+    fn value_of(&self, machine: &mut Machine, host: &mut H, e: &Expr) -> Result<Value, ScriptStop>
+        requires may { C.may self.now.calls.now }
+        ensures told { Told H.told (λ v. v)
+            (m.value_of (C.context self.now.calls.now) (C.here self.now.calls.now) (expr_view e.now))
+            machine.old result machine.new }
+        ensures kept { Keeps H.Host machine.old host.old (stop_in result) machine.new host.new }
+    {
+        match e {
+            Expr::Int(n) => Ok(Value::Int(*n)),
+            Expr::Bool(holds) => Ok(Value::Bool(*holds)),
+            Expr::Str(text) => Ok(Value::Text(Text::from_str(self.alloc, text.as_str())?)),
+            Expr::Name { name, line } => self.named(machine, host, name, *line),
+            Expr::Call { name, args, line } => self.call(machine, host, name, args, *line),
+            Expr::Dots { first, calls } => {
+                let value = self.value_of(machine, host, first)?;
+                self.calls_from(machine, host, calls, value)
+            }
+            Expr::Minus { operand, line } => {
+                let value = self.value_of(machine, host, operand)?;
+                prefixed(
+                    self.alloc,
+                    UnaryOp::Negative,
+                    &value,
+                    self.calls.script_name(),
+                    *line,
+                )
+            }
+            Expr::Not { operand, line } => {
+                let value = self.value_of(machine, host, operand)?;
+                prefixed(
+                    self.alloc,
+                    UnaryOp::Not,
+                    &value,
+                    self.calls.script_name(),
+                    *line,
+                )
+            }
+            Expr::Chain { first, rest } => {
+                let value = self.value_of(machine, host, first)?;
+                self.steps_from(machine, host, rest, value)
+            }
+            Expr::Compare {
+                op,
+                left,
+                right,
+                line,
+            } => {
+                let a = self.value_of(machine, host, left)?;
+                let b = self.value_of(machine, host, right)?;
+                compared(self.alloc, *op, &a, &b, self.calls.script_name(), *line)
+            }
+            Expr::Pick {
+                condition,
+                yes,
+                no,
+                line,
+            } => {
+                let value = self.value_of(machine, host, condition)?;
+                if truth(self.alloc, &value, self.calls.script_name(), *line)? {
+                    self.value_of(machine, host, yes)
+                } else {
+                    self.value_of(machine, host, no)
+                }
+            }
+            Expr::Group(inner) => self.value_of(machine, host, inner),
+        }
+    }
+
+    // A call. Its name is looked up before its arguments are evaluated.
+    #[cycle(expressions)]
+    fn call(
+        &self,
+        machine: &mut Machine,
+        host: &mut H,
+        name: &Text,
+        args: &[Arg],
+        line: u32,
+    ) -> Result<Value, ScriptStop>
+        requires may { C.may self.now.calls.now }
+        ensures told { Told H.told (λ v. v) (m.value_of (C.context self.now.calls.now) (C.here self.now.calls.now)
+            (t.call name.now (args_of (map arg_view args.now)) line)) machine.old result machine.new }
+        ensures kept { Keeps H.Host machine.old host.old (stop_in result) machine.new host.new }
+    {
+        let callee = self.called(machine, name, line)?;
+        let given = self.givens_of(machine, host, args, Vec::new(self.alloc))?;
+        self.apply_last(machine, host, &callee, given, line)
+    }
+
+    // Arguments, after those that are there.
+    #[cycle(expressions)]
+    #[tactic(auto, using(crate::proofs::Rows::args_more))]
+    fn givens_of(
+        &self,
+        machine: &mut Machine,
+        host: &mut H,
+        args: &[Arg],
+        mut given: Vec<Given>,
+    ) -> Result<Vec<Given>, ScriptStop>
+        requires may { C.may self.now.calls.now }
+        ensures told { Told H.told (λ v. v.items) (m.givens_of (C.context self.now.calls.now) (C.here self.now.calls.now)
+            (args_of (map arg_view args.now)) given.items) machine.old result machine.new }
+        ensures kept { Keeps H.Host machine.old host.old (stop_in result) machine.new host.new }
+    {
+        for arg in args {
+            let value = self.value_of(machine, host, &arg.value)?;
+            let name = match &arg.name {
+                Some(name) => Some(Text::from_str(self.alloc, name.as_str())?),
+                None => None,
+            };
+            given.push(Given { name, value })?;
+        }
+        Ok(given)
+    }
+
+    // Method calls, each with the value before it as its first argument.
+    #[cycle(expressions)]
+    #[tactic(auto, using(crate::proofs::Rows::calls_more, crate::proofs::Rows::calls_fail))]
+    fn calls_from(
+        &self,
+        machine: &mut Machine,
+        host: &mut H,
+        calls: &[DotCall],
+        first: Value,
+    ) -> Result<Value, ScriptStop>
+        requires may { C.may self.now.calls.now }
+        ensures told { Told H.told (λ v. v) (m.calls_from (C.context self.now.calls.now) (C.here self.now.calls.now)
+            (method_calls_of (map method_call_view calls.now)) first) machine.old result machine.new }
+        ensures kept { Keeps H.Host machine.old host.old (stop_in result) machine.new host.new }
+    {
+        let mut value = first;
+        for call in calls {
+            value = self.method_call(machine, host, call, value)?;
+        }
+        Ok(value)
+    }
+
+    #[cycle(expressions)]
+    fn method_call(
+        &self,
+        machine: &mut Machine,
+        host: &mut H,
+        call: &DotCall,
+        first: Value,
+    ) -> Result<Value, ScriptStop>
+        requires may { C.may self.now.calls.now }
+        ensures told { Told H.told (λ v. v) (m.calls_from (C.context self.now.calls.now) (C.here self.now.calls.now)
+            (method_calls_of (method_call_view call.now ∷ [])) first) machine.old result machine.new }
+        ensures kept { Keeps H.Host machine.old host.old (stop_in result) machine.new host.new }
+    {
+        let callee = self.called(machine, &call.name, call.line)?;
+        let mut given = Vec::new(self.alloc);
+        given.push(Given {
+            name: None,
+            value: first,
+        })?;
+        match &call.args {
+            Some(args) => {
+                let given = self.givens_of(machine, host, args, given)?;
+                self.calls
+                    .apply(machine, host, &callee, given, None, call.line)
+            }
+            None => self
+                .calls
+                .apply(machine, host, &callee, given, None, call.line),
+        }
+    }
+
+    // The operators of a chain, from the left.
+    #[cycle(expressions)]
+    #[tactic(auto, using(crate::proofs::Rows::steps_more))]
+    fn steps_from(
+        &self,
+        machine: &mut Machine,
+        host: &mut H,
+        steps: &[Step],
+        first: Value,
+    ) -> Result<Value, ScriptStop>
+        requires may { C.may self.now.calls.now }
+        ensures told { Told H.told (λ v. v) (m.steps_from (C.context self.now.calls.now) (C.here self.now.calls.now)
+            (steps_of (map step_view steps.now)) first) machine.old result machine.new }
+        ensures kept { Keeps H.Host machine.old host.old (stop_in result) machine.new host.new }
+    {
+        let mut value = first;
+        for step in steps {
+            value = self.joined(machine, host, &step.operand, step.op, step.line, value)?;
+        }
+        Ok(value)
+    }
+
+    // A value and an operand, which `&&` and `||` evaluate only where they need it.
+    #[cycle(expressions)]
+    fn joined(
+        &self,
+        machine: &mut Machine,
+        host: &mut H,
+        operand: &Expr,
+        op: Operator,
+        line: u32,
+        first: Value,
+    ) -> Result<Value, ScriptStop>
+        requires may { C.may self.now.calls.now }
+        ensures told { Told H.told (λ v. v) (s.joined (C.context self.now.calls.now) (C.here self.now.calls.now) op
+            line (expr_view operand.now) first) machine.old result machine.new }
+        ensures kept { Keeps H.Host machine.old host.old (stop_in result) machine.new host.new }
+    {
+        match op {
+            Operator::Or => {
+                if truth(self.alloc, &first, self.calls.script_name(), line)? {
+                    return Ok(Value::Bool(true));
+                }
+                self.truth_of(machine, host, operand, line)
+            }
+            Operator::And => {
+                if truth(self.alloc, &first, self.calls.script_name(), line)? {
+                    return self.truth_of(machine, host, operand, line);
+                }
+                Ok(Value::Bool(false))
+            }
+            _ => {
+                let second = self.value_of(machine, host, operand)?;
+                combined(
+                    self.alloc,
+                    machine,
+                    op,
+                    &first,
+                    &second,
+                    self.calls.script_name(),
+                    line,
+                )
+            }
+        }
+    }
+
+    // An operand as a truth value.
+    #[cycle(expressions)]
+    fn truth_of(
+        &self,
+        machine: &mut Machine,
+        host: &mut H,
+        operand: &Expr,
+        line: u32,
+    ) -> Result<Value, ScriptStop>
+        requires may { C.may self.now.calls.now }
+        ensures told { Told H.told (λ v. v) (s.truth_of (C.context self.now.calls.now)
+            (C.here self.now.calls.now) line (expr_view operand.now)) machine.old result machine.new }
+        ensures kept { Keeps H.Host machine.old host.old (stop_in result) machine.new host.new }
+    {
+        let value = self.value_of(machine, host, operand)?;
+        let holds = truth(self.alloc, &value, self.calls.script_name(), line)?;
+        Ok(Value::Bool(holds))
+    }
+}
+
+/// The value of an expression of a text.
+pub fn value_of<H: Host, C: Calls<H>>(
+    alloc: Global,
+    calls: &C,
+    machine: &mut Machine,
+    host: &mut H,
+    e: &Expr,
+) -> Result<Value, ScriptStop>
+    requires may { C.may calls.now }
+    ensures told { Told H.told (λ v. v) (m.value_of (C.context calls.now) (C.here calls.now) (expr_view e.now))
+        machine.old result machine.new }
+    ensures kept { Keeps H.Host machine.old host.old (stop_in result) machine.new host.new }
+{
+    let evaluation = Evaluation {
+        alloc,
+        calls,
+        of: PhantomData,
+    };
+    evaluation.value_of(machine, host, e)
+}

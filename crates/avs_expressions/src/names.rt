@@ -1,0 +1,97 @@
+// Names: of what is called, of variables, and of what is called with `last`.
+ghost use Rattle.std.specs.Prelude.{◌≡◌};
+ghost use Rattle.avs_tree.specs.Tree as t;
+ghost use Rattle.avs_meaning.specs.Expressions as e;
+ghost use Rattle.avs_state.specs.Answers.{Gives};
+ghost use Rattle.avs_state.specs.Hosts.{Told};
+ghost use Rattle.avs_state.specs.States.{state_of};
+ghost use Rattle.avs_state.specs.Walks.{Keeps, stop_in};
+ghost use Rattle.avs_expressions.specs.Views.{callee_view};
+
+use crate::callee::{Callee, callee_of};
+use crate::calls::Calls;
+use crate::evaluation::Evaluation;
+use avs_meaning::{ScriptKind, ScriptStop, Table};
+use avs_state::{Host, Machine, fault_at};
+use avs_values::{Given, Value};
+use fv_io::Text;
+use std::alloc::{AllocError, Global};
+
+/// What a name calls, at a line of a text.
+pub fn called<'t>(
+    alloc: Global,
+    table: &'t Table,
+    machine: &Machine,
+    name: &Text,
+    script_name: &Text,
+    line: u32,
+) -> Result<Callee<'t>, ScriptStop>
+    ensures { Gives callee_view (e.called script_name.now name.now line (state_of machine.now)) result
+        (state_of machine.now) }
+{
+    match callee_of(alloc, table, machine, name)? {
+        Some(callee) => Ok(callee),
+        None => Err(fault_at(alloc, ScriptKind::UnknownName, script_name, line)),
+    }
+}
+
+impl<'c, H: Host, C: Calls<H>> Evaluation<'c, H, C> {
+    /// What a name calls.
+    pub(crate) fn called(
+        &self,
+        machine: &Machine,
+        name: &Text,
+        line: u32,
+    ) -> Result<Callee<'c>, ScriptStop>
+        ensures { Gives callee_view (e.called (C.here self.now.calls.now) name.now line (state_of machine.now)) result
+            (state_of machine.now) }
+    {
+        called(
+            self.alloc,
+            self.calls.table(),
+            machine,
+            name,
+            self.calls.script_name(),
+            line,
+        )
+    }
+
+    /// A call with these arguments, tried again with the variable `last` first, where that is set.
+    pub(crate) fn apply_last(
+        &self,
+        machine: &mut Machine,
+        host: &mut H,
+        callee: &Callee<'_>,
+        args: Vec<Given>,
+        line: u32,
+    ) -> Result<Value, ScriptStop>
+        requires may { C.may self.now.calls.now }
+        ensures told { Told H.told (λ v. v) (e.apply_last (C.context self.now.calls.now) (C.here self.now.calls.now)
+            (callee_view callee.now) args.items line) machine.old result machine.new }
+        ensures kept { Keeps H.Host machine.old host.old (stop_in result) machine.new host.new }
+    {
+        let name = Text::from_str(self.alloc, "last")?;
+        let last = machine.local(self.alloc, &name)?;
+        self.calls.apply(machine, host, callee, args, last, line)
+    }
+
+    /// A variable, or else a call without arguments.
+    pub(crate) fn named(
+        &self,
+        machine: &mut Machine,
+        host: &mut H,
+        name: &Text,
+        line: u32,
+    ) -> Result<Value, ScriptStop>
+        requires may { C.may self.now.calls.now }
+        ensures told { Told H.told (λ v. v) (e.value_of (C.context self.now.calls.now) (C.here self.now.calls.now)
+            (t.name name.now line)) machine.old result machine.new }
+        ensures kept { Keeps H.Host machine.old host.old (stop_in result) machine.new host.new }
+    {
+        if let Some(value) = machine.variable(self.alloc, name)? {
+            return Ok(value);
+        }
+        let callee = self.called(machine, name, line)?;
+        self.apply_last(machine, host, &callee, Vec::new(self.alloc), line)
+    }
+}

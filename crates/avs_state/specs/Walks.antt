@@ -1,0 +1,36 @@
+-- What the parts of a run ensure, over any host.
+use Rattle.std.specs.Prelude.{◌≡◌, ℕ, ◌+◌, ℤ, pos, ◌-ℤ◌, ◌≤◌, length, Option, Some, None, IfNone, Result, Ok, Err}
+use Rattle.fv_io.specs.Faults.{HasRisen}
+use Rattle.avs_meaning.specs.declared.stop.ScriptStop.{ScriptStop}
+use Rattle.avs_meaning.specs.declared.stop.ScriptStop.TheVariants as e
+use Rattle.avs_state.specs.Sources.{sources_of}
+use Rattle.avs_state.specs.States.{state_of}
+use Rattle.avs_state.specs.declared.host.Host as host
+use Rattle.avs_state.specs.declared.machine.Machine.{Machine}
+
+-- why a part of a run ended early, where it did
+abbrev pub stop_in : {X : Type 0} → Result X ScriptStop → Option ScriptStop
+stop_in (Ok x) = None
+stop_in (Err stop) = Some stop
+
+-- a failed read counts a fault and is answered, and nothing else counts one
+abbrev pub Counts : Option ScriptStop → ℕ → ℕ → Type 0
+Counts (Some e.Read) before now = HasRisen before now
+Counts _ before now = now ≡ before
+
+-- how many more files the host fetched than clips were opened and scripts imported
+abbrev pub unasked : {H : Type 0} → host.Ghosts H → Machine → H → ℤ
+unasked h machine x = pos (h.fetched x) -ℤ pos (length (state_of machine).opened + (state_of machine).imports)
+
+-- Unless a part of a run ends early, the clips that were opened stay those that the host gave, and those of the plan's
+-- sources, and each file that the host fetched is a clip that was opened or a script that was imported. The host's counts of
+-- faults and of fetches never fall.
+pub record Keeps {H : Type 0} (h : host.Ghosts H) (old : Machine) (before : H) (ended : Option ScriptStop) (new : Machine)
+    (now : H) : Type 0 where
+  pub given : (state_of old).opened ≡ h.opened before → IfNone ended ((state_of new).opened ≡ h.opened now)
+  pub listed : sources_of (state_of old).plan ≡ (state_of old).opened
+      → IfNone ended (sources_of (state_of new).plan ≡ (state_of new).opened)
+  pub later : h.faults before ≤ h.faults now
+  pub more : h.fetched before ≤ h.fetched now
+  pub faults : Counts ended (h.faults before) (h.faults now)
+  pub fetched : IfNone ended (unasked h new now ≡ unasked h old before)

@@ -1,0 +1,18 @@
+-- What is left gives what the whole gives, and the state has kept what it keeps.
+use Rattle.std.proofs.Common.{◌≡◌, map, drop, IsTrue}
+use Rattle.avs_tree.specs.View.{statement_view, block_of, block_view}
+use Rattle.avs_values.specs.declared.value.Value.TheVariants.{Undefined}
+use Rattle.avs_state.specs.States.{state_of}
+use Rattle.avs_meaning.specs.Statements as s
+use Rattle.avs_statements.specs.Turns as r
+use Rattle.avs_state.proofs.Kept.{Kept}
+use Rattle.avs_statements.proofs.executor.Executor.body_of.Given as goal
+
+abbrev pub invariant-loop-statement : goal.invariant-loop-statement
+invariant-loop-statement g l =
+    let body = s.body_of (g.E.Evaluator.context l.self.evaluator.now) (g.E.Evaluator.here l.self.evaluator.now) in
+    record {
+      told : IsTrue g.H.Host.told → body (block_of (map statement_view (drop l.statement-index l.body))) l.last (state_of l.machine)
+          ≡ body (block_view l.body) Undefined (state_of l.fn.machine);
+      kept : Kept g.H.Host l.fn.machine l.fn.host l.machine l.host;
+    }

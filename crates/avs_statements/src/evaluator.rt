@@ -1,0 +1,42 @@
+// `Evaluator`: what gives the expressions of a text their values.
+use avs_meaning::ScriptStop;
+use avs_state::{Host, Machine};
+use avs_tree::Expr;
+use avs_values::Value;
+use fv_io::Text;
+
+/// What gives the expressions of a text their values, over a host.
+pub trait Evaluator<H: Host> {
+    ghost use Rattle.std.specs.Prelude.{◌≡◌};
+    ghost use Rattle.avs_tree.specs.View.{expr_view};
+    ghost use Rattle.avs_values.specs.Values.{Text as Name};
+    ghost use Rattle.avs_meaning.specs.Context.{Context};
+    ghost use Rattle.avs_meaning.specs.Expressions as e;
+    ghost use Rattle.avs_state.specs.Hosts.{Told};
+    ghost use Rattle.avs_state.specs.Walks.{Keeps, stop_in};
+
+    /// Whether it may be asked.
+    ghost may: { Self → Type 0 };
+
+    /// The name of the text.
+    ghost here: { Self → Name };
+
+    /// What it evaluates expressions in.
+    ghost context: { Self → Context };
+
+    /// The name of the text.
+    fn script_name(&self) -> &Text
+        ensures { result.now ≡ here self.now };
+
+    /// The value of an expression.
+    fn value_of(
+        &self,
+        machine: &mut Machine,
+        host: &mut H,
+        expr: &Expr,
+    ) -> Result<Value, ScriptStop>
+        requires may { may self.now }
+        ensures told { Told H.told (λ v. v) (e.value_of (context self.now) (here self.now) (expr_view expr.now))
+            machine.old result machine.new }
+        ensures kept { Keeps H.Host machine.old host.old (stop_in result) machine.new host.new };
+}

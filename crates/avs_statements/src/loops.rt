@@ -1,0 +1,174 @@
+// The numbers of `for`, and the conditions of `if` and `while`.
+ghost use Rattle.std.specs.Prelude.{◌≡◌, ℤ, ◌+ℤ◌, OnOk, option_map};
+ghost use Rattle.avs_tree.specs.View.{expr_view};
+ghost use Rattle.avs_meaning.specs.Loops as l;
+ghost use Rattle.avs_meaning.specs.Statements as s;
+ghost use Rattle.avs_state.specs.Answers.{Answers, Gives};
+ghost use Rattle.avs_state.specs.Hosts.{Told};
+ghost use Rattle.avs_state.specs.Sources.{sources_of};
+ghost use Rattle.avs_state.specs.States.{state_of, AsksNothing};
+ghost use Rattle.avs_state.specs.Walks.{Keeps, stop_in};
+
+use crate::evaluator::Evaluator;
+use crate::executor::Executor;
+use avs_meaning::{ScriptKind, ScriptStop};
+use avs_state::{Host, Machine, fault_at, truth};
+use avs_tree::{Expr, Statement};
+use avs_values::Value;
+use fv_io::Text;
+use std::alloc::{AllocError, Global};
+
+/// Whether a number is past the end of a loop.
+#[tactic(auto, unfolding(avs_meaning::specs::Loops::is_past))]
+pub(crate) fn is_past(last: i64, step: i64, i: i64) -> bool
+    ensures { result ≡ l.is_past last step i }
+{
+    if step > 0 { i > last } else { i < last }
+}
+
+fn next_number(before: i64, step: i64) -> Option<i64>
+    ensures { result ≡ l.next_number (before +ℤ step) }
+{
+    before.checked_add(step)
+}
+
+// The number that the variable of a loop is.
+fn number_by(
+    alloc: Global,
+    value: Option<Value>,
+    script_name: &Text,
+    line: u32,
+) -> Result<i64, ScriptStop>
+    ensures { Answers (λ n. n) (l.number_by script_name.now value line) result }
+{
+    match value {
+        Some(Value::Int(n)) => Ok(n),
+        _ => Err(fault_at(alloc, ScriptKind::TypeFault, script_name, line)),
+    }
+}
+
+// The variable of a loop, read again after a turn.
+fn read_number(
+    alloc: Global,
+    machine: &Machine,
+    name: &Text,
+    script_name: &Text,
+    line: u32,
+) -> Result<i64, ScriptStop>
+    ensures { Gives (λ n. n) (l.read_number script_name.now name.now line (state_of machine.now)) result
+        (state_of machine.now) }
+{
+    let value = machine.variable(alloc, name)?;
+    number_by(alloc, value, script_name, line)
+}
+
+/// Sets the variable of a loop to the next number. There is none past 64 bits.
+pub(crate) fn advance(
+    alloc: Global,
+    machine: &mut Machine,
+    name: &Text,
+    step: i64,
+    script_name: &Text,
+    line: u32,
+) -> Result<Option<i64>, ScriptStop>
+    ensures gives { Gives (λ n. n) (l.advance script_name.now name.now step line (state_of machine.old)) result
+        (state_of machine.new) }
+    ensures asks { AsksNothing machine.old machine.new }
+    ensures sources { OnOk result (sources_of (state_of machine.new).plan ≡ sources_of (state_of machine.old).plan) }
+{
+    let before = read_number(alloc, machine, name, script_name, line)?;
+    let Some(next) = next_number(before, step) else {
+        return Ok(None);
+    };
+    machine.set(alloc, name, Value::Int(next))?;
+    Ok(Some(next))
+}
+
+// The first number of a loop, the last, and the step, which is not 0.
+fn numbers(
+    alloc: Global,
+    first: &Value,
+    last: &Value,
+    step: &Value,
+    script_name: &Text,
+    line: u32,
+) -> Result<(i64, i64, i64), ScriptStop>
+    ensures { Answers (λ n. n) (l.numbers script_name.now line first.now last.now step.now) result }
+{
+    match (first, last, step) {
+        (Value::Int(first), Value::Int(last), Value::Int(step)) => {
+            if *step == 0 {
+                return Err(fault_at(alloc, ScriptKind::BadRange, script_name, line));
+            }
+            Ok((*first, *last, *step))
+        }
+        _ => Err(fault_at(alloc, ScriptKind::TypeFault, script_name, line)),
+    }
+}
+
+impl<'e, H: Host, E: Evaluator<H>> Executor<'e, H, E> {
+    /// Whether a condition holds.
+    pub(crate) fn condition(
+        &self,
+        machine: &mut Machine,
+        host: &mut H,
+        e: &Expr,
+        line: u32,
+    ) -> Result<bool, ScriptStop>
+        requires may { E.may self.now.evaluator.now }
+        ensures told { Told H.told (λ b. b)
+            (s.condition (E.context self.now.evaluator.now) (E.here self.now.evaluator.now) (expr_view e.now) line)
+            machine.old result machine.new }
+        ensures kept { Keeps H.Host machine.old host.old (stop_in result) machine.new host.new }
+    {
+        let value = self.evaluator.value_of(machine, host, e)?;
+        truth(self.alloc, &value, self.evaluator.script_name(), line)
+    }
+
+    // The step of a loop, which is 1 where none is written.
+    fn step_of(
+        &self,
+        machine: &mut Machine,
+        host: &mut H,
+        step: &Option<Expr>,
+    ) -> Result<Value, ScriptStop>
+        requires may { E.may self.now.evaluator.now }
+        ensures told { Told H.told (λ x. x) (s.step_of (E.context self.now.evaluator.now) (E.here self.now.evaluator.now)
+            (option_map expr_view step.now)) machine.old result machine.new }
+        ensures kept { Keeps H.Host machine.old host.old (stop_in result) machine.new host.new }
+    {
+        match step {
+            Some(e) => self.evaluator.value_of(machine, host, e),
+            None => Ok(Value::Int(1)),
+        }
+    }
+
+    /// The first number of a loop, the last, and the step.
+    pub(crate) fn bounds(
+        &self,
+        machine: &mut Machine,
+        host: &mut H,
+        first: &Expr,
+        last: &Expr,
+        step: &Option<Expr>,
+        line: u32,
+    ) -> Result<(i64, i64, i64), ScriptStop>
+        requires may { E.may self.now.evaluator.now }
+        ensures told { Told H.told (λ n. n) (s.bounds (E.context self.now.evaluator.now) (E.here self.now.evaluator.now)
+            (expr_view first.now) (expr_view last.now) (option_map expr_view step.now) line) machine.old result
+            machine.new }
+        ensures kept { Keeps H.Host machine.old host.old (stop_in result) machine.new host.new }
+    {
+        let first = self.evaluator.value_of(machine, host, first)?;
+        let last = self.evaluator.value_of(machine, host, last)?;
+        let step = self.step_of(machine, host, step)?;
+        numbers(
+            self.alloc,
+            &first,
+            &last,
+            &step,
+            self.evaluator.script_name(),
+            line,
+        )
+    }
+}

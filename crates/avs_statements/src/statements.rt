@@ -1,0 +1,354 @@
+// The execution of statements and blocks: assignments, `return`, `if`, `while` and `for`.
+ghost use Rattle.std.specs.Prelude.{◌≡◌, OnOk, map, option_map};
+ghost use Rattle.avs_tree.specs.Tree as t;
+ghost use Rattle.avs_tree.specs.View.{expr_view, arm_view, statement_view, kind_view, block_view, arms_of};
+ghost use Rattle.avs_meaning.specs.Statements as m;
+ghost use Rattle.avs_state.specs.Answers.{Gives};
+ghost use Rattle.avs_state.specs.Hosts.{Told};
+ghost use Rattle.avs_state.specs.Sources.{sources_of};
+ghost use Rattle.avs_state.specs.States.{state_of, AsksNothing};
+ghost use Rattle.avs_statements.specs.Flows.{flow_view, turn_view};
+ghost use Rattle.avs_statements.specs.Turns as r;
+ghost use Rattle.avs_state.specs.Walks.{Keeps, stop_in};
+
+use crate::evaluator::Evaluator;
+use crate::executor::Executor;
+use crate::flow::{Counter, Flow, Turn};
+use crate::loops::{advance, is_past};
+use avs_meaning::{ScriptKind, ScriptStop};
+use avs_state::{Host, Machine};
+use avs_tree::{Arm, Expr, Statement, StatementKind};
+use avs_values::Value;
+use fv_io::Text;
+use std::alloc::{AllocError, Global};
+use std::marker::PhantomData;
+
+// A clip becomes `last`.
+fn sets_last(alloc: Global, machine: &mut Machine, value: Value) -> Result<Flow, ScriptStop>
+    ensures gives { Gives flow_view (m.sets_last value (state_of machine.old)) result (state_of machine.new) }
+    ensures asks { AsksNothing machine.old machine.new }
+    ensures sources { OnOk result (sources_of (state_of machine.new).plan ≡ sources_of (state_of machine.old).plan) }
+{
+    if let Value::Clip(i) = value {
+        let name = Text::from_str(alloc, "last")?;
+        machine.set(alloc, &name, Value::Clip(i))?;
+        return Ok(Flow::On(Value::Clip(i)));
+    }
+    Ok(Flow::On(value))
+}
+
+// The value of the final statement, or else `last`.
+fn settled(alloc: Global, machine: &Machine, value: Value) -> Result<Value, ScriptStop>
+    ensures { Gives (λ x. x) (m.settled value (state_of machine.now)) result (state_of machine.now) }
+{
+    if !value.is_undefined() {
+        return Ok(value);
+    }
+    let name = Text::from_str(alloc, "last")?;
+    match machine.local(alloc, &name)? {
+        Some(value) => Ok(value),
+        None => Ok(Value::Undefined),
+    }
+}
+
+impl<'e, H: Host, E: Evaluator<H>> Executor<'e, H, E> {
+    #[cycle(statements)]
+    #[tactic(auto, using(crate::proofs::Rows::trees))]
+    fn effect_of(
+        &self,
+        machine: &mut Machine,
+        host: &mut H,
+        kind: &StatementKind,
+        line: u32,
+    ) -> Result<Flow, ScriptStop>
+        requires may { E.may self.now.evaluator.now }
+        ensures told { Told H.told flow_view (m.effect_of (E.context self.now.evaluator.now) (E.here self.now.evaluator.now)
+            (kind_view kind.now) line) machine.old result machine.new }
+        ensures kept { Keeps H.Host machine.old host.old (stop_in result) machine.new host.new }
+    {
+        match kind {
+            StatementKind::Global { name, value } => {
+                let value = self.evaluator.value_of(machine, host, value)?;
+                machine.set_global(self.alloc, name, value)?;
+                Ok(Flow::On(Value::Undefined))
+            }
+            StatementKind::Assign { name, value } => {
+                let value = self.evaluator.value_of(machine, host, value)?;
+                machine.set(self.alloc, name, value)?;
+                Ok(Flow::On(Value::Undefined))
+            }
+            StatementKind::Return(e) => {
+                let value = self.evaluator.value_of(machine, host, e)?;
+                Ok(Flow::Back(value))
+            }
+            StatementKind::If { arms, other } => match self.arms_of(machine, host, arms, line)? {
+                Some(flow) => Ok(flow),
+                None => match other {
+                    Some(body) => self.block_of(machine, host, body),
+                    None => Ok(Flow::On(Value::Undefined)),
+                },
+            },
+            StatementKind::While { condition, body } => {
+                self.turns(machine, host, body, condition, line)
+            }
+            StatementKind::For {
+                name,
+                first,
+                last,
+                step,
+                body,
+            } => { self.count(machine, host, body, name, first, last, step, line) }
+            StatementKind::Value(e) => {
+                let value = self.evaluator.value_of(machine, host, e)?;
+                sets_last(self.alloc, machine, value)
+            }
+        }
+    }
+
+    // The first arm whose condition holds.
+    #[cycle(statements)]
+    #[tactic(auto, using(crate::proofs::Rows::arms_more))]
+    fn arms_of(
+        &self,
+        machine: &mut Machine,
+        host: &mut H,
+        arms: &[Arm],
+        line: u32,
+    ) -> Result<Option<Flow>, ScriptStop>
+        requires may { E.may self.now.evaluator.now }
+        ensures told { Told H.told (option_map flow_view) (m.arms_of (E.context self.now.evaluator.now)
+            (E.here self.now.evaluator.now) (arms_of (map arm_view arms.now)) line) machine.old result machine.new }
+        ensures kept { Keeps H.Host machine.old host.old (stop_in result) machine.new host.new }
+    {
+        for arm in arms {
+            if self.condition(machine, host, &arm.condition, line)? {
+                let flow = self.block_of(machine, host, &arm.body)?;
+                return Ok(Some(flow));
+            }
+        }
+        Ok(None)
+    }
+
+    // The turns of `while`, of which each costs a unit.
+    #[cycle(statements)]
+    #[tactic(auto, using(crate::proofs::TurnLemmas::turn_more))]
+    fn turns(
+        &self,
+        machine: &mut Machine,
+        host: &mut H,
+        body: &[Statement],
+        test: &Expr,
+        line: u32,
+    ) -> Result<Flow, ScriptStop>
+        requires may { E.may self.now.evaluator.now }
+        ensures told { Told H.told flow_view (r.loop_of (E.context self.now.evaluator.now) (E.here self.now.evaluator.now)
+            (expr_view test.now) line (block_view body.now)) machine.old result machine.new }
+        ensures kept { Keeps H.Host machine.old host.old (stop_in result) machine.new host.new }
+    {
+        let most = machine.units();
+        for _turn in 0..most {
+            if !self.condition(machine, host, test, line)? {
+                return Ok(Flow::On(Value::Undefined));
+            }
+            machine.spend(self.alloc, self.evaluator.script_name(), line)?;
+            match self.block_of(machine, host, body)? {
+                Flow::On(_) => continue,
+                Flow::Back(value) => return Ok(Flow::Back(value)),
+            }
+        }
+        if self.condition(machine, host, test, line)? {
+            return Err(self.fault(ScriptKind::StepLimit, line));
+        }
+        Ok(Flow::On(Value::Undefined))
+    }
+
+    // `for`.
+    #[cycle(statements)]
+    fn count(
+        &self,
+        machine: &mut Machine,
+        host: &mut H,
+        body: &[Statement],
+        name: &Text,
+        first: &Expr,
+        last: &Expr,
+        step: &Option<Expr>,
+        line: u32,
+    ) -> Result<Flow, ScriptStop>
+        requires may { E.may self.now.evaluator.now }
+        ensures told { Told H.told flow_view (m.effect_of (E.context self.now.evaluator.now) (E.here self.now.evaluator.now)
+            (t.for name.now (expr_view first.now) (expr_view last.now) (option_map expr_view step.now) (block_view
+            body.now))
+            line) machine.old result machine.new }
+        ensures kept { Keeps H.Host machine.old host.old (stop_in result) machine.new host.new }
+    {
+        let (first, last, step) = self.bounds(machine, host, first, last, step, line)?;
+        machine.set(self.alloc, name, Value::Int(first))?;
+        let counter = Counter {
+            at: first,
+            last,
+            step,
+        };
+        self.counts(machine, host, body, name, counter, line)
+    }
+
+    // The turns of a loop over numbers.
+    #[cycle(statements)]
+    #[tactic(auto, using(crate::proofs::TurnLemmas::counting))]
+    fn counts(
+        &self,
+        machine: &mut Machine,
+        host: &mut H,
+        body: &[Statement],
+        name: &Text,
+        first: Counter,
+        line: u32,
+    ) -> Result<Flow, ScriptStop>
+        requires may { E.may self.now.evaluator.now }
+        ensures told { Told H.told flow_view (r.count_of (E.context self.now.evaluator.now) (E.here self.now.evaluator.now)
+            name.now first.at first.last first.step line (block_view body.now)) machine.old result machine.new }
+        ensures kept { Keeps H.Host machine.old host.old (stop_in result) machine.new host.new }
+    {
+        let most = machine.units();
+        let mut counter = first;
+        for _turn in 0..most {
+            match self.turn(machine, host, body, name, &counter, line)? {
+                Turn::Next(next) => {
+                    counter.at = next;
+                    continue;
+                }
+                Turn::Done(flow) => return Ok(flow),
+            }
+        }
+        if is_past(counter.last, counter.step, counter.at) {
+            return Ok(Flow::On(Value::Undefined));
+        }
+        Err(self.fault(ScriptKind::StepLimit, line))
+    }
+
+    // One turn of a loop over numbers, which costs a unit.
+    #[cycle(statements)]
+    #[tactic(auto, unfolding(avs_meaning::specs::Loops::turn))]
+    fn turn(
+        &self,
+        machine: &mut Machine,
+        host: &mut H,
+        body: &[Statement],
+        name: &Text,
+        counter: &Counter,
+        line: u32,
+    ) -> Result<Turn, ScriptStop>
+        requires may { E.may self.now.evaluator.now }
+        ensures told { Told H.told turn_view (r.turn (E.context self.now.evaluator.now) (E.here self.now.evaluator.now) name.now
+            counter.now.at counter.now.last counter.now.step line (block_view body.now)) machine.old result machine.new }
+        ensures kept { Keeps H.Host machine.old host.old (stop_in result) machine.new host.new }
+    {
+        if is_past(counter.last, counter.step, counter.at) {
+            return Ok(Turn::Done(Flow::On(Value::Undefined)));
+        }
+        machine.spend(self.alloc, self.evaluator.script_name(), line)?;
+        match self.block_of(machine, host, body)? {
+            Flow::On(_) => {
+                match advance(
+                    self.alloc,
+                    machine,
+                    name,
+                    counter.step,
+                    self.evaluator.script_name(),
+                    line,
+                )? {
+                    Some(next) => Ok(Turn::Next(next)),
+                    None => Ok(Turn::Done(Flow::On(Value::Undefined))),
+                }
+            }
+            Flow::Back(value) => Ok(Turn::Done(Flow::Back(value))),
+        }
+    }
+
+    // One statement, which costs a unit.
+    #[cycle(statements)]
+    fn statement_of(
+        &self,
+        machine: &mut Machine,
+        host: &mut H,
+        statement: &Statement,
+    ) -> Result<Flow, ScriptStop>
+        requires may { E.may self.now.evaluator.now }
+        ensures told { Told H.told flow_view (r.statement (E.context self.now.evaluator.now) (E.here self.now.evaluator.now)
+            (statement_view statement.now)) machine.old result machine.new }
+        ensures kept { Keeps H.Host machine.old host.old (stop_in result) machine.new host.new }
+    {
+        machine.spend(self.alloc, self.evaluator.script_name(), statement.line)?;
+        self.effect_of(machine, host, &statement.kind, statement.line)
+    }
+
+    // The statements of a block.
+    #[cycle(statements)]
+    #[tactic(auto, using(crate::proofs::Rows::block_more))]
+    fn block_of(
+        &self,
+        machine: &mut Machine,
+        host: &mut H,
+        body: &[Statement],
+    ) -> Result<Flow, ScriptStop>
+        requires may { E.may self.now.evaluator.now }
+        ensures told { Told H.told flow_view (m.block_of (E.context self.now.evaluator.now) (E.here self.now.evaluator.now)
+            (block_view body.now)) machine.old result machine.new }
+        ensures kept { Keeps H.Host machine.old host.old (stop_in result) machine.new host.new }
+    {
+        for statement in body {
+            match self.statement_of(machine, host, statement)? {
+                Flow::On(_) => continue,
+                Flow::Back(value) => return Ok(Flow::Back(value)),
+            }
+        }
+        Ok(Flow::On(Value::Undefined))
+    }
+
+    // The statements of a text or a function.
+    #[tactic(auto, using(crate::proofs::Rows::block_more))]
+    fn body_of(
+        &self,
+        machine: &mut Machine,
+        host: &mut H,
+        body: &[Statement],
+    ) -> Result<Value, ScriptStop>
+        requires may { E.may self.now.evaluator.now }
+        ensures told { Told H.told (λ x. x) (m.body_of (E.context self.now.evaluator.now) (E.here self.now.evaluator.now)
+            (block_view body.now) Value.Undefined) machine.old result machine.new }
+        ensures kept { Keeps H.Host machine.old host.old (stop_in result) machine.new host.new }
+    {
+        let mut last = Value::Undefined;
+        for statement in body {
+            match self.statement_of(machine, host, statement)? {
+                Flow::On(value) => {
+                    last = value;
+                    continue;
+                }
+                Flow::Back(value) => return Ok(value),
+            }
+        }
+        settled(self.alloc, machine, last)
+    }
+}
+
+/// Executes the statements of a text or a function. Their value is that of the final one, or else `last`.
+pub fn body_of<H: Host, E: Evaluator<H>>(
+    alloc: Global,
+    evaluator: &E,
+    machine: &mut Machine,
+    host: &mut H,
+    body: &[Statement],
+) -> Result<Value, ScriptStop>
+    requires may { E.may evaluator.now }
+    ensures told { Told H.told (λ x. x) (m.body_of (E.context evaluator.now) (E.here evaluator.now) (block_view body.now)
+        Value.Undefined) machine.old result machine.new }
+    ensures kept { Keeps H.Host machine.old host.old (stop_in result) machine.new host.new }
+{
+    let executor = Executor {
+        alloc,
+        evaluator,
+        of: PhantomData,
+    };
+    executor.body_of(machine, host, body)
+}
