@@ -1,6 +1,4 @@
 // What gives the expressions of a text their values.
-use crate::calls::Calls;
-use avs_state::Host;
 use std::alloc::Global;
 use std::marker::PhantomData;
 

@@ -1,7 +1,6 @@
 -- What ApplyRange calls is called as if it stood there by itself: the bound on its arguments changes nothing.
 use Rattle.std.proofs.Common.{◌≡◌, ℕ, zero, suc, ◌<◌, ◌≤◌, ◌+◌, List, [], ◌∷◌, length, map, Bool, true, false, ◌&&◌, if◌then◌else◌, Option, Some, None, Ok, Err, refl, ap, arith}
 use Rattle.std.proofs.lemmas.List.{length-map}
-use Rattle.avs_tree.specs.Tree.{Block}
 use Rattle.avs_values.specs.Binding.{Bound}
 use Rattle.avs_values.specs.Values.{Text}
 use Rattle.avs_values.specs.declared.binding.Given.{Given}
@@ -13,7 +12,6 @@ use Rattle.avs_meaning.specs.Calls.{Callee, user, builtin, takes, Fit, fit_or_la
 use Rattle.avs_meaning.specs.Context.{Context}
 use Rattle.avs_meaning.specs.Expressions.{Caller, called, ranged_by, applied, apply_by, call_within, apply, direct}
 use Rattle.avs_meaning.specs.Filters.{ranged}
-use Rattle.avs_meaning.specs.Outside.{Outside}
 use Rattle.avs_meaning.specs.State.{State, Outcome, Run, and_then, fails}
 use Rattle.avs_meaning.specs.declared.builtin.Builtin.TheVariants as b
 

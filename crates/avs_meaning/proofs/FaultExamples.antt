@@ -1,6 +1,5 @@
 -- Each is computed.
-use Rattle.std.proofs.Common.{◌≡◌, [], ◌∷◌, refl}
-use Rattle.std.specs.Prelude.{if◌then◌else◌}
+use Rattle.std.proofs.Common.{refl}
 use Rattle.avs_values.specs.Binding.{bind}
 use Rattle.fv_plane.specs.Rate.{gcd}
 use Rattle.avs_meaning.specs.Expressions.{call_within}

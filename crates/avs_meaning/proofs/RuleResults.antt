@@ -18,7 +18,7 @@ use Rattle.avs_meaning.specs.Arguments.{is_filter_number, out_of_range}
 use Rattle.avs_meaning.specs.Calls.{Callee, user, builtin, callee, Fit, fit_or_last, takes, unnamed}
 use Rattle.avs_meaning.specs.Expressions.{ranged_by, eval_name, known, called, eval, import_, applied, apply_by, apply, named, value_of, givens_of, calls_from, steps_from}
 use Rattle.avs_meaning.specs.Filters.{ranged}
-use Rattle.avs_meaning.specs.Meaning.{below, context_of, run}
+use Rattle.avs_meaning.specs.Meaning.{context_of, run}
 use Rattle.avs_meaning.specs.Operators.{compared, joined}
 use Rattle.avs_meaning.specs.Outside.{Outside}
 use Rattle.avs_meaning.specs.Rules as r

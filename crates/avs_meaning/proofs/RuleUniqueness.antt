@@ -13,7 +13,7 @@ use Rattle.avs_meaning.proofs.TextArguments.{HasForm, has_form}
 use Rattle.avs_meaning.specs.Calls.{Callee}
 use Rattle.avs_meaning.specs.Expressions.{applied, apply, value_of, givens_of, calls_from, steps_from}
 use Rattle.avs_meaning.specs.Loops.{Flow, counts}
-use Rattle.avs_meaning.specs.Meaning.{below, context_of}
+use Rattle.avs_meaning.specs.Meaning.{context_of}
 use Rattle.avs_meaning.specs.Operators.{joined}
 use Rattle.avs_meaning.specs.Outside.{Outside}
 use Rattle.avs_meaning.specs.Rules as r

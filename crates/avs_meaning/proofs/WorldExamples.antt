@@ -1,5 +1,5 @@
 -- Each is computed.
-use Rattle.std.proofs.Common.{◌≡◌, [], ◌∷◌, refl}
+use Rattle.std.proofs.Common.{refl}
 use lib.Utf8.{encode}
 use Rattle.std.specs.Str.{is_utf8, chars}
 use Rattle.y4m_stream.specs.Parameters.{parameter_fault, info_of}

@@ -1,6 +1,6 @@
 -- What an expression does: its value, and how the state changes (AviSynth+ wiki, 'Grammar' and 'Script functions').
 use Rattle.std.specs.Prelude.{ℕ, zero, suc, nat_eq, ◌&&◌, List, [], ◌∷◌, ◌++◌, map, length, codes, Option, Some, None, Result, Ok, Err, if◌then◌else◌}
-use Rattle.avs_tree.specs.Tree.{Expr, int, bool, str, name, call, method_calls, minus, not_, chain, compare, conditional, group, Args, no_args, arg, MethodCalls, no_method_calls, method, method_call, Steps, no_steps, step, Block}
+use Rattle.avs_tree.specs.Tree.{Expr, int, bool, str, name, call, method_calls, minus, not_, chain, compare, conditional, group, Args, no_args, arg, MethodCalls, no_method_calls, method, method_call, Steps, no_steps, step}
 use Rattle.avs_values.specs.Binding.{Bound}
 use Rattle.avs_values.specs.Functions.{plain}
 use Rattle.avs_values.specs.Values.{Text}

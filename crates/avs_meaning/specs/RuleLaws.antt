@@ -5,7 +5,7 @@ use Rattle.avs_values.specs.Values.{Text}
 use Rattle.avs_values.specs.declared.value.Value.{Value}
 use Rattle.avs_values.specs.declared.value.Value.TheVariants as v
 use Rattle.avs_meaning.specs.Expressions.{value_of}
-use Rattle.avs_meaning.specs.Meaning.{below, context_of, run}
+use Rattle.avs_meaning.specs.Meaning.{context_of, run}
 use Rattle.avs_meaning.specs.Outside.{Outside}
 use Rattle.avs_meaning.specs.Rules.{Gives, Executes}
 use Rattle.avs_meaning.specs.State.{State, Outcome}

@@ -1,5 +1,5 @@
 -- The rest of a list begins with its first element.
-use Rattle.std.proofs.Common.{◌≡◌, ◌∙◌, rules, sym, ap, ℕ, suc, ◌+◌, ◌<◌, List, ◌∷◌, map, drop, length, get_or, drop-cons, add-one}
+use Rattle.std.proofs.Common.{◌≡◌, ◌∙◌, rules, ap, ℕ, ◌+◌, ◌<◌, List, ◌∷◌, map, drop, length, get_or}
 use Rattle.avs_tree.specs.Tree as t
 use Rattle.avs_tree.specs.View.{expr_view, arms_of, block_of, block_view, arm_view, statement_view}
 use Rattle.avs_tree.specs.declared.tree.Arm.{Arm, out-Arm}

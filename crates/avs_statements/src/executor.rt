@@ -4,7 +4,6 @@ ghost use Rattle.avs_meaning.specs.Faults.{Shows, script};
 use crate::evaluator::Evaluator;
 use avs_meaning::{ScriptKind, ScriptStop};
 use avs_state::{Host, fault_at};
-use fv_io::Text;
 use std::alloc::Global;
 use std::marker::PhantomData;
 

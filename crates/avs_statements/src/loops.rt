@@ -13,7 +13,7 @@ use crate::evaluator::Evaluator;
 use crate::executor::Executor;
 use avs_meaning::{ScriptKind, ScriptStop};
 use avs_state::{Host, Machine, fault_at, truth};
-use avs_tree::{Expr, Statement};
+use avs_tree::Expr;
 use avs_values::Value;
 use fv_io::Text;
 use std::alloc::{AllocError, Global};

@@ -1,5 +1,5 @@
 -- Another piece is put.
-use Rattle.std.proofs.Common.{◌≡◌, ℕ, ◌+◌, ◌<◌, List, ◌++◌, length, take, drop, get_or, ◌*◌, ◌≤◌, arith, Option, Result, Ok, Err, OnErr, sym, ◌∙◌, ap, Bool, true, false, if◌then◌else◌, ◌==◌}
+use Rattle.std.proofs.Common.{◌≡◌, ℕ, ◌+◌, ◌<◌, List, ◌++◌, length, take, drop, get_or, ◌*◌, ◌≤◌, arith, Option, Result, Ok, Err, OnErr, sym, ◌∙◌, ap}
 use Rattle.std.proofs.lemmas.List.{drop_more, take-append-drop, append-nil}
 use Rattle.std.proofs.Math.Seq.{take-add}
 use Rattle.std.specs.List.{flat_map}

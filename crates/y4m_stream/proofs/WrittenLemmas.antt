@@ -1,5 +1,5 @@
 -- What is written for a clip is a stream of it.
-use Rattle.std.proofs.Common.{map, suc, ◌≡◌, ◌⊎◌, ℕ, ◌+◌, ◌<◌, ◌^◌, List, [], ◌∷◌, ◌++◌, length, take, drop, Some, None, is_none, Bool, true, false, ◌&&◌, ◌||◌, ◌/◌, nat_le, inl, inr, refl, sym, ◌∙◌, ap, arith, codes, rules}
+use Rattle.std.proofs.Common.{map, suc, ◌≡◌, ℕ, ◌+◌, ◌<◌, ◌^◌, List, [], ◌∷◌, ◌++◌, length, take, drop, Some, None, is_none, Bool, true, false, ◌&&◌, ◌||◌, ◌/◌, nat_le, refl, sym, ◌∙◌, ap, arith, codes, rules}
 use Rattle.std.specs.List.{All, AllByRecursion, list_all, position, position_or_len, before_first, after_first, slice_split, join_with_byte}
 use Rattle.std.specs.Fmt.{decimal}
 use Rattle.std.specs.Char.{is_ascii_digit}
@@ -9,10 +9,6 @@ use Rattle.std.proofs.lemmas.List.Sums.{position_or_len_is}
 use Rattle.std.proofs.lemmas.List.Splits.{slice_split-cons_yes}
 use Rattle.std.proofs.lemmas.Bool.{and_parts, lt-ltb, le-ltb}
 use Rattle.std.proofs.Math.Nat.{div-one}
-use Rattle.fv_plane.specs.declared.format.PixelType.{PixelType}
-use Rattle.fv_plane.specs.declared.format.PixelType.TheVariants.{Y8, YV12, YV16, YV24, YV411}
-use Rattle.fv_plane.specs.declared.format.Tag.{Tag}
-use Rattle.fv_plane.specs.declared.format.Tag.TheVariants.{Jpeg, Mpeg2, Paldv, Plain}
 use Rattle.fv_plane.specs.declared.format.Field.{Field}
 use Rattle.fv_plane.specs.declared.format.Field.TheVariants.{Progressive, Top, Bottom, Unknown}
 use Rattle.fv_plane.specs.declared.format.Info.{Info}

@@ -4,7 +4,6 @@ use Rattle.avs_tree.specs.View.{statement_view, block_of, block_view}
 use Rattle.avs_values.specs.declared.value.Value.TheVariants.{Undefined}
 use Rattle.avs_state.specs.States.{state_of}
 use Rattle.avs_meaning.specs.Statements as s
-use Rattle.avs_statements.specs.Turns as r
 use Rattle.avs_state.proofs.Kept.{Kept}
 use Rattle.avs_statements.proofs.executor.Executor.body_of.Given as goal
 
