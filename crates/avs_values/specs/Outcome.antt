@@ -1,5 +1,5 @@
 -- What an operator or a function gives: a value, or why there is none.
-use Rattle.std.specs.Prelude.{◌≡◌, ◌^◌, ℕ, ℤ, pos, negsuc, nat_lt, nat_le, length, Bool, MatchOption, Result, Ok, Err, if◌then◌else◌}
+use Rattle.std.specs.Prelude.{◌≡◌, ◌^◌, ℕ, ℤ, pos, negsuc, nat_lt, nat_le, length, Bool, Option, Some, None, Result, Ok, Err, if◌then◌else◌}
 use Rattle.avs_values.specs.Values.{Text}
 use Rattle.avs_values.specs.Refusals.{Refusal, refusal_of}
 use Rattle.avs_values.specs.Refusals as f
@@ -25,7 +25,22 @@ text_limit = 1048576
 abbrev pub text : Text → Outcome
 text t = if nat_le (length t) text_limit then Ok (v.Text t) else Err f.TextLimit
 
+-- ---- what the code answers, where a definition gives an outcome
+
+-- the definition gives this refusal, and of out of memory, which is none, `memory` is said
+abbrev pub Refuses : Type 0 → Outcome → Option Refusal → Type 0
+Refuses memory outcome (Some refusal) = outcome ≡ Err refusal
+Refuses memory outcome None = memory
+
+-- the definition gives this value, or the refusal of this fault
+abbrev pub Says : Type 0 → Outcome → Result Value ValueFault → Type 0
+Says memory outcome (Ok x) = outcome ≡ Ok x
+Says memory outcome (Err fault) = Refuses memory outcome (refusal_of fault)
+
 -- The call gives this outcome, or is out of memory.
 abbrev pub Gives : Outcome → Result Value ValueFault → Type 0
-Gives outcome (Ok x) = outcome ≡ Ok x
-Gives outcome (Err fault) = MatchOption (refusal_of fault) (Unit {0}) (λ refusal. outcome ≡ Err refusal)
+Gives = Says (Unit {0})
+
+-- The call gives this outcome, and is never out of memory.
+abbrev pub AlwaysGives : Outcome → Result Value ValueFault → Type 0
+AlwaysGives = Says ⊥

@@ -1,6 +1,6 @@
 // Functions on values of any kind: `Select`, `Defined`, `Default`, `Assert` and the tests of kinds.
 ghost use Rattle.avs_values.specs.Functions as s;
-ghost use Rattle.avs_values.specs.Outcome.{Gives};
+ghost use Rattle.avs_values.specs.Outcome.{Gives, AlwaysGives};
 
 use crate::{Kind, Value, ValueFault};
 use fv_io::Text;
@@ -26,7 +26,7 @@ pub fn select(alloc: Global, values: &[Value], rest: &[Value]) -> Result<Value, 
 }
 
 pub fn defined(values: &[Value]) -> Result<Value, ValueFault>
-    ensures { Gives (s.defined values.now) result }
+    ensures { AlwaysGives (s.defined values.now) result }
 {
     let [value] = values else {
         return Err(ValueFault::TypeFault);
@@ -68,7 +68,7 @@ pub fn assertion(alloc: Global, values: &[Value]) -> Result<Value, ValueFault>
 }
 
 pub fn is_of_kind(kind: Kind, values: &[Value]) -> Result<Value, ValueFault>
-    ensures { Gives (s.is_of_kind kind values.now) result }
+    ensures { AlwaysGives (s.is_of_kind kind values.now) result }
 {
     let [value] = values else {
         return Err(ValueFault::TypeFault);

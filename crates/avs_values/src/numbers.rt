@@ -4,7 +4,7 @@ ghost use Rattle.std.specs.Char.{is_ascii_digit, is_ascii_hexdigit};
 ghost use Rattle.std.specs.Int.{int_min, int_max};
 ghost use Rattle.std.specs.List.{list_all};
 ghost use Rattle.avs_values.specs.Numbers as s;
-ghost use Rattle.avs_values.specs.Outcome.{Gives};
+ghost use Rattle.avs_values.specs.Outcome.{Gives, AlwaysGives};
 
 use crate::texts::copied;
 use crate::{Value, ValueFault};
@@ -16,7 +16,7 @@ use std::alloc::Global;
 const HEXADECIMAL_DIGITS: usize = 16;
 
 pub fn absolute(values: &[Value]) -> Result<Value, ValueFault>
-    ensures { Gives (s.absolute values.now) result }
+    ensures { AlwaysGives (s.absolute values.now) result }
 {
     let [Value::Int(n)] = values else {
         return Err(ValueFault::TypeFault);
@@ -28,7 +28,7 @@ pub fn absolute(values: &[Value]) -> Result<Value, ValueFault>
 }
 
 pub fn sign(values: &[Value]) -> Result<Value, ValueFault>
-    ensures { Gives (s.sign values.now) result }
+    ensures { AlwaysGives (s.sign values.now) result }
 {
     let [Value::Int(n)] = values else {
         return Err(ValueFault::TypeFault);
@@ -37,7 +37,7 @@ pub fn sign(values: &[Value]) -> Result<Value, ValueFault>
 }
 
 fn least_of(first: i64, rest: &[Value]) -> Result<Value, ValueFault>
-    ensures { Gives (s.folded int_min first rest.now) result }
+    ensures { AlwaysGives (s.folded int_min first rest.now) result }
 {
     let mut found = first;
     for value in rest {
@@ -50,7 +50,7 @@ fn least_of(first: i64, rest: &[Value]) -> Result<Value, ValueFault>
 }
 
 fn greatest_of(first: i64, rest: &[Value]) -> Result<Value, ValueFault>
-    ensures { Gives (s.folded int_max first rest.now) result }
+    ensures { AlwaysGives (s.folded int_max first rest.now) result }
 {
     let mut found = first;
     for value in rest {
@@ -63,7 +63,7 @@ fn greatest_of(first: i64, rest: &[Value]) -> Result<Value, ValueFault>
 }
 
 pub fn least(values: &[Value], rest: &[Value]) -> Result<Value, ValueFault>
-    ensures { Gives (s.least values.now rest.now) result }
+    ensures { AlwaysGives (s.least values.now rest.now) result }
 {
     let [Value::Int(a), Value::Int(b)] = values else {
         return Err(ValueFault::TypeFault);
@@ -72,7 +72,7 @@ pub fn least(values: &[Value], rest: &[Value]) -> Result<Value, ValueFault>
 }
 
 pub fn greatest(values: &[Value], rest: &[Value]) -> Result<Value, ValueFault>
-    ensures { Gives (s.greatest values.now rest.now) result }
+    ensures { AlwaysGives (s.greatest values.now rest.now) result }
 {
     let [Value::Int(a), Value::Int(b)] = values else {
         return Err(ValueFault::TypeFault);
@@ -81,7 +81,7 @@ pub fn greatest(values: &[Value], rest: &[Value]) -> Result<Value, ValueFault>
 }
 
 pub fn bit_and(values: &[Value]) -> Result<Value, ValueFault>
-    ensures { Gives (s.bit_and values.now) result }
+    ensures { AlwaysGives (s.bit_and values.now) result }
 {
     let [Value::Int(a), Value::Int(b)] = values else {
         return Err(ValueFault::TypeFault);
@@ -90,7 +90,7 @@ pub fn bit_and(values: &[Value]) -> Result<Value, ValueFault>
 }
 
 pub fn bit_or(values: &[Value]) -> Result<Value, ValueFault>
-    ensures { Gives (s.bit_or values.now) result }
+    ensures { AlwaysGives (s.bit_or values.now) result }
 {
     let [Value::Int(a), Value::Int(b)] = values else {
         return Err(ValueFault::TypeFault);
@@ -99,7 +99,7 @@ pub fn bit_or(values: &[Value]) -> Result<Value, ValueFault>
 }
 
 pub fn bit_xor(values: &[Value]) -> Result<Value, ValueFault>
-    ensures { Gives (s.bit_xor values.now) result }
+    ensures { AlwaysGives (s.bit_xor values.now) result }
 {
     let [Value::Int(a), Value::Int(b)] = values else {
         return Err(ValueFault::TypeFault);
@@ -108,7 +108,7 @@ pub fn bit_xor(values: &[Value]) -> Result<Value, ValueFault>
 }
 
 pub fn bit_not(values: &[Value]) -> Result<Value, ValueFault>
-    ensures { Gives (s.bit_not values.now) result }
+    ensures { AlwaysGives (s.bit_not values.now) result }
 {
     let [Value::Int(n)] = values else {
         return Err(ValueFault::TypeFault);
@@ -140,7 +140,7 @@ fn is_decimal(text: &str) -> bool
 }
 
 pub fn value(values: &[Value]) -> Result<Value, ValueFault>
-    ensures { Gives (s.value values.now) result }
+    ensures { AlwaysGives (s.value values.now) result }
 {
     let [Value::Text(text)] = values else {
         return Err(ValueFault::TypeFault);
@@ -163,7 +163,7 @@ fn is_hexadecimal(text: &str) -> bool
 }
 
 pub fn hex_value(values: &[Value]) -> Result<Value, ValueFault>
-    ensures { Gives (s.hex_value values.now) result }
+    ensures { AlwaysGives (s.hex_value values.now) result }
 {
     let [Value::Text(text)] = values else {
         return Err(ValueFault::TypeFault);

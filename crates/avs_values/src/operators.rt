@@ -1,7 +1,6 @@
 // Operators on values that are no clips.
-ghost use Rattle.std.specs.Prelude.{◌≢◌};
 ghost use Rattle.avs_values.specs.Operators as s;
-ghost use Rattle.avs_values.specs.Outcome.{Gives};
+ghost use Rattle.avs_values.specs.Outcome.{Gives, AlwaysGives};
 ghost use Rattle.avs_values.specs.declared.operators.BinaryOp.TheVariants as o;
 
 use crate::{Value, ValueFault};
@@ -35,7 +34,7 @@ pub enum BinaryOp {
 const TEXT_LIMIT: usize = 1_048_576;
 
 fn quotient(a: i64, b: i64) -> Result<Value, ValueFault>
-    ensures { Gives (s.arithmetic o.Divide a b) result }
+    ensures { AlwaysGives (s.arithmetic o.Divide a b) result }
 {
     if b == 0 {
         return Err(ValueFault::DivZero);
@@ -44,7 +43,7 @@ fn quotient(a: i64, b: i64) -> Result<Value, ValueFault>
 }
 
 fn remainder(a: i64, b: i64) -> Result<Value, ValueFault>
-    ensures { Gives (s.arithmetic o.Remainder a b) result }
+    ensures { AlwaysGives (s.arithmetic o.Remainder a b) result }
 {
     if b == 0 {
         return Err(ValueFault::DivZero);
@@ -53,7 +52,7 @@ fn remainder(a: i64, b: i64) -> Result<Value, ValueFault>
 }
 
 fn arithmetic(op: BinaryOp, a: i64, b: i64) -> Result<Value, ValueFault>
-    ensures { Gives (s.arithmetic op a b) result }
+    ensures { AlwaysGives (s.arithmetic op a b) result }
 {
     match op {
         BinaryOp::Add => Ok(Value::Int(a.checked_add(b).ok_or(ValueFault::Overflow)?)),
@@ -95,7 +94,7 @@ fn on_texts(alloc: Global, op: BinaryOp, a: &str, b: &str) -> Result<Value, Valu
 }
 
 fn on_bools(op: BinaryOp, a: bool, b: bool) -> Result<Value, ValueFault>
-    ensures { Gives (s.on_bools op a b) result }
+    ensures { AlwaysGives (s.on_bools op a b) result }
 {
     match op {
         BinaryOp::Equal => Ok(Value::Bool(a == b)),
@@ -118,8 +117,7 @@ pub fn binary(alloc: Global, op: BinaryOp, a: &Value, b: &Value) -> Result<Value
 
 /// The value of an operator before a value.
 pub fn unary(op: UnaryOp, a: &Value) -> Result<Value, ValueFault>
-    ensures gives { Gives (s.unary op a.now) result }
-    ensures told { result ≢ Err ValueFault.Memory }
+    ensures { AlwaysGives (s.unary op a.now) result }
 {
     match (op, a) {
         (UnaryOp::Negative, Value::Int(n)) => Ok(Value::Int(

@@ -2,7 +2,7 @@
 ghost use Rattle.std.specs.Prelude.{◌≡◌, ◌+◌, ◌≤◌, ◌++◌, length, pos, reverse, Ok, IfOk, string_bytes};
 ghost use Rattle.std.specs.Str.{chars, encode_utf8_all};
 ghost use Rattle.avs_values.specs.Outcome as o;
-ghost use Rattle.avs_values.specs.Outcome.{Gives};
+ghost use Rattle.avs_values.specs.Outcome.{Gives, AlwaysGives};
 ghost use Rattle.avs_values.specs.Texts as s;
 ghost use Rattle.avs_values.specs.declared.value.Value.TheVariants as v;
 
@@ -63,7 +63,7 @@ fn position(text: &str, wanted: &str) -> usize
 }
 
 fn number(n: usize) -> Result<Value, ValueFault>
-    ensures { Gives (o.number (pos n)) result }
+    ensures { AlwaysGives (o.number (pos n)) result }
 {
     match i64::try_from(n) {
         Ok(n) => Ok(Value::Int(n)),
@@ -79,7 +79,7 @@ pub fn copied(alloc: Global, text: &str) -> Result<Value, ValueFault>
 }
 
 pub fn str_len(values: &[Value]) -> Result<Value, ValueFault>
-    ensures { Gives (s.str_len values.now) result }
+    ensures { AlwaysGives (s.str_len values.now) result }
 {
     let [Value::Text(text)] = values else {
         return Err(ValueFault::TypeFault);
@@ -175,7 +175,7 @@ pub fn mid_str(alloc: Global, values: &[Value]) -> Result<Value, ValueFault>
 }
 
 pub fn find_str(values: &[Value]) -> Result<Value, ValueFault>
-    ensures { Gives (s.find_str values.now) result }
+    ensures { AlwaysGives (s.find_str values.now) result }
 {
     let [Value::Text(text), Value::Text(wanted)] = values else {
         return Err(ValueFault::TypeFault);
@@ -198,7 +198,7 @@ pub fn chr(alloc: Global, values: &[Value]) -> Result<Value, ValueFault>
 }
 
 pub fn ord(values: &[Value]) -> Result<Value, ValueFault>
-    ensures { Gives (s.ord values.now) result }
+    ensures { AlwaysGives (s.ord values.now) result }
 {
     let [Value::Text(text)] = values else {
         return Err(ValueFault::TypeFault);
