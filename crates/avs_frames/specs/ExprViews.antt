@@ -38,7 +38,7 @@ frames_view fs = onto [] fs
 
 abbrev pub expr_state_view : ExprState → x.ExprState
 expr_state_view n.OperandNext = x.operand_next
-expr_state_view (n.ValueRead k e) = x.value_read k (expr_view e)
+expr_state_view (n.ValueRead k e) = x.value_read k (expr_view e.value)
 expr_state_view (n.NameRead n) = x.name_read n.name n.line
 expr_state_view (n.ArgsOpened c) = x.args_opened (callee_view c)
 expr_state_view (n.DotRead e) = x.dot_read (expr_view e.first.value) (map method_call_view e.calls.items)
@@ -48,7 +48,7 @@ expr_state_view (n.CallsRead e) = x.calls_read (expr_view e.first.value) (map me
 abbrev pub expr_step_view : ExprStep → x.ExprStep
 expr_step_view r.Refused = x.refused
 expr_step_view (r.Keeps state fs) = x.keeps (expr_state_view state) (frames_view fs.items)
-expr_step_view (r.Leaves e) = x.leaves (expr_view e)
+expr_step_view (r.Leaves e) = x.leaves (expr_view e.value)
 
 -- The code makes this step, unless memory runs out.
 abbrev pub Makes : Result ExprStep OutOfMemory → x.ExprStep → Type 0
@@ -58,7 +58,7 @@ abbrev pub closing_view : Closing → x.Closing
 closing_view g.Refused = x.no_closing
 closing_view (g.Taken state) = x.taken (expr_state_view state)
 closing_view (g.Reopened f) = x.reopened (frame_view f)
-closing_view (g.Closed k e) = x.closed k (expr_view e)
+closing_view (g.Closed k e) = x.closed k (expr_view e.value)
 
 -- the same of what a token does to a frame
 abbrev pub Closes : Result Closing OutOfMemory → x.Closing → Type 0

@@ -1,7 +1,6 @@
 // What a token does to the innermost frame, after an expression in it.
 ghost use Rattle.std.specs.Prelude.{◌≡◌, ◌∷◌, ◌++◌, [], None, map, IfOk};
 ghost use Rattle.avs_tree.specs.Lexeme.{precedence_of};
-ghost use Rattle.avs_tree.specs.Tree as tree;
 ghost use Rattle.avs_tree.specs.View.{expr_view, arg_view, step_view};
 ghost use Rattle.avs_place.specs.Next.{operator_at};
 ghost use Rattle.avs_place.specs.ExprMachine as machine;
@@ -25,46 +24,70 @@ fn refused<T: Drop>(_read: T) -> Closing
     Closing::Refused
 }
 
+/// A whole primary.
+pub fn primary(alloc: Global, expr: Expr) -> Outcome<ExprState>
+    ensures { IfOk result (λ made. expr_state_view made ≡ machine.value_read 0 (expr_view expr)) }
+{
+    match boxed(alloc, expr) {
+        Ok(expr) => Ok(ExprState::ValueRead(PRIMARY, expr)),
+        Err(error) => Err(error),
+    }
+}
+
 /// A call, after its right parenthesis.
-pub fn called(callee: Callee, args: Vec<Arg>) -> Outcome<ExprState>
+pub fn called(alloc: Global, callee: Callee, args: Vec<Arg>) -> Outcome<ExprState>
     ensures { IfOk result (λ made. expr_state_view made ≡ machine.called (callee_view callee) (map arg_view args.items)) }
 {
     match callee {
         Callee::Call(called) => {
             let Named { name, line } = called;
-            let call = Expr::Call { name, args, line };
-            Ok(ExprState::ValueRead(PRIMARY, call))
+            primary(alloc, Expr::Call { name, args, line })
         }
         Callee::Method(receiver, called) => {
             let Named { name, line } = called;
             let args = Some(args);
-            let receiver = receiver.with_call(DotCall { name, args, line })?;
-            Ok(ExprState::CallsRead(receiver))
+            match receiver.with_call(DotCall { name, args, line }) {
+                Ok(receiver) => Ok(ExprState::CallsRead(receiver)),
+                Err(error) => Err(error),
+            }
         }
     }
 }
 
+// The frame ends, as an expression of this precedence.
+fn closed(alloc: Global, precedence: u8, whole: Expr) -> Outcome<Closing>
+    ensures { Closes result (machine.closed precedence (expr_view whole)) }
+{
+    match boxed(alloc, whole) {
+        Ok(whole) => Ok(Closing::Closed(precedence, whole)),
+        Err(error) => Err(error),
+    }
+}
+
 // After what is inside of parentheses.
-fn close_group(inside: Expr, turn: Turn<'_>) -> Outcome<Closing>
-    ensures { Closes result (machine.closing (expr_view inside) machine.paren (seen turn.entry)) }
+fn close_group(inside: Box<Expr>, turn: Turn<'_>) -> Outcome<Closing>
+    ensures { Closes result (machine.closing (expr_view inside.value) machine.paren (seen turn.entry)) }
 {
     if !turn.is(Punctuation::RightParen) {
         return Ok(refused(inside));
     }
-    let group = Expr::Group(boxed(turn.alloc, inside)?);
-    Ok(Closing::Taken(ExprState::ValueRead(PRIMARY, group)))
+    match primary(turn.alloc, Expr::Group(inside)) {
+        Ok(group) => Ok(Closing::Taken(group)),
+        Err(error) => Err(error),
+    }
 }
 
 // ---- arguments
 
 // After `=`, where the argument is a name so far.
-fn label(callee: Callee, found: Vec<Arg>, name: Option<Text>, value: Expr) -> Closing
-    ensures { closing_view result ≡ machine.label_of name (expr_view value) (callee_view callee) (map arg_view found.items) }
+fn label(callee: Callee, found: Vec<Arg>, name: Option<Text>, value: Box<Expr>) -> Closing
+    ensures { closing_view result
+        ≡ machine.label_of name (expr_view value.value) (callee_view callee) (map arg_view found.items) }
 {
     if name.is_some() {
         return refused((callee, found, name, value));
     }
-    match value {
+    match Box::into_inner(value) {
         Expr::Name { name, line: _ } => {
             Closing::Reopened(Frame::Argument(callee, found, Some(name)))
         }
@@ -74,18 +97,25 @@ fn label(callee: Callee, found: Vec<Arg>, name: Option<Text>, value: Expr) -> Cl
 
 // The arguments with one more.
 #[tactic(auto, using(crate::proofs::RowLemmas::args_push))]
-fn with_argument(found: Vec<Arg>, last: Arg) -> Outcome<Vec<Arg>>
-    ensures { IfOk result (λ made. map arg_view made.items ≡ map arg_view found.items ++ arg_view last ∷ []) }
+fn with_argument(found: Vec<Arg>, name: Option<Text>, value: Box<Expr>) -> Outcome<Vec<Arg>>
+    ensures { IfOk result (λ made. map arg_view made.items
+        ≡ map arg_view found.items ++ (name, expr_view value.value) ∷ []) }
 {
-    pushed(found, last)
+    let value = Box::into_inner(value);
+    pushed(found, Arg { name, value })
 }
 
 // After the comma of an argument.
-fn next_argument(callee: Callee, found: Vec<Arg>, last: Arg) -> Outcome<Closing>
+fn next_argument(
+    callee: Callee,
+    found: Vec<Arg>,
+    name: Option<Text>,
+    value: Box<Expr>,
+) -> Outcome<Closing>
     ensures { Closes result (machine.reopened
-        (machine.argument (callee_view callee) (map arg_view found.items ++ arg_view last ∷ []) None)) }
+        (machine.argument (callee_view callee) (map arg_view found.items ++ (name, expr_view value.value) ∷ []) None)) }
 {
-    match with_argument(found, last) {
+    match with_argument(found, name, value) {
         Ok(found) => Ok(Closing::Reopened(Frame::Argument(callee, found, None))),
         Err(error) => {
             // Dropped in place, each of its parts would be a step of this proof.
@@ -96,12 +126,21 @@ fn next_argument(callee: Callee, found: Vec<Arg>, last: Arg) -> Outcome<Closing>
 }
 
 // After the right parenthesis of arguments.
-fn last_argument(callee: Callee, found: Vec<Arg>, last: Arg) -> Outcome<Closing>
-    ensures { Closes result
-        (machine.taken (machine.called (callee_view callee) (map arg_view found.items ++ arg_view last ∷ []))) }
+fn last_argument(
+    alloc: Global,
+    callee: Callee,
+    found: Vec<Arg>,
+    name: Option<Text>,
+    value: Box<Expr>,
+) -> Outcome<Closing>
+    ensures { Closes result (machine.taken
+        (machine.called (callee_view callee) (map arg_view found.items ++ (name, expr_view value.value) ∷ []))) }
 {
-    match with_argument(found, last) {
-        Ok(args) => Ok(Closing::Taken(called(callee, args)?)),
+    match with_argument(found, name, value) {
+        Ok(args) => match called(alloc, callee, args) {
+            Ok(call) => Ok(Closing::Taken(call)),
+            Err(error) => Err(error),
+        },
         Err(error) => {
             drop(callee);
             Err(error)
@@ -115,17 +154,17 @@ fn close_argument(
     callee: Callee,
     found: Vec<Arg>,
     name: Option<Text>,
-    value: Expr,
+    value: Box<Expr>,
     turn: Turn<'_>,
 ) -> Outcome<Closing>
-    ensures { Closes result (machine.closing (expr_view value)
+    ensures { Closes result (machine.closing (expr_view value.value)
         (machine.argument (callee_view callee) (map arg_view found.items) name) (seen turn.entry)) }
 {
     if turn.is(Punctuation::Comma) {
-        return next_argument(callee, found, Arg { name, value });
+        return next_argument(callee, found, name, value);
     }
     if turn.is(Punctuation::RightParen) {
-        return last_argument(callee, found, Arg { name, value });
+        return last_argument(turn.alloc, callee, found, name, value);
     }
     if turn.is(Punctuation::Assign) {
         return Ok(label(callee, found, name, value));
@@ -135,27 +174,35 @@ fn close_argument(
 
 // ---- operators
 
+// The operators and operands with one more.
+#[tactic(auto, using(crate::proofs::RowLemmas::steps_push))]
+fn with_step(rest: Vec<Step>, last: OperatorAt, operand: Box<Expr>) -> Outcome<Vec<Step>>
+    ensures { IfOk result (λ made. map step_view made.items
+        ≡ map step_view rest.items ++ (last.op, (expr_view operand.value, last.line)) ∷ []) }
+{
+    let OperatorAt { op, line } = last;
+    let operand = Box::into_inner(operand);
+    pushed(rest, Step { op, operand, line })
+}
+
 // After the last operand of a chain so far: it goes on with an operator of the same precedence, or it ends.
-fn after_operand(first: Box<Expr>, rest: Vec<Step>, last: Operator, turn: Turn<'_>) -> Closing
-    ensures { closing_view result ≡ machine.more_of (operator_at (precedence_of last) (seen turn.entry)) last
-        (expr_view first.value) (map step_view rest.items) turn.entry.line }
+fn after_operand(
+    first: Box<Expr>,
+    rest: Vec<Step>,
+    last: Operator,
+    turn: Turn<'_>,
+) -> Outcome<Closing>
+    ensures { Closes result (machine.more_of (operator_at (precedence_of last) (seen turn.entry)) last
+        (expr_view first.value) (map step_view rest.items) turn.entry.line) }
 {
     let precedence = last.precedence();
     match turn.operator(precedence) {
         Some(op) => {
             let line = turn.line;
-            Closing::Reopened(Frame::Chain(first, rest, OperatorAt { op, line }))
+            Ok(Closing::Reopened(Frame::Chain(first, rest, OperatorAt { op, line })))
         }
-        None => Closing::Closed(precedence, Expr::Chain { first, rest }),
+        None => closed(turn.alloc, precedence, Expr::Chain { first, rest }),
     }
-}
-
-// The operators and operands with one more.
-#[tactic(auto, using(crate::proofs::RowLemmas::steps_push))]
-fn with_step(rest: Vec<Step>, last: Step) -> Outcome<Vec<Step>>
-    ensures { IfOk result (λ made. map step_view made.items ≡ map step_view rest.items ++ step_view last ∷ []) }
-{
-    pushed(rest, last)
 }
 
 // After the operand of an operator.
@@ -163,99 +210,72 @@ fn close_chain(
     first: Box<Expr>,
     rest: Vec<Step>,
     last: OperatorAt,
-    operand: Expr,
+    operand: Box<Expr>,
     turn: Turn<'_>,
 ) -> Outcome<Closing>
-    ensures { Closes result (machine.closing (expr_view operand)
+    ensures { Closes result (machine.closing (expr_view operand.value)
         (machine.chain_of (expr_view first.value) (map step_view rest.items) last.op last.line) (seen turn.entry)) }
 {
-    let OperatorAt { op, line } = last;
-    let rest = with_step(rest, Step { op, operand, line })?;
-    Ok(after_operand(first, rest, op, turn))
-}
-
-// After the second operand of a comparison.
-fn close_compare(alloc: Global, left: Box<Expr>, last: OperatorAt, second: Expr) -> Outcome<Closing>
-    ensures { Closes result
-        (machine.closed 5 (tree.compare last.op (expr_view left.value) (expr_view second) last.line)) }
-{
-    let OperatorAt { op, line } = last;
-    let right = boxed(alloc, second)?;
-    Ok(Closing::Closed(
-        COMPARISON,
-        Expr::Compare {
-            op,
-            left,
-            right,
-            line,
-        },
-    ))
-}
-
-// After the operand of `-`.
-fn close_minus(alloc: Global, operand: Expr, line: u32) -> Outcome<Closing>
-    ensures { Closes result (machine.closed 2 (tree.minus (expr_view operand) line)) }
-{
-    let operand = boxed(alloc, operand)?;
-    Ok(Closing::Closed(UNARY, Expr::Minus { operand, line }))
-}
-
-// After the operand of `!`.
-fn close_not(alloc: Global, operand: Expr, line: u32) -> Outcome<Closing>
-    ensures { Closes result (machine.closed 2 (tree.not_ (expr_view operand) line)) }
-{
-    let operand = boxed(alloc, operand)?;
-    Ok(Closing::Closed(UNARY, Expr::Not { operand, line }))
+    match with_step(rest, last, operand) {
+        Ok(rest) => after_operand(first, rest, last.op, turn),
+        Err(error) => Err(error),
+    }
 }
 
 // After the first branch of a `?`.
-fn close_branch(condition: Box<Expr>, line: u32, yes: Expr, turn: Turn<'_>) -> Outcome<Closing>
-    ensures { Closes result
-        (machine.closing (expr_view yes) (machine.yes_of (expr_view condition.value) line) (seen turn.entry)) }
+fn close_branch(condition: Box<Expr>, line: u32, yes: Box<Expr>, turn: Turn<'_>) -> Closing
+    ensures { closing_view result
+        ≡ machine.closing (expr_view yes.value) (machine.yes_of (expr_view condition.value) line) (seen turn.entry) }
 {
     if !turn.is(Punctuation::Colon) {
-        return Ok(refused((condition, yes)));
+        return refused((condition, yes));
     }
-    let yes = boxed(turn.alloc, yes)?;
-    Ok(Closing::Reopened(Frame::No(condition, yes, line)))
-}
-
-// After the second branch of a `?`.
-fn close_conditional(
-    alloc: Global,
-    condition: Box<Expr>,
-    yes: Box<Expr>,
-    no: Expr,
-    line: u32,
-) -> Outcome<Closing>
-    ensures { Closes result
-        (machine.closed 8 (tree.conditional (expr_view condition.value) (expr_view yes.value) (expr_view no) line)) }
-{
-    let no = boxed(alloc, no)?;
-    Ok(Closing::Closed(
-        EXPRESSION,
-        Expr::Pick {
-            condition,
-            yes,
-            no,
-            line,
-        },
-    ))
+    Closing::Reopened(Frame::No(condition, yes, line))
 }
 
 /// What the token does to a frame, after this expression in it.
-pub fn close_frame(frame: Frame, expr: Expr, turn: Turn<'_>) -> Outcome<Closing>
-    ensures { Closes result (machine.closing (expr_view expr) (frame_view frame) (seen turn.entry)) }
+pub fn close_frame(frame: Frame, expr: Box<Expr>, turn: Turn<'_>) -> Outcome<Closing>
+    ensures { Closes result (machine.closing (expr_view expr.value) (frame_view frame) (seen turn.entry)) }
 {
     let alloc = turn.alloc;
     match frame {
         Frame::Paren => close_group(expr, turn),
         Frame::Argument(callee, found, name) => close_argument(callee, found, name, expr, turn),
-        Frame::Minus(line) => close_minus(alloc, expr, line),
-        Frame::Not(line) => close_not(alloc, expr, line),
+        Frame::Minus(line) => closed(
+            alloc,
+            UNARY,
+            Expr::Minus {
+                operand: expr,
+                line,
+            },
+        ),
+        Frame::Not(line) => closed(
+            alloc,
+            UNARY,
+            Expr::Not {
+                operand: expr,
+                line,
+            },
+        ),
         Frame::Chain(first, rest, last) => close_chain(first, rest, last, expr, turn),
-        Frame::Compare(first, last) => close_compare(alloc, first, last, expr),
-        Frame::Yes(condition, line) => close_branch(condition, line, expr, turn),
-        Frame::No(condition, yes, line) => close_conditional(alloc, condition, yes, expr, line),
+        Frame::Compare(left, last) => {
+            let whole = Expr::Compare {
+                op: last.op,
+                left,
+                right: expr,
+                line: last.line,
+            };
+            closed(alloc, COMPARISON, whole)
+        }
+        Frame::Yes(condition, line) => Ok(close_branch(condition, line, expr, turn)),
+        Frame::No(condition, yes, line) => {
+            let whole = Expr::Pick {
+                condition,
+                yes,
+                no: expr,
+                line,
+            };
+            closed(alloc, EXPRESSION, whole)
+        }
     }
 }

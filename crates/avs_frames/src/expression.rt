@@ -2,11 +2,11 @@
 ghost use Rattle.std.specs.Prelude.{◌≡◌, ◌∷◌, Some, map, IfOk};
 ghost use Rattle.avs_tree.specs.View.{expr_view, method_call_view};
 ghost use Rattle.avs_place.specs.ExprMachine as machine;
-ghost use Rattle.avs_frames.specs.ExprViews.{Makes, callee_view, frame_view, frames_view, expr_state_view, expr_step_view};
+ghost use Rattle.avs_frames.specs.ExprViews.{Makes, callee_view, frame_view, frames_view, expr_state_view};
 ghost use Rattle.avs_frames.specs.Seen.{seen};
 ghost use Rattle.avs_frames.specs.declared.frame.ExprState.TheVariants.{DotRead, MethodRead};
 
-use crate::closing::{called, close_frame};
+use crate::closing::{called, close_frame, primary};
 use crate::frame::{
     COMPARISON, Callee, Closing, EXPRESSION, ExprState, ExprStep, Frame, Named, OperatorAt,
     POSTFIX, PRIMARY, Receiver,
@@ -16,11 +16,14 @@ use crate::turn::Turn;
 use avs_tree::{DotCall, Expr, Keyword, Operator, Punctuation, Symbol};
 use std::alloc::Global;
 
-// A whole primary.
-fn primary(expr: Expr, frames: Vec<Frame>) -> ExprStep
-    ensures { expr_step_view result ≡ machine.keeps (machine.value_read 0 (expr_view expr)) (frames_view frames.items) }
+// An operand of one token.
+fn literal(value: Expr, frames: Vec<Frame>, turn: Turn<'_>) -> Outcome<ExprStep>
+    ensures { Makes result (machine.keeps (machine.value_read 0 (expr_view value)) (frames_view frames.items)) }
 {
-    ExprStep::Keeps(ExprState::ValueRead(PRIMARY, expr), frames)
+    match primary(turn.alloc, value) {
+        Ok(state) => Ok(ExprStep::Keeps(state, frames)),
+        Err(error) => Err(error),
+    }
 }
 
 // A new innermost frame.
@@ -28,8 +31,10 @@ fn primary(expr: Expr, frames: Vec<Frame>) -> ExprStep
 fn open(frames: Vec<Frame>, frame: Frame) -> Outcome<ExprStep>
     ensures { Makes result (machine.keeps machine.operand_next (frame_view frame ∷ frames_view frames.items)) }
 {
-    let frames = pushed(frames, frame)?;
-    Ok(ExprStep::Keeps(ExprState::OperandNext, frames))
+    match pushed(frames, frame) {
+        Ok(frames) => Ok(ExprStep::Keeps(ExprState::OperandNext, frames)),
+        Err(error) => Err(error),
+    }
 }
 
 // A name and its line.
@@ -49,17 +54,17 @@ pub fn operand(frames: Vec<Frame>, turn: Turn<'_>) -> Outcome<ExprStep>
 {
     let line = turn.line;
     match turn.symbol {
-        Symbol::Int(number) => Ok(primary(Expr::Int(number), frames)),
-        Symbol::Str => {
-            let text = turn.text()?;
-            Ok(primary(Expr::Str(text), frames))
-        }
-        Symbol::Keyword(Keyword::True) => Ok(primary(Expr::Bool(true), frames)),
-        Symbol::Keyword(Keyword::False) => Ok(primary(Expr::Bool(false), frames)),
-        Symbol::Name => {
-            let state = ExprState::NameRead(named(turn)?);
-            Ok(ExprStep::Keeps(state, frames))
-        }
+        Symbol::Int(number) => literal(Expr::Int(number), frames, turn),
+        Symbol::Str => match turn.text() {
+            Ok(text) => literal(Expr::Str(text), frames, turn),
+            Err(error) => Err(error),
+        },
+        Symbol::Keyword(Keyword::True) => literal(Expr::Bool(true), frames, turn),
+        Symbol::Keyword(Keyword::False) => literal(Expr::Bool(false), frames, turn),
+        Symbol::Name => match named(turn) {
+            Ok(name) => Ok(ExprStep::Keeps(ExprState::NameRead(name), frames)),
+            Err(error) => Err(error),
+        },
         Symbol::Punctuation(Punctuation::LeftParen) => open(frames, Frame::Paren),
         Symbol::Operator(Operator::Minus) => open(frames, Frame::Minus(line)),
         Symbol::Punctuation(Punctuation::Not) => open(frames, Frame::Not(line)),
@@ -80,11 +85,10 @@ fn operator(alloc: Global, first: Box<Expr>, op: Operator, line: u32) -> Frame
 
 // The token that continues an expression.
 #[tactic(auto, unfolding(avs_place::specs::ExprMachine::grow))]
-fn grow(first: Expr, frames: Vec<Frame>, turn: Turn<'_>) -> Outcome<ExprStep>
-    ensures { Makes result (machine.grow (expr_view first) (frames_view frames.items) (seen turn.entry)) }
+fn grow(first: Box<Expr>, frames: Vec<Frame>, turn: Turn<'_>) -> Outcome<ExprStep>
+    ensures { Makes result (machine.grow (expr_view first.value) (frames_view frames.items) (seen turn.entry)) }
 {
     let line = turn.line;
-    let first = boxed(turn.alloc, first)?;
     match turn.symbol {
         Symbol::Punctuation(Punctuation::Dot) => {
             let calls = Vec::new(turn.alloc);
@@ -112,26 +116,27 @@ fn hole(frames: &[Frame]) -> u8
 #[tactic(auto, using(crate::proofs::FrameLemmas::of_frames))]
 fn after(
     mut precedence: u8,
-    mut expr: Expr,
+    mut expr: Box<Expr>,
     mut frames: Vec<Frame>,
     turn: Turn<'_>,
 ) -> Outcome<ExprStep>
-    ensures { Makes result (machine.after precedence (expr_view expr) (frames_view frames.items) (seen turn.entry)) }
+    ensures { Makes result (machine.after precedence (expr_view expr.value) (frames_view frames.items) (seen turn.entry)) }
 {
     while !turn.continues(precedence, hole(&frames)) {
         let frame = match frames.pop() {
             Some(frame) => frame,
             None => return Ok(ExprStep::Leaves(expr)),
         };
-        match close_frame(frame, expr, turn)? {
-            Closing::Refused => return Ok(ExprStep::Refused),
-            Closing::Taken(state) => return Ok(ExprStep::Keeps(state, frames)),
-            Closing::Reopened(frame) => return open(frames, frame),
-            Closing::Closed(made, whole) => {
+        match close_frame(frame, expr, turn) {
+            Ok(Closing::Closed(made, whole)) => {
                 precedence = made;
                 expr = whole;
                 continue;
             }
+            Ok(Closing::Reopened(frame)) => return open(frames, frame),
+            Ok(Closing::Taken(state)) => return Ok(ExprStep::Keeps(state, frames)),
+            Ok(Closing::Refused) => return Ok(ExprStep::Refused),
+            Err(error) => return Err(error),
         }
     }
     grow(expr, frames, turn)
@@ -147,7 +152,10 @@ fn after_name(called: Named, frames: Vec<Frame>, turn: Turn<'_>) -> Outcome<Expr
         return Ok(ExprStep::Keeps(state, frames));
     }
     let Named { name, line } = called;
-    after(PRIMARY, Expr::Name { name, line }, frames, turn)
+    match boxed(turn.alloc, Expr::Name { name, line }) {
+        Ok(name) => after(PRIMARY, name, frames, turn),
+        Err(error) => Err(error),
+    }
 }
 
 // After the left parenthesis of arguments.
@@ -158,11 +166,15 @@ fn first_argument(callee: Callee, frames: Vec<Frame>, turn: Turn<'_>) -> Outcome
 {
     let found = Vec::new(turn.alloc);
     if turn.is(Punctuation::RightParen) {
-        let state = called(callee, found)?;
-        return Ok(ExprStep::Keeps(state, frames));
+        return match called(turn.alloc, callee, found) {
+            Ok(state) => Ok(ExprStep::Keeps(state, frames)),
+            Err(error) => Err(error),
+        };
     }
-    let frames = pushed(frames, Frame::Argument(callee, found, None))?;
-    operand(frames, turn)
+    match pushed(frames, Frame::Argument(callee, found, None)) {
+        Ok(frames) => operand(frames, turn),
+        Err(error) => Err(error),
+    }
 }
 
 // After a dot.
@@ -171,10 +183,10 @@ fn method_name(receiver: Receiver, frames: Vec<Frame>, turn: Turn<'_>) -> Outcom
         (frames_view frames.items) (seen turn.entry)) }
 {
     match turn.symbol {
-        Symbol::Name => {
-            let state = ExprState::MethodRead(receiver, named(turn)?);
-            Ok(ExprStep::Keeps(state, frames))
-        }
+        Symbol::Name => match named(turn) {
+            Ok(name) => Ok(ExprStep::Keeps(ExprState::MethodRead(receiver, name), frames)),
+            Err(error) => Err(error),
+        },
         _ => Ok(ExprStep::Refused),
     }
 }
@@ -188,7 +200,10 @@ fn after_calls(receiver: Receiver, frames: Vec<Frame>, turn: Turn<'_>) -> Outcom
         return Ok(ExprStep::Keeps(ExprState::DotRead(receiver), frames));
     }
     let Receiver { first, calls } = receiver;
-    after(POSTFIX, Expr::Dots { first, calls }, frames, turn)
+    match boxed(turn.alloc, Expr::Dots { first, calls }) {
+        Ok(whole) => after(POSTFIX, whole, frames, turn),
+        Err(error) => Err(error),
+    }
 }
 
 // After the name of a method.
@@ -207,8 +222,10 @@ fn after_method(
     }
     let Named { name, line } = method;
     let args = None;
-    let receiver = receiver.with_call(DotCall { name, args, line })?;
-    after_calls(receiver, frames, turn)
+    match receiver.with_call(DotCall { name, args, line }) {
+        Ok(receiver) => after_calls(receiver, frames, turn),
+        Err(error) => Err(error),
+    }
 }
 
 /// What the token does to an expression.

@@ -77,7 +77,7 @@ pub enum ExprState {
     /// Nothing, or what opened the innermost frame.
     OperandNext,
     /// An expression of this precedence.
-    ValueRead(u8, Expr),
+    ValueRead(u8, Box<Expr>),
     /// `f`
     NameRead(Named),
     /// `f(` or `e.f(`
@@ -91,18 +91,16 @@ pub enum ExprState {
 }
 
 /// What a token does to an expression.
-#[derive(Drop)]
 pub enum ExprStep {
     /// The token cannot stand there.
     Refused,
     /// It is taken.
     Keeps(ExprState, Vec<Frame>),
     /// The expression ends before it.
-    Leaves(Expr),
+    Leaves(Box<Expr>),
 }
 
 /// What a token does to the innermost frame, after an expression in it.
-#[derive(Drop)]
 pub enum Closing {
     /// The token cannot stand there.
     Refused,
@@ -111,7 +109,7 @@ pub enum Closing {
     /// Another frame stands in the place of this one.
     Reopened(Frame),
     /// The frame ends before it, as an expression of this precedence.
-    Closed(u8, Expr),
+    Closed(u8, Box<Expr>),
 }
 
 impl Receiver {

@@ -1,6 +1,7 @@
 // What is made, or that memory ran out.
 ghost use Rattle.std.specs.Prelude.{◌≡◌, ◌∷◌, ◌++◌, [], IfOk};
 
+use avs_tree::Expr;
 use std::alloc::{AllocError, AllocFailed, Global};
 
 /// Memory ran out.
@@ -30,9 +31,9 @@ pub fn pushed<T: Drop>(mut list: Vec<T>, item: T) -> Outcome<Vec<T>>
     Ok(list)
 }
 
-/// The value in a box.
-pub fn boxed<T: Drop>(alloc: Global, value: T) -> Outcome<Box<T>>
-    ensures { IfOk result (λ made. made.value ≡ value) }
+/// The expression in a box.
+pub fn boxed(alloc: Global, expr: Expr) -> Outcome<Box<Expr>>
+    ensures { IfOk result (λ made. made.value ≡ expr) }
 {
-    Ok(Box::new(alloc, value)?)
+    Ok(Box::new(alloc, expr)?)
 }

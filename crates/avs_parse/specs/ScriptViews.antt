@@ -1,7 +1,7 @@
 -- What the states of the code mean, in a script.
 use Rattle.std.specs.Prelude.{◌≡◌, ℕ, List, [], ◌∷◌, map, Option, Some, None, option_map, Result, IfOk}
 use Rattle.avs_tree.specs.Tree as t
-use Rattle.avs_tree.specs.View.{StatementIs, expr_view, arm_view, statement_view, function_view, script_view}
+use Rattle.avs_tree.specs.View.{StatementIs, expr_view, arm_view, statement_view, function_view, script_view, arms_of, else_of, block_view}
 use Rattle.avs_place.specs.Machine as m
 use Rattle.avs_frames.specs.ExprViews.{frames_view, expr_state_view}
 use Rattle.avs_frames.specs.declared.memory.OutOfMemory.{OutOfMemory}
@@ -10,6 +10,8 @@ use Rattle.avs_parse.specs.declared.state.Use.TheVariants as u
 use Rattle.avs_parse.specs.declared.state.ForHead.{ForHead}
 use Rattle.avs_parse.specs.declared.state.Owner.{Owner}
 use Rattle.avs_parse.specs.declared.state.Owner.TheVariants as o
+use Rattle.avs_parse.specs.declared.state.Ended.{Ended}
+use Rattle.avs_parse.specs.declared.state.Ended.TheVariants as e
 use Rattle.avs_parse.specs.declared.state.Level.{Level}
 use Rattle.avs_parse.specs.declared.state.OpenFunction.{OpenFunction}
 use Rattle.avs_parse.specs.declared.around.Levels.{Levels}
@@ -31,17 +33,26 @@ use_view u.Return = m.to_return
 use_view (u.Arm arms) = m.to_arm (map arm_view arms.items)
 use_view u.While = m.to_while
 use_view (u.First x) = m.to_first x
-use_view (u.Last x a) = m.to_last x (expr_view a)
-use_view (u.Step x a b) = m.to_step x (expr_view a) (expr_view b)
+use_view (u.Last x a) = m.to_last x (expr_view a.value)
+use_view (u.Step x a b) = m.to_step x (expr_view a.value) (expr_view b.value)
 
 abbrev pub for_view : ForHead → m.Owner
-for_view f = m.for_of f.name (expr_view f.first) (expr_view f.last) (option_map expr_view f.step)
+for_view f = m.for_of f.name (expr_view f.first.value) (expr_view f.last.value) (option_map (λ e. expr_view e.value) f.step)
 
 abbrev pub owner_view : Owner → m.Owner
-owner_view (o.Arm arms e) = m.arm_of (map arm_view arms.items) (expr_view e)
+owner_view (o.Arm arms e) = m.arm_of (map arm_view arms.items) (expr_view e.value)
 owner_view (o.Else arms) = m.else_of (map arm_view arms.items)
-owner_view (o.While e) = m.while_of (expr_view e)
+owner_view (o.While e) = m.while_of (expr_view e.value)
 owner_view (o.For f) = for_view f
+
+abbrev pub ended_view : Ended → t.Kind
+ended_view (e.Value a) = t.value (expr_view a.value)
+ended_view (e.Global x a) = t.global x (expr_view a.value)
+ended_view (e.Assign x a) = t.assign x (expr_view a.value)
+ended_view (e.Return a) = t.return (expr_view a.value)
+ended_view (e.If arms other) = t.if_ (arms_of (map arm_view arms.items)) (else_of (option_map (λ body. block_view body.items) other))
+ended_view (e.While c body) = t.while (expr_view c.value) (block_view body.items)
+ended_view (e.For f body) = t.for f.name (expr_view f.first.value) (expr_view f.last.value) (option_map (λ c. expr_view c.value) f.step) (block_view body.items)
 
 -- what stands outside of the braces of statements
 abbrev pub outermost_view : Option OpenFunction → List t.Function → m.Levels

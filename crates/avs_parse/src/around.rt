@@ -1,13 +1,13 @@
 // What stands around a statement or a function, and how braces change it.
-ghost use Rattle.std.specs.Prelude.{◌≡◌, ◌∷◌, ◌++◌, [], map, IfOk};
-ghost use Rattle.avs_tree.specs.View.{kind_view, statement_view};
+ghost use Rattle.std.specs.Prelude.{◌≡◌, ◌∷◌, ◌++◌, [], map, option_map, IfOk};
+ghost use Rattle.avs_tree.specs.View.{expr_view, function_view, kind_view, statement_view};
 ghost use Rattle.avs_place.specs.Machine as machine;
-ghost use Rattle.avs_parse.specs.ScriptViews.{Steps, inner, outer, level_view, levels_view, owner_view, step_view};
+ghost use Rattle.avs_parse.specs.ScriptViews.{Steps, ended_view, inner, outer, level_view, levels_view, owner_view, step_view};
 
 use crate::block::{close_level, close_outermost, goes, refused};
-use crate::state::{Level, OpenFunction, Owner, ScriptStep, Signature, StatementState};
+use crate::state::{Ended, Level, OpenFunction, Owner, ScriptStep, Signature, StatementState};
 use avs_frames::{Outcome, pushed};
-use avs_tree::{Function, Script, Statement, StatementKind};
+use avs_tree::{Expr, Function, Script, Statement, StatementKind};
 use std::alloc::Global;
 
 /// The open braces, the innermost last, and the functions of the script so far.
@@ -48,7 +48,69 @@ impl Drop for Around {
     }
 }
 
+// The step of a `for`, if there is one.
+fn unboxed(step: Option<Box<Expr>>) -> Option<Expr>
+    ensures { option_map expr_view result ≡ option_map (λ number. expr_view number.value) step }
+{
+    match step {
+        Some(number) => Some(Box::into_inner(number)),
+        None => None,
+    }
+}
+
+// What a statement does, as the tree has it.
+fn kind(ended: Ended) -> StatementKind
+    ensures { kind_view result ≡ ended_view ended }
+{
+    match ended {
+        Ended::Value(value) => StatementKind::Value(Box::into_inner(value)),
+        Ended::Global(name, value) => {
+            let value = Box::into_inner(value);
+            StatementKind::Global { name, value }
+        }
+        Ended::Assign(name, value) => {
+            let value = Box::into_inner(value);
+            StatementKind::Assign { name, value }
+        }
+        Ended::Return(value) => StatementKind::Return(Box::into_inner(value)),
+        Ended::If(arms, other) => StatementKind::If { arms, other },
+        Ended::While(condition, body) => {
+            let condition = Box::into_inner(condition);
+            StatementKind::While { condition, body }
+        }
+        Ended::For(head, body) => StatementKind::For {
+            name: head.name,
+            first: Box::into_inner(head.first),
+            last: Box::into_inner(head.last),
+            step: unboxed(head.step),
+            body,
+        },
+    }
+}
+
+// The statements with one more.
+#[tactic(auto, using(crate::proofs::RowLemmas::statements_push))]
+fn with_statement(before: Vec<Statement>, ended: Ended, line: u32) -> Outcome<Vec<Statement>>
+    ensures { IfOk result (λ made. map statement_view made.items
+        ≡ map statement_view before.items ++ (ended_view ended, line) ∷ []) }
+{
+    let kind = kind(ended);
+    pushed(before, Statement { kind, line })
+}
+
 impl Levels {
+    /// No braces are open, after these functions.
+    #[tactic(auto, using(crate::proofs::LevelLemmas::levels_none))]
+    pub fn new(alloc: Global, functions: Vec<Function>) -> Levels
+        ensures { levels_view result ≡ machine.top (map function_view functions.items) }
+    {
+        Levels {
+            inner: Vec::new(alloc),
+            function: None,
+            functions,
+        }
+    }
+
     // The functions, without the braces.
     fn into_functions(self) -> Vec<Function>
         ensures { result ≡ self.functions }
@@ -71,12 +133,17 @@ impl Levels {
             function,
             functions,
         } = self;
-        let inner = pushed(inner, level)?;
-        Ok(Levels {
-            inner,
-            function,
-            functions,
-        })
+        match pushed(inner, level) {
+            Ok(inner) => Ok(Levels {
+                inner,
+                function,
+                functions,
+            }),
+            Err(error) => {
+                drop((function, functions));
+                Err(error)
+            }
+        }
     }
 
     // The right brace, after these statements.
@@ -115,24 +182,25 @@ impl Levels {
 
 impl Around {
     /// What stands around the next statement, after one more.
-    #[tactic(auto, using(crate::proofs::RowLemmas::statements_push))]
-    pub fn after(self, kind: StatementKind) -> Outcome<Around>
+    pub fn after(self, ended: Ended) -> Outcome<Around>
         ensures line { IfOk result (λ made. made.line ≡ self.line) }
         ensures levels { IfOk result (λ made. made.levels ≡ self.levels) }
         ensures before { IfOk result (λ made. map statement_view made.before.items
-            ≡ map statement_view self.before.items ++ (kind_view kind, self.line) ∷ []) }
+            ≡ map statement_view self.before.items ++ (ended_view ended, self.line) ∷ []) }
     {
         let Around {
             line,
             before,
             levels,
         } = self;
-        let before = pushed(before, Statement { kind, line })?;
-        Ok(Around {
-            line,
-            before,
-            levels,
-        })
+        match with_statement(before, ended, line) {
+            Ok(before) => Ok(Around {
+                line,
+                before,
+                levels,
+            }),
+            Err(error) => Err(error),
+        }
     }
 
     /// After the left brace of a statement.

@@ -1,14 +1,13 @@
 // The ends of statements, of blocks and of the script.
-ghost use Rattle.std.specs.Prelude.{◌≡◌, ◌∷◌, ◌++◌, [], Some, map, option_map, IfOk};
-ghost use Rattle.avs_tree.specs.Tree as tree;
-ghost use Rattle.avs_tree.specs.View.{arm_view, kind_view, function_view, statement_view, arms_of, else_of, block_view};
+ghost use Rattle.std.specs.Prelude.{◌≡◌, ◌∷◌, ◌++◌, [], Some, map, IfOk};
+ghost use Rattle.avs_tree.specs.View.{expr_view, arm_view, function_view, statement_view, block_view};
 ghost use Rattle.avs_place.specs.Machine as machine;
-ghost use Rattle.avs_parse.specs.ScriptViews.{Steps, inner, levels_view, owner_view, outermost_view, statement_state_view, step_view};
+ghost use Rattle.avs_parse.specs.ScriptViews.{Steps, ended_view, inner, levels_view, owner_view, outermost_view, statement_state_view, step_view};
 
 use crate::around::{Around, Levels};
-use crate::state::{OpenFunction, Owner, ScriptStep, Signature, State, StatementState};
+use crate::state::{Ended, OpenFunction, Owner, ScriptStep, Signature, State, StatementState};
 use avs_frames::{Outcome, Turn, pushed};
-use avs_tree::{Arm, Function, Punctuation, Statement, StatementKind, Symbol};
+use avs_tree::{Arm, Expr, Function, Punctuation, Statement, Symbol};
 use std::alloc::Global;
 
 /// The token cannot stand there. What was read is dropped here: dropped in place, each part of it would be a step of the
@@ -26,35 +25,25 @@ pub fn goes(here: StatementState, around: Around) -> ScriptStep
     ScriptStep::Goes(State::Statement(here, around))
 }
 
-/// `if` with these arms.
-pub fn if_kind(arms: Vec<Arm>, other: Option<Vec<Statement>>) -> StatementKind
-    ensures { kind_view result ≡ tree.if_ (arms_of (map arm_view arms.items))
-        (else_of (option_map (λ body. block_view body.items) other)) }
-{
-    StatementKind::If { arms, other }
-}
-
 // After a statement that ends with a brace.
-fn closed(kind: StatementKind, around: Around) -> Outcome<ScriptStep>
+fn closed(ended: Ended, around: Around) -> Outcome<ScriptStep>
     ensures { Steps result (machine.goes (machine.at machine.statement_next around.line
-        (map statement_view around.before.items ++ (kind_view kind, around.line) ∷ []) (levels_view around.levels))) }
+        (map statement_view around.before.items ++ (ended_view ended, around.line) ∷ []) (levels_view around.levels))) }
 {
-    match around.after(kind) {
+    match around.after(ended) {
         Ok(around) => Ok(goes(StatementState::StatementNext, around)),
         Err(error) => Err(error),
     }
 }
 
-// The right brace of an arm.
+// The arms with one more.
 #[tactic(auto, using(crate::proofs::RowLemmas::arms_push))]
-fn close_arm(arms: Vec<Arm>, last: Arm, around: Around) -> Outcome<ScriptStep>
-    ensures { Steps result (machine.goes (inner around (machine.at
-        (machine.after_arm (map arm_view arms.items ++ arm_view last ∷ []))))) }
+fn with_arm(arms: Vec<Arm>, condition: Box<Expr>, body: Vec<Statement>) -> Outcome<Vec<Arm>>
+    ensures { IfOk result (λ made. map arm_view made.items
+        ≡ map arm_view arms.items ++ (expr_view condition.value, block_view body.items) ∷ []) }
 {
-    match pushed(arms, last) {
-        Ok(arms) => Ok(goes(StatementState::AfterArm(arms), around)),
-        Err(error) => Err(error),
-    }
+    let condition = Box::into_inner(condition);
+    pushed(arms, Arm { condition, body })
 }
 
 /// The right brace of a statement.
@@ -63,38 +52,27 @@ pub fn close_level(owner: Owner, body: Vec<Statement>, around: Around) -> Outcom
         (inner around (machine.level (owner_view owner)))) }
 {
     match owner {
-        Owner::Arm(arms, condition) => close_arm(arms, Arm { condition, body }, around),
-        Owner::Else(arms) => closed(if_kind(arms, Some(body)), around),
-        Owner::While(condition) => closed(StatementKind::While { condition, body }, around),
-        Owner::For(head) => closed(
-            StatementKind::For {
-                name: head.name,
-                first: head.first,
-                last: head.last,
-                step: head.step,
-                body,
-            },
-            around,
-        ),
+        Owner::Arm(arms, condition) => match with_arm(arms, condition, body) {
+            Ok(arms) => Ok(goes(StatementState::AfterArm(arms), around)),
+            Err(error) => Err(error),
+        },
+        Owner::Else(arms) => closed(Ended::If(arms, Some(body)), around),
+        Owner::While(condition) => closed(Ended::While(condition, body), around),
+        Owner::For(head) => closed(Ended::For(head, body), around),
     }
 }
 
-// The right brace of a function.
-#[tactic(auto, using(crate::proofs::RowLemmas::functions_push, crate::proofs::LevelLemmas::levels_none))]
-fn close_function(
-    alloc: Global,
-    function: OpenFunction,
-    body: Vec<Statement>,
+// The functions with one more.
+#[tactic(auto, using(crate::proofs::RowLemmas::functions_push))]
+fn with_function(
     functions: Vec<Function>,
-) -> Outcome<ScriptStep>
-    ensures { Steps result (machine.close_by (map statement_view body.items)
-        (outermost_view (Some function) (map function_view functions.items))) }
+    signature: Signature,
+    line: u32,
+    body: Vec<Statement>,
+) -> Outcome<Vec<Function>>
+    ensures { IfOk result (λ made. map function_view made.items ≡ map function_view functions.items
+        ++ machine.function_of signature.name signature.params.items line (map statement_view body.items) ∷ []) }
 {
-    let OpenFunction {
-        signature,
-        line,
-        before,
-    } = function;
     let Signature { name, params } = signature;
     let function = Function {
         name,
@@ -102,21 +80,10 @@ fn close_function(
         body,
         line,
     };
-    let functions = pushed(functions, function)?;
-    let levels = Levels {
-        inner: Vec::new(alloc),
-        function: None,
-        functions,
-    };
-    let around = Around {
-        line,
-        before,
-        levels,
-    };
-    Ok(goes(StatementState::StatementNext, around))
+    pushed(functions, function)
 }
 
-/// The right brace outside of the braces of statements.
+/// The right brace outside of the braces of statements: that of a function, if there is one.
 pub fn close_outermost(
     alloc: Global,
     function: Option<OpenFunction>,
@@ -126,9 +93,25 @@ pub fn close_outermost(
     ensures { Steps result (machine.close_by (map statement_view body.items)
         (outermost_view function (map function_view functions.items))) }
 {
-    match function {
-        Some(function) => close_function(alloc, function, body, functions),
-        None => Ok(refused((body, functions))),
+    let OpenFunction {
+        signature,
+        line,
+        before,
+    } = match function {
+        Some(function) => function,
+        None => return Ok(refused((body, functions))),
+    };
+    match with_function(functions, signature, line, body) {
+        Ok(functions) => {
+            let levels = Levels::new(alloc, functions);
+            let around = Around {
+                line,
+                before,
+                levels,
+            };
+            Ok(goes(StatementState::StatementNext, around))
+        }
+        Err(error) => Err(error),
     }
 }
 

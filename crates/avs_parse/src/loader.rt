@@ -1,5 +1,7 @@
 // `load`: the tree of a text, with the line of its end.
 ghost use Rattle.std.specs.Prelude.{◌≡◌, ◌<◌, ◌-◌, ◌^◌, length};
+ghost use Rattle.avs_lex.specs.TokenList.{IsTokenList};
+ghost use Rattle.avs_lex.specs.Tokens.{Tokens};
 ghost use Rattle.avs_parse.specs.Load.{script_of, last_line};
 ghost use Rattle.avs_parse.specs.Loads.{Loads};
 
@@ -26,22 +28,33 @@ fn last_line(tokens: &[Token]) -> u32
     }
 }
 
+// The tree of a text with these tokens, or the first fault of them.
+#[tactic(auto, using(crate::proofs::LoadLemmas::tree_is))]
+fn tree_of(alloc: Global, text: &str, tokens: &[Token]) -> Result<Loaded, LoadFault>
+    requires tokens { Tokens text.now tokens.now }
+    requires list { IsTokenList text.now tokens.now }
+    ensures { Loads (script_of text.now) result }
+{
+    match parse(alloc, text, tokens) {
+        Ok(script) => {
+            let last_line = last_line(tokens);
+            Ok(Loaded { script, last_line })
+        }
+        Err(ParseError::Syntax { token: _, line }) => Err(LoadFault::Syntax { line }),
+        Err(ParseError::NestLimit { token: _, line }) => Err(LoadFault::NestLimit { line }),
+        Err(ParseError::Memory) => Err(LoadFault::Memory),
+    }
+}
+
 /// The tree of a text, or its first fault.
-#[tactic(auto, using(crate::proofs::LoadLemmas::lexical_fault, crate::proofs::LoadLemmas::tree_is))]
+#[tactic(auto, using(crate::proofs::LoadLemmas::lexical_fault))]
 pub fn load(alloc: Global, text: &str) -> Result<Loaded, LoadFault>
     requires { length text.now < 2 ^ 32 - 1 }
     ensures { Loads (script_of text.now) result }
 {
-    let tokens = match lex(alloc, text) {
-        Ok(tokens) => tokens,
-        Err(LexError::Fault { kind, line }) => return Err(LoadFault::Lex { kind, line }),
-        Err(LexError::Memory) => return Err(LoadFault::Memory),
-    };
-    let last_line = last_line(&tokens);
-    match parse(alloc, text, &tokens) {
-        Ok(script) => Ok(Loaded { script, last_line }),
-        Err(ParseError::Syntax { token: _, line }) => Err(LoadFault::Syntax { line }),
-        Err(ParseError::NestLimit { token: _, line }) => Err(LoadFault::NestLimit { line }),
-        Err(ParseError::Memory) => Err(LoadFault::Memory),
+    match lex(alloc, text) {
+        Ok(tokens) => tree_of(alloc, text, &tokens),
+        Err(LexError::Fault { kind, line }) => Err(LoadFault::Lex { kind, line }),
+        Err(LexError::Memory) => Err(LoadFault::Memory),
     }
 }

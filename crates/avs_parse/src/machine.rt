@@ -33,15 +33,10 @@ pub enum Verdict {
 }
 
 // Nothing was read.
-#[tactic(auto, using(crate::proofs::LevelLemmas::levels_none))]
 fn start(alloc: Global) -> State
     ensures { state_view result ≡ machine.start }
 {
-    let levels = Levels {
-        inner: Vec::new(alloc),
-        function: None,
-        functions: Vec::new(alloc),
-    };
+    let levels = Levels::new(alloc, Vec::new(alloc));
     let around = Around {
         line: 0,
         before: Vec::new(alloc),
@@ -80,11 +75,17 @@ pub fn run(alloc: Global, text: &str, tokens: &[Token]) -> Outcome<Verdict>
     let mut state = start(alloc);
     let mut rest = tokens;
     while let [token, after @ ..] = rest {
-        match advance(state, Turn::new(alloc, text, token))? {
+        let step = match advance(state, Turn::new(alloc, text, token)) {
+            Ok(step) => step,
+            Err(error) => return Err(error),
+        };
+        match step {
             ScriptStep::Refused => return Ok(Verdict::Stops(rest.len())),
             ScriptStep::Whole(script) => return Ok(alone(script, text, after)),
             ScriptStep::Goes(next) => {
                 if next.is_deeper(NESTING_LIMIT) {
+                    // Dropped in place, each part of the state would be a step of this proof.
+                    drop(next);
                     return Ok(Verdict::TooDeep(rest.len()));
                 }
                 state = next;
@@ -93,5 +94,6 @@ pub fn run(alloc: Global, text: &str, tokens: &[Token]) -> Outcome<Verdict>
             }
         }
     }
+    drop(state);
     Ok(Verdict::Stops(0))
 }

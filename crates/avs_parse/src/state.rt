@@ -22,30 +22,41 @@ pub enum Use {
     /// `for (x =`
     First(Text),
     /// `for (x = a,`
-    Last(Text, Expr),
+    Last(Text, Box<Expr>),
     /// `for (x = a, b,`
-    Step(Text, Expr, Expr),
+    Step(Text, Box<Expr>, Box<Expr>),
 }
 
 /// `for (x = a, b)` or `for (x = a, b, c)`
 #[derive(Drop)]
 pub struct ForHead {
     pub name: Text,
-    pub first: Expr,
-    pub last: Expr,
-    pub step: Option<Expr>,
+    pub first: Box<Expr>,
+    pub last: Box<Expr>,
+    pub step: Option<Box<Expr>>,
 }
 
 /// What braces in a statement belong to.
 #[derive(Drop)]
 pub enum Owner {
     /// `if (c)`, or `else if (c)` after these arms
-    Arm(Vec<Arm>, Expr),
+    Arm(Vec<Arm>, Box<Expr>),
     /// `else` after these arms
     Else(Vec<Arm>),
     /// `while (c)`
-    While(Expr),
+    While(Box<Expr>),
     For(ForHead),
+}
+
+/// What a whole statement does. Its expressions are still in boxes.
+pub enum Ended {
+    Value(Box<Expr>),
+    Global(Text, Box<Expr>),
+    Assign(Text, Box<Expr>),
+    Return(Box<Expr>),
+    If(Vec<Arm>, Option<Vec<Statement>>),
+    While(Box<Expr>, Vec<Statement>),
+    For(ForHead, Vec<Statement>),
 }
 
 /// Open braces of a statement: its line, and the statements before it.
@@ -125,7 +136,6 @@ pub enum State {
 }
 
 /// What a token does to a script.
-#[derive(Drop)]
 pub enum ScriptStep {
     /// The token cannot stand there.
     Refused,

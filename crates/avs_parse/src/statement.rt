@@ -1,20 +1,19 @@
 // What a token does to a statement.
-ghost use Rattle.std.specs.Prelude.{◌≡◌, ◌∷◌, ◌++◌, [], Some, map, IfOk, if◌then◌else◌};
-ghost use Rattle.avs_tree.specs.Tree as tree;
-ghost use Rattle.avs_tree.specs.View.{expr_view, kind_view, arm_view, statement_view, arms_of};
+ghost use Rattle.std.specs.Prelude.{◌≡◌, ◌∷◌, ◌++◌, [], Some, map, if◌then◌else◌};
+ghost use Rattle.avs_tree.specs.View.{expr_view, arm_view, statement_view};
 ghost use Rattle.avs_tree.specs.declared.symbol.Punctuation.TheVariants.{RightParen};
 ghost use Rattle.avs_place.specs.Next.{is_punctuation};
 ghost use Rattle.avs_place.specs.ExprMachine as expr;
 ghost use Rattle.avs_place.specs.Machine as machine;
-ghost use Rattle.avs_frames.specs.ExprViews.{expr_state_view, expr_step_view, frames_view};
-ghost use Rattle.avs_parse.specs.ScriptViews.{Steps, inner, levels_view, owner_view, statement_state_view, step_view, use_view};
+ghost use Rattle.avs_frames.specs.ExprViews.{expr_state_view, frames_view};
+ghost use Rattle.avs_parse.specs.ScriptViews.{Steps, ended_view, inner, levels_view, owner_view, statement_state_view, step_view, use_view};
 ghost use Rattle.avs_frames.specs.Seen.{seen};
 
 use crate::around::Around;
-use crate::block::{done, goes, if_kind, refused};
-use crate::state::{ForHead, HeadState, Owner, ScriptStep, State, StatementState, Use};
+use crate::block::{done, goes, refused};
+use crate::state::{Ended, ForHead, HeadState, Owner, ScriptStep, State, StatementState, Use};
 use avs_frames::{ExprState, ExprStep, Frame, Outcome, Turn, expr_step, operand};
-use avs_tree::{Arm, Expr, Keyword, Punctuation, StatementKind, Symbol};
+use avs_tree::{Arm, Expr, Keyword, Punctuation, Symbol};
 use fv_io::Text;
 use std::alloc::Global;
 
@@ -64,36 +63,29 @@ fn function(around: Around) -> ScriptStep
     ScriptStep::Goes(State::Head(HeadState::AfterFunction, around))
 }
 
-// After the first token of an expression that is a statement, or of the name before `=`.
-fn value_step(step: ExprStep, around: Around) -> ScriptStep
-    ensures { step_view result ≡ inner around (machine.in_statement (expr_step_view step) machine.to_value) }
-{
-    match step {
-        ExprStep::Keeps(state, frames) => {
-            let here = StatementState::InExpression(Use::Value, state, frames);
-            goes(here, around)
-        }
-        other => refused((other, around)),
-    }
-}
-
 // The first token of an expression that is a statement, or of the name before `=`.
 #[tactic(auto, using(avs_frames::proofs::FrameLemmas::frames_none))]
 fn value(around: Around, turn: Turn<'_>) -> Outcome<ScriptStep>
     ensures { Steps result (inner around (machine.in_statement (expr.operand [] (seen turn.entry)) machine.to_value)) }
 {
     match operand(Vec::new(turn.alloc), turn) {
-        Ok(step) => Ok(value_step(step, around)),
+        Ok(ExprStep::Keeps(state, frames)) => {
+            let here = StatementState::InExpression(Use::Value, state, frames);
+            Ok(goes(here, around))
+        }
+        Ok(ExprStep::Refused) => Ok(refused(around)),
+        Ok(ExprStep::Leaves(expr)) => Ok(refused((expr, around))),
         Err(error) => Err(error),
     }
 }
 
-// The first token of a statement in this line.
-fn begin(around: Around, turn: Turn<'_>) -> Outcome<ScriptStep>
-    ensures { Steps result
-        (inner around (machine.items_by (Some turn.entry.symbol) (expr.operand [] (seen turn.entry)))) }
+// The first token of a statement.
+fn statement(mut around: Around, turn: Turn<'_>) -> Outcome<ScriptStep>
+    ensures { Steps result (machine.items_by (Some turn.entry.symbol) (expr.operand [] (seen turn.entry))
+        turn.entry.line (map statement_view around.before.items) (levels_view around.levels)) }
 {
     let alloc = turn.alloc;
+    around.line = turn.line;
     match turn.symbol {
         Symbol::Punctuation(Punctuation::Newline) => Ok(goes(
             StatementState::StatementNext,
@@ -116,46 +108,43 @@ fn begin(around: Around, turn: Turn<'_>) -> Outcome<ScriptStep>
     }
 }
 
-// The first token of a statement.
-fn statement(mut around: Around, turn: Turn<'_>) -> Outcome<ScriptStep>
-    ensures { Steps result (machine.items_by (Some turn.entry.symbol) (expr.operand [] (seen turn.entry))
-        turn.entry.line (map statement_view around.before.items) (levels_view around.levels)) }
-{
-    around.line = turn.line;
-    begin(around, turn)
-}
-
 // ---- after an expression
 
 // After the last expression of a statement.
-fn finish(kind: StatementKind, around: Around, turn: Turn<'_>) -> Outcome<ScriptStep>
+fn finish(ended: Ended, around: Around, turn: Turn<'_>) -> Outcome<ScriptStep>
     ensures { Steps result (machine.done_by (Some turn.entry.symbol)
-        (map statement_view around.before.items ++ (kind_view kind, around.line) ∷ [])
+        (map statement_view around.before.items ++ (ended_view ended, around.line) ∷ [])
         around.line (levels_view around.levels)) }
 {
-    match around.after(kind) {
+    match around.after(ended) {
         Ok(around) => done(around, turn),
         Err(error) => Err(error),
     }
 }
 
 // After an expression that is a statement, unless it is the name before `=`.
-fn after_value(expr: Expr, around: Around, turn: Turn<'_>) -> Outcome<ScriptStep>
-    ensures { Steps result (inner around (machine.used machine.to_value (expr_view expr)) (seen turn.entry)) }
+fn after_value(expr: Box<Expr>, around: Around, turn: Turn<'_>) -> Outcome<ScriptStep>
+    ensures { Steps result (inner around (machine.used machine.to_value (expr_view expr.value)) (seen turn.entry)) }
 {
     if !turn.is(Punctuation::Assign) {
-        return finish(StatementKind::Value(expr), around, turn);
+        return finish(Ended::Value(expr), around, turn);
     }
-    match expr {
+    match Box::into_inner(expr) {
         Expr::Name { name, line: _ } => Ok(expression_next(turn.alloc, Use::Assign(name), around)),
         other => Ok(refused((other, around))),
     }
 }
 
 // After the last number of a `for`, unless its step follows.
-fn after_last(name: Text, first: Expr, last: Expr, around: Around, turn: Turn<'_>) -> ScriptStep
+fn after_last(
+    name: Text,
+    first: Box<Expr>,
+    last: Box<Expr>,
+    around: Around,
+    turn: Turn<'_>,
+) -> ScriptStep
     ensures { step_view result
-        ≡ inner around (machine.used (machine.to_last name (expr_view first)) (expr_view last)) (seen turn.entry) }
+        ≡ inner around (machine.used (machine.to_last name (expr_view first.value)) (expr_view last.value)) (seen turn.entry) }
 {
     if turn.is(Punctuation::Comma) {
         return expression_next(turn.alloc, Use::Step(name, first, last), around);
@@ -170,15 +159,19 @@ fn after_last(name: Text, first: Expr, last: Expr, around: Around, turn: Turn<'_
 }
 
 // After a whole expression.
-fn after_expression(purpose: Use, expr: Expr, around: Around, turn: Turn<'_>) -> Outcome<ScriptStep>
-    ensures { Steps result (inner around (machine.used (use_view purpose) (expr_view expr)) (seen turn.entry)) }
+fn after_expression(
+    purpose: Use,
+    value: Box<Expr>,
+    around: Around,
+    turn: Turn<'_>,
+) -> Outcome<ScriptStep>
+    ensures { Steps result (inner around (machine.used (use_view purpose) (expr_view value.value)) (seen turn.entry)) }
 {
-    let value = expr;
     match purpose {
         Use::Value => after_value(value, around, turn),
-        Use::Global(name) => finish(StatementKind::Global { name, value }, around, turn),
-        Use::Assign(name) => finish(StatementKind::Assign { name, value }, around, turn),
-        Use::Return => finish(StatementKind::Return(value), around, turn),
+        Use::Global(name) => finish(Ended::Global(name, value), around, turn),
+        Use::Assign(name) => finish(Ended::Assign(name, value), around, turn),
+        Use::Return => finish(Ended::Return(value), around, turn),
         Use::Arm(arms) => Ok(braces_after(Owner::Arm(arms, value), around, turn)),
         Use::While => Ok(braces_after(Owner::While(value), around, turn)),
         Use::First(name) => {
@@ -199,21 +192,6 @@ fn after_expression(purpose: Use, expr: Expr, around: Around, turn: Turn<'_>) ->
     }
 }
 
-// After a token of an expression.
-fn after_step(step: ExprStep, purpose: Use, around: Around, turn: Turn<'_>) -> Outcome<ScriptStep>
-    ensures { Steps result (inner around
-        (machine.expression_by (expr_step_view step) (use_view purpose)) (seen turn.entry)) }
-{
-    match step {
-        ExprStep::Refused => Ok(refused((purpose, around))),
-        ExprStep::Keeps(state, frames) => {
-            let here = StatementState::InExpression(purpose, state, frames);
-            Ok(goes(here, around))
-        }
-        ExprStep::Leaves(expr) => after_expression(purpose, expr, around, turn),
-    }
-}
-
 // In an expression.
 fn in_expression(
     purpose: Use,
@@ -226,7 +204,12 @@ fn in_expression(
         (machine.in_expression (use_view purpose) (expr_state_view state) (frames_view frames.items))) (seen turn.entry)) }
 {
     match expr_step(state, frames, turn) {
-        Ok(step) => after_step(step, purpose, around, turn),
+        Ok(ExprStep::Refused) => Ok(refused((purpose, around))),
+        Ok(ExprStep::Keeps(state, frames)) => {
+            let here = StatementState::InExpression(purpose, state, frames);
+            Ok(goes(here, around))
+        }
+        Ok(ExprStep::Leaves(expr)) => after_expression(purpose, expr, around, turn),
         Err(error) => {
             // Dropped in place, each of its parts would be a step of this proof.
             drop(purpose);
@@ -250,18 +233,6 @@ fn body(owner: Owner, around: Around, turn: Turn<'_>) -> Outcome<ScriptStep>
     }
 }
 
-// The first token of the statement after an `if`.
-fn after_if(arms: Vec<Arm>, around: Around, turn: Turn<'_>) -> Outcome<ScriptStep>
-    ensures { Steps result (machine.items_by (Some turn.entry.symbol) (expr.operand [] (seen turn.entry)) turn.entry.line
-        (map statement_view around.before.items ++ (tree.if_ (arms_of (map arm_view arms.items)) tree.no_else, around.line) ∷ [])
-        (levels_view around.levels)) }
-{
-    match around.after(if_kind(arms, None)) {
-        Ok(around) => statement(around, turn),
-        Err(error) => Err(error),
-    }
-}
-
 // After an arm: newlines, `else`, or the next statement.
 fn after_arm(arms: Vec<Arm>, around: Around, turn: Turn<'_>) -> Outcome<ScriptStep>
     ensures { Steps result (inner around (machine.arms_by (Some turn.entry.symbol)
@@ -273,7 +244,10 @@ fn after_arm(arms: Vec<Arm>, around: Around, turn: Turn<'_>) -> Outcome<ScriptSt
             around,
         )),
         Symbol::Keyword(Keyword::Else) => Ok(goes(StatementState::AfterElse(arms), around)),
-        _ => after_if(arms, around, turn),
+        _ => match around.after(Ended::If(arms, None)) {
+            Ok(around) => statement(around, turn),
+            Err(error) => Err(error),
+        },
     }
 }
 

@@ -7,8 +7,8 @@ use Rattle.avs_frames.proofs.expression.after.Given as goal
 
 abbrev pub invariant-loop-frames : goal.invariant-loop-frames
 invariant-loop-frames l =
-    x.after l.precedence (expr_view l.expr) (frames_view l.frames.items) (seen l.turn)
-    ≡ x.after l.fn.precedence (expr_view l.fn.expr) (frames_view l.fn.frames.items) (seen l.turn)
+    x.after l.precedence (expr_view l.expr.value) (frames_view l.frames.items) (seen l.turn)
+    ≡ x.after l.fn.precedence (expr_view l.fn.expr.value) (frames_view l.fn.frames.items) (seen l.turn)
 
 abbrev pub decreases-loop-frames : goal.decreases-loop-frames
 decreases-loop-frames l = length l.frames.items
