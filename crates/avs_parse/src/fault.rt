@@ -13,7 +13,7 @@ pub enum ParseError {
 }
 
 /// Why a text has no tree. Lines are counted from 1.
-#[derive(Clone, Copy, Debug, PartialEq, Eq)]
+#[derive(Clone, Copy)]
 pub enum LoadFault {
     /// The first fault of the text, which has no tokens.
     Lex { kind: LexKind, line: u32 },
