@@ -52,7 +52,7 @@ FOUR = head(1, 1) + b"".join(b"FRAME\n" + bytes([n]) for n in range(4))
 REVERSED = head(1, 1) + b"".join(b"FRAME\n" + bytes([n]) for n in reversed(range(4)))
 # A row is longer than the pieces in which rows with gaps between them are put.
 WIDE = 40_000
-PIECE = 32_768
+PIECE = 8_192
 
 
 def stack_of(clips):

@@ -2,7 +2,19 @@
 ghost use Rattle.std.specs.Prelude.{None, ◌≡◌};
 
 use fv_io::{Failed, Sink};
-use std::io::Write;
+use std::io::{self, Write};
+
+/// A piece is written in parts of this number of bytes. So the reader of a pipe takes one part while the next is copied. A part
+/// that fills the pipe makes each end wait for the other.
+const PART: usize = 8_192;
+
+// Writes a piece in parts, and flushes the stream.
+fn write_parts<W: Write>(stream: &mut W, piece: &[u8]) -> io::Result<()> {
+    for part in piece.chunks(PART) {
+        stream.write_all(part)?;
+    }
+    stream.flush()
+}
 
 /// A standard stream. Each piece is flushed.
 #[derive(Drop)]
@@ -26,9 +38,7 @@ impl<W: Write + Drop> Sink for RealSink<W> {
     ghost faults = { λ s. s.faults };
 
     fn put(&mut self, piece: &[u8]) -> Result<(), Failed> {
-        let wrote = self.stream.write_all(piece);
-        let flushed = self.stream.flush();
-        if wrote.is_ok() && flushed.is_ok() {
+        if write_parts(&mut self.stream, piece).is_ok() {
             Ok(())
         } else {
             self.faults = self.faults.saturating_add(1);

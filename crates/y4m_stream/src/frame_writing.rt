@@ -14,7 +14,7 @@ const HEAD: &[u8] = b"FRAME\n";
 /// A frame that has at most this number of bytes with its line is put in one piece.
 const SMALL: usize = 16_384;
 /// Rows with gaps between them are put in pieces of at most this number of bytes, and longer rows one by one.
-const PIECE: usize = 32_768;
+const PIECE: usize = 8_192;
 
 // Makes room for `size` bytes in a buffer whose first `end` bytes are still to be put. If there is no room, they are
 // put now. Answers how many bytes are still to be put.
@@ -98,7 +98,7 @@ fn write_long_rows<K: Sink>(out: &mut K, frame: &Frame, plane: u32) -> Result<()
 // Puts the rows of a plane in pieces.
 fn write_short_rows<K: Sink>(out: &mut K, frame: &Frame, plane: u32) -> Result<(), Failed>
     requires plane { plane < planes frame.now.shape.kind }
-    requires room { row_bytes frame.now.shape plane ≤ 2 ^ 15 }
+    requires room { row_bytes frame.now.shape plane ≤ 2 ^ 13 }
     ensures put { OnOk result (Puts K.Sink out.old out.new (bytes_of_plane frame.now plane)) }
     ensures cut { OnErr result (PutsPrefix K.Sink out.old out.new (bytes_of_plane frame.now plane)) }
     ensures later { IsLater K.Sink out.old out.new }
