@@ -1,5 +1,5 @@
 -- Squares of nine weights.
-use Rattle.std.proofs.Common.{◌≡◌, ◌∙◌, ℕ, ◌+◌, ◌<◌, ◌≤◌, List, [], ◌∷◌, length, get_or, drop, Bool, true, false, ap, arith, refl}
+use Rattle.std.proofs.Common.{◌≡◌, ◌∙◌, ℕ, ◌+◌, ◌*◌, ◌<◌, ◌≤◌, List, [], ◌∷◌, length, get_or, drop, Bool, true, false, ap, arith, refl}
 use Rattle.std.specs.Prelude.{ℤ, pos, unsigned_abs, ◌+ℤ◌, ◌*ℤ◌, int_lt, ◌||◌, if◌then◌else◌}
 use Rattle.std.proofs.lemmas.Int.{ints}
 use Rattle.std.proofs.lemmas.List.{drop_more}
@@ -8,25 +8,32 @@ use Rattle.fv_plane.specs.declared.format.Shape.{Shape}
 use Rattle.fv_plane.specs.Format.{plane_width, plane_height}
 use Rattle.fv_plane.specs.Look.{Look}
 use Rattle.clip_term.specs.Soft.{place, total, divisor_of, weighed}
-use Rattle.flt_rows.specs.declared.narrow.Ending.{Ending}
 use Rattle.flt_rows.specs.declared.narrow.Square.{Square}
 use Rattle.flt_rows.specs.declared.narrow.Weights.{Weights}
-use Rattle.flt_rows.specs.Squares.{size_of_all, entries_of, shown, weighed_at, weighed_square, weighed_around}
+use Rattle.flt_rows.specs.Squares.{size_of, size_of_all, size_of_square, entries_of, weighed_at, weighed_square, weighed_around}
 
 -- the places beside x, as they are brought into the row
-pub around_at : (square : Square) (ending : Ending) (above row below : List ℕ) (x left middle right v : ℕ)
+pub around_at : (square : Square) (show : ℤ → ℕ) (above row below : List ℕ) (x left middle right v : ℕ)
     → left ≡ place x 0 1 (length row) → middle ≡ place x 1 1 (length row) → right ≡ place x 2 1 (length row)
-    → v ≡ shown ending (weighed_square square above row below left middle right) → v ≡ shown ending (weighed_around square above row below x)
-around_at square ending above row below x left middle right v first second third is =
-    is ∙ ap (λ k. shown ending (weighed_square square above row below k middle right)) first
-    ∙ ap (λ k. shown ending (weighed_square square above row below (place x 0 1 (length row)) k right)) second
-    ∙ ap (λ k. shown ending (weighed_square square above row below (place x 0 1 (length row)) (place x 1 1 (length row)) k)) third
+    → v ≡ show (weighed_square square above row below left middle right) → v ≡ show (weighed_around square above row below x)
+around_at square show above row below x left middle right v first second third is =
+    is ∙ ap (λ k. show (weighed_square square above row below k middle right)) first
+    ∙ ap (λ k. show (weighed_square square above row below (place x 0 1 (length row)) k right)) second
+    ∙ ap (λ k. show (weighed_square square above row below (place x 0 1 (length row)) (place x 1 1 (length row)) k)) third
 
 -- SIZES
+
+-- the sizes of weights times a sample
+pub size_times : (weights : Weights) (most : ℕ) → size_of weights * most ≡ unsigned_abs weights.left * most + unsigned_abs weights.middle * most + unsigned_abs weights.right * most
+size_times weights most = omega arith
 
 -- one more weight
 pub size_more : (weights : List ℤ) (i : ℕ) (d : ℤ) → i < length weights → size_of_all (drop i weights) ≡ unsigned_abs (get_or weights i d) + size_of_all (drop (i + 1) weights)
 size_more weights i d h = ap size_of_all (drop_more weights i d h) ∙ sum_by-cons unsigned_abs (get_or weights i d) (drop (i + 1) weights)
+
+-- a square is as large as its weights together
+pub square_size : (square : Square) (weights : List ℤ) → entries_of square ≡ weights → size_of_square square ≡ size_of_all weights
+square_size square weights is = omega (arith, ap size_of_all is)
 
 size_of_sum : (a b : ℤ) → unsigned_abs (a +ℤ b) ≤ unsigned_abs a + unsigned_abs b
 size_of_sum a b = omega (arith, ints)

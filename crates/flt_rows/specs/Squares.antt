@@ -5,6 +5,7 @@ use Rattle.clip_term.specs.Soft.{place, sample_from}
 use Rattle.flt_rows.specs.declared.narrow.Ending.{Ending}
 use Rattle.flt_rows.specs.declared.narrow.Weights.{Weights}
 use Rattle.flt_rows.specs.declared.narrow.Square.{Square}
+use Rattle.flt_rows.specs.declared.wide_squares.WideEnding.{WideEnding}
 
 -- the sizes of weights, added up
 abbrev pub size_of_all : List ℤ → ℕ
@@ -45,6 +46,15 @@ weighed_around square above row below x =
 abbrev pub shown : Ending → ℤ → ℕ
 shown ending sum = sample_from 255 (int_div sum ending.divisor +ℤ (pos ending.more -ℤ pos ending.less))
 
+-- the same, of samples of two bytes
+abbrev pub shown_wide : WideEnding → ℤ → ℕ
+shown_wide ending sum =
+    sample_from ending.largest (int_div sum ending.divisor +ℤ (pos ending.more -ℤ pos ending.less))
+
+-- no sample of a row is over this one
+abbrev pub AreAtMost : ℕ → List ℕ → Type 0
+AreAtMost largest row = (x : ℕ) → slice_index row x ≤ largest
+
 -- a quotient by this divisor of a number below 2^15 is the number times the factor, without the lowest bits
 pub record IsNarrowReciprocal (divisor factor bits : ℕ) : Type 0 where
   pub some : 0 < divisor
@@ -59,3 +69,11 @@ pub record IsEnding (ending : Ending) : Type 0 where
   pub divisor : unsigned_abs ending.divisor ≤ 128
   pub more : ending.more ≤ 255
   pub less : ending.less ≤ 255
+
+-- sums below 2^15 in size end as samples of two bytes
+pub record IsWideEnding (ending : WideEnding) : Type 0 where
+  pub by : IsNarrowReciprocal (unsigned_abs ending.divisor) ending.by.factor ending.by.bits
+  pub divisor : unsigned_abs ending.divisor ≤ 128
+  pub more : ending.more < 2 ^ 15
+  pub less : ending.less < 2 ^ 15
+  pub largest : ending.largest < 2 ^ 15

@@ -7,4 +7,5 @@ pub mod narrow;
 pub mod reciprocal;
 pub mod wide;
 pub mod wide_reciprocal;
+pub mod wide_squares;
 pub mod wide_sums;

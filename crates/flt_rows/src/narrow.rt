@@ -85,9 +85,9 @@ fn times(weight: i16, sample: u8) -> i16
     weight * sample as i16
 }
 
-// The sum of two numbers whose sizes leave room for it.
-fn add(a: i16, b: i16) -> i16
-    requires { unsigned_abs a + unsigned_abs b ≤ 32640 }
+/// The sum of two numbers whose sizes leave room for it.
+pub fn add(a: i16, b: i16) -> i16
+    requires { unsigned_abs a + unsigned_abs b < 2 ^ 15 }
     ensures value { result ≡ a +ℤ b }
     ensures size { unsigned_abs result ≤ unsigned_abs a + unsigned_abs b }
 {
@@ -136,8 +136,8 @@ fn weigh_square(
     add(two, weigh(square.below, below, left, x, right))
 }
 
-// A quotient, by the upper half of a product of 16 bits.
-fn divide(n: u16, divisor: u16, by: NarrowReciprocal) -> u16
+/// A quotient, by the upper half of a product of 16 bits.
+pub fn divide(n: u16, divisor: u16, by: NarrowReciprocal) -> u16
     requires by { IsNarrowReciprocal divisor by.factor by.bits }
     requires small { n < 2 ^ 15 }
     ensures { result ≡ n / divisor }

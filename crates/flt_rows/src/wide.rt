@@ -44,9 +44,9 @@ fn mean_of_five(threshold: u16, a: u16, b: u16, middle: u16, c: u16, d: u16) -> 
     ((sum + 2) / 5) as u16
 }
 
-// The sample in column `x` of the bytes of a row.
+/// The sample in column `x` of the bytes of a row.
 #[inline(always)]
-fn sample(row: &[u8], x: usize) -> u16
+pub fn sample(row: &[u8], x: usize) -> u16
     requires { 2 * x + 1 < length row.now }
     ensures { result ≡ slice_index (wide_samples row.now) x }
 {

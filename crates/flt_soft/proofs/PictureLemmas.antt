@@ -1,6 +1,6 @@
 -- Pictures of one shape, and planes that stay.
 use Rattle.std.proofs.Common.{◌≡◌, ℕ, zero, suc, ◌+◌, ◌-◌, ◌*◌, ◌/◌, ◌%◌, ◌^◌, ◌<◌, ◌≤◌, ◌∙◌, List, [], ◌∷◌, length, map, get_or, refl, sym, ap, arith, Bool, true, false, inl, inr, eqb-true, eq-eqb}
-use Rattle.std.specs.Prelude.{ℤ, pos, ◌+ℤ◌, ◌*ℤ◌, int_div, ◌⊎◌, ◌||◌, if◌then◌else◌, ◌==◌, ◌&&◌, nat_le}
+use Rattle.std.specs.Prelude.{ℤ, pos, ◌+ℤ◌, ◌*ℤ◌, int_div, unsigned_abs, ◌⊎◌, ◌||◌, if◌then◌else◌, ◌==◌, ◌&&◌, nat_le}
 use Rattle.std.specs.List.{All, range_with_len}
 use Rattle.std.proofs.lemmas.List.{get_or_read, length-map}
 use Rattle.fv_plane.specs.declared.format.PixelType.{PixelType}
@@ -8,7 +8,7 @@ use Rattle.fv_plane.specs.declared.format.PixelType.TheVariants.{Y8, YV12, YV16,
 use Rattle.fv_plane.specs.declared.format.Shape.{Shape}
 use Rattle.fv_plane.specs.Bytes.{row_of_bytes, FitBytes}
 use Rattle.fv_plane.specs.Format.{IsLegal, largest_sample, plane_width, row_bytes, scale, sub_w}
-use Rattle.fv_plane.specs.Picture.{Picture, IsPicture}
+use Rattle.fv_plane.specs.Picture.{Picture, IsPicture, row_of}
 use Rattle.fv_plane.specs.Look.{Look, look_in, look_at, row_from}
 use Rattle.fv_plane.proofs.BytesLemmas.{row-bytes_of_row}
 use Rattle.fv_plane.proofs.CallerLemmas.{bytes_of_narrow, fit_row}
@@ -23,9 +23,13 @@ use Rattle.clip_term.specs.Soft.{near, softened, samples_at, soft_at, convolved,
 use Rattle.clip_term.specs.Terms.{no_picture}
 use Rattle.clip_term.proofs.BoundedLemmas as bounds
 use Rattle.clip_term.proofs.BoundedLemmas.{AllBounded, IsBounded}
+use Rattle.std.proofs.lemmas.Int.{unsigned_abs-mul}
+use Rattle.std.proofs.lemmas.Nat.{mul-le}
+use Rattle.flt_rows.specs.Rows.{IsBias}
+use Rattle.flt_rows.specs.Squares.{AreAtMost}
 use Rattle.flt_soft.specs.Pictures.{CanSoften, HaveShape, asked_count, bytes_made, keeps_plane, row_made, shape_of}
 use Rattle.flt_soft.proofs.SoftenLemmas.{look_seen}
-use Rattle.flt_rows.proofs.WeightLemmas.{times_one}
+use Rattle.flt_rows.proofs.WeightLemmas.{size_of_bias, times_one}
 
 -- a filter asks a frame
 pub some_asked : (filter : SoftOp) → 0 < asked_count filter
@@ -99,6 +103,37 @@ wide_few picture is p x y =
 -- and an eight bit colour is scaled by at most 256
 pub scale_few : (shape : Shape) → IsLegal shape → scale shape ≤ 256
 scale_few shape legal = (largest_by shape.bits (five_depths shape.kind shape.bits legal.depth)).1
+
+-- and by at most 64 where the samples have at most 15 bits
+small_by : (bits : ℕ) → (bits ≡ 8) ⊎ ((bits ≡ 10) ⊎ ((bits ≡ 12) ⊎ ((bits ≡ 14) ⊎ (bits ≡ 16)))) → 2 ^ bits - 1 < 2 ^ 15 → 2 ^ (bits - 8) ≤ 64
+small_by bits (inl is) small = rw is (omega arith)
+small_by bits (inr (inl is)) small = rw is (omega arith)
+small_by bits (inr (inr (inl is))) small = rw is (omega arith)
+small_by bits (inr (inr (inr (inl is)))) small = rw is (omega arith)
+small_by bits (inr (inr (inr (inr is)))) small = (let none = rw is at small in absurd (omega (arith, none)))
+
+-- so that a bias stays below 2^15
+pub scaled_small : (bias : ℤ) (shape : Shape) → IsBias bias → IsLegal shape → largest_sample shape < 2 ^ 15 → unsigned_abs (bias *ℤ pos (scale shape)) < 2 ^ 15
+scaled_small bias shape is legal small =
+    let few : scale shape ≤ 64 = small_by shape.bits (five_depths shape.kind shape.bits legal.depth) small in
+    omega (arith, unsigned_abs-mul bias (pos (scale shape)), mul-le (unsigned_abs bias) (scale shape) 255 64 (size_of_bias bias is) few)
+
+least_by : (bits : ℕ) → (bits ≡ 8) ⊎ ((bits ≡ 10) ⊎ ((bits ≡ 12) ⊎ ((bits ≡ 14) ⊎ (bits ≡ 16)))) → 255 ≤ 2 ^ bits - 1
+least_by bits (inl is) = rw is (omega arith)
+least_by bits (inr (inl is)) = rw is (omega arith)
+least_by bits (inr (inr (inl is))) = rw is (omega arith)
+least_by bits (inr (inr (inr (inl is)))) = rw is (omega arith)
+least_by bits (inr (inr (inr (inr is)))) = rw is (omega arith)
+
+-- weights whose sums stay below 2^15 have sizes of at most 128 together
+pub light_weights : (size : ℕ) (shape : Shape) → IsLegal shape → size * largest_sample shape < 2 ^ 15 → size ≤ 128
+light_weights size shape legal light =
+    let least : 255 ≤ largest_sample shape = least_by shape.bits (five_depths shape.kind shape.bits legal.depth) in
+    omega (arith, mul-le size 255 size (largest_sample shape) (omega arith) least, light)
+
+-- no sample of a row is over the largest
+pub row_fits : (picture : Picture) (p y most : ℕ) (row : List ℕ) → IsPicture picture → row ≡ row_of picture.planes p y → most ≡ largest_sample picture.shape → AreAtMost most row
+row_fits picture p y most row is same most_is x = rw (same, most_is) (is.bounded p x y)
 
 -- where a sample is one byte, the bytes are the samples
 pub narrow_made : (filter : SoftOp) (pictures : List Picture) (p y bytes : ℕ) → (shape_of pictures).bits ≡ 8 → bytes ≡ row_bytes (shape_of pictures) p

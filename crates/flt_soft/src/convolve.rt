@@ -190,11 +190,12 @@ fn convolve_in_32_bits(
     show_row(sums, divisor, by, bias, out);
 }
 
-// The sizes of the weights, added up.
-fn size_of_all(weights: &[i32]) -> u32
+/// The sizes of the weights, added up.
+pub fn size_of_all(weights: &[i32]) -> u32
     requires few { length weights.now ≤ 25 }
     requires weights { AreWeights weights.now }
-    ensures { result ≡ size_of_all weights.now }
+    ensures value { result ≡ size_of_all weights.now }
+    ensures size { result ≤ 25600 }
 {
     let mut size = 0;
     for weight in weights {
@@ -219,8 +220,8 @@ fn weights_at(weights: &[i32], k: usize) -> Weights
     }
 }
 
-// The weights as a square of three rows.
-fn square_of(weights: &[i32]) -> Square
+/// The weights as a square of three rows.
+pub fn square_of(weights: &[i32]) -> Square
     requires nine { length weights.now ≡ 9 }
     requires weights { AreWeights weights.now }
     ensures { entries_of result ≡ weights.now }

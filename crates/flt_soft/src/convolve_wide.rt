@@ -1,14 +1,18 @@
 // Sums of the samples around a place, where a sample has two bytes.
-ghost use Rattle.std.specs.Prelude.{◌≡◌, ◌<◌, ◌≤◌, ◌+◌, ◌*◌, ◌⊎◌, ℕ, pos, ◌*ℤ◌, length, EachIndex, slice_index, slice_index_or, vec_len};
+ghost use Rattle.std.specs.Prelude.{◌≡◌, ◌<◌, ◌≤◌, ◌+◌, ◌*◌, ◌^◌, ◌⊎◌, ℕ, pos, ◌-ℤ◌, ◌*ℤ◌, length, EachIndex, slice_index, slice_index_or, unsigned_abs, vec_len};
 ghost use Rattle.fv_plane.specs.Bytes.{wide_bytes};
-ghost use Rattle.fv_plane.specs.Format.{IsLegal, planes, plane_width, plane_height, sample_bytes, scale};
+ghost use Rattle.fv_plane.specs.Format.{IsLegal, largest_sample, planes, plane_width, plane_height, sample_bytes, scale};
 ghost use Rattle.fv_plane.specs.Look.{look_in, row_from};
 ghost use Rattle.fv_plane.specs.Picture.{row_of};
 ghost use Rattle.clip_term.specs.Soft.{side_of, weighed, convolved};
 ghost use Rattle.flt_rows.specs.Rows.{extended, AreWeights, IsBias, IsWithin, AreWithin};
+ghost use Rattle.flt_rows.specs.Squares.{size_of_all, IsWideEnding};
 
-use crate::convolve::{divisor_of, place, weight};
+use crate::convolve::{divisor_of, place, size_of_all, square_of, weight};
+use crate::rows::wide_row;
+use flt_rows::narrow::narrow_reciprocal_of;
 use flt_rows::wide_reciprocal::wide_reciprocal_of;
+use flt_rows::wide_squares::{self, WideEnding};
 use flt_rows::wide_sums::{add_five, add_three, show_row};
 use fv_plane::{Frame, Shape, write_samples};
 
@@ -139,8 +143,8 @@ fn scaled_bias(bias: i32, shape: Shape) -> i32
     bias * shape.scale() as i32
 }
 
-// A row of the picture that is made.
-fn convolve_row(
+// A row of the picture that is made, by sums of 32 bits.
+fn convolve_in_32_bits(
     input: &Frame,
     plane: u32,
     y: u32,
@@ -168,6 +172,92 @@ fn convolve_row(
     let by = wide_reciprocal_of(divisor.unsigned_abs());
     let bias = scaled_bias(bias, shape);
     show_row(sums, divisor, by, bias, shape.largest_sample(), out);
+}
+
+// How sums end.
+fn ending_of(divisor: i32, bias: i32, largest: u16) -> WideEnding
+    requires some { 0 < unsigned_abs divisor }
+    requires small { unsigned_abs divisor ≤ 128 }
+    requires bias { unsigned_abs bias < 2 ^ 15 }
+    requires largest { largest < 2 ^ 15 }
+    ensures ending { IsWideEnding result }
+    ensures divisor { result.divisor ≡ divisor }
+    ensures bias { pos result.more -ℤ pos result.less ≡ bias }
+    ensures largest { result.largest ≡ largest }
+{
+    let by = narrow_reciprocal_of(divisor.unsigned_abs() as u16);
+    let size = bias.unsigned_abs() as u16;
+    let (more, less) = if bias < 0 { (0, size) } else { (size, 0) };
+    WideEnding {
+        divisor,
+        by,
+        more,
+        less,
+        largest,
+    }
+}
+
+// A row of the picture that is made, by sums of 16 bits.
+fn convolve_in_16_bits(
+    input: &Frame,
+    plane: u32,
+    y: u32,
+    bias: i32,
+    weights: &[i32],
+    out: &mut [u16],
+)
+    requires wide { sample_bytes input.now.shape ≡ 2 }
+    requires plane { plane < planes input.now.shape.kind }
+    requires inside { y < plane_height input.now.shape plane }
+    requires nine { length weights.now ≡ 9 }
+    requires weights { AreWeights weights.now }
+    requires small { largest_sample input.now.shape < 2 ^ 15 }
+    requires light { size_of_all weights.now * largest_sample input.now.shape < 2 ^ 15 }
+    requires bias { IsBias bias }
+    requires whole { length out.old ≡ plane_width input.now.shape plane }
+    ensures { EachIndex out.new (λ x. slice_index out.new x
+        ≡ convolved bias weights.now input.now.shape (look_in input.now) plane x y) }
+{
+    let shape = input.shape();
+    let height = shape.plane_height(plane);
+    let above = wide_row(input, plane, place(y, 0, 1, height));
+    let row = wide_row(input, plane, y);
+    let below = wide_row(input, plane, place(y, 2, 1, height));
+    let bias = scaled_bias(bias, shape);
+    let ending = ending_of(divisor_of(weights), bias, shape.largest_sample());
+    wide_squares::convolve_row(square_of(weights), ending, above, row, below, out);
+}
+
+// A row of the picture that is made, by sums of 16 bits where these hold them all.
+fn convolve_row(
+    input: &Frame,
+    plane: u32,
+    y: u32,
+    bias: i32,
+    weights: &[i32],
+    padded: &mut [u16],
+    sums: &mut [i32],
+    out: &mut [u16],
+)
+    requires wide { sample_bytes input.now.shape ≡ 2 }
+    requires plane { plane < planes input.now.shape.kind }
+    requires inside { y < plane_height input.now.shape plane }
+    requires square { (length weights.now ≡ 9) ⊎ (length weights.now ≡ 25) }
+    requires weights { AreWeights weights.now }
+    requires bias { IsBias bias }
+    requires whole { length out.old ≡ plane_width input.now.shape plane }
+    requires sums { length sums.old ≡ length out.old }
+    requires padded { length padded.old ≡ length out.old + 4 }
+    ensures { EachIndex out.new (λ x. slice_index out.new x
+        ≡ convolved bias weights.now input.now.shape (look_in input.now) plane x y) }
+{
+    let largest = input.shape().largest_sample() as u32;
+    let size = size_of_all(weights);
+    if weights.len() == 9 && largest < 1 << 15 && size * largest < 1 << 15 {
+        convolve_in_16_bits(input, plane, y, bias, weights, out);
+    } else {
+        convolve_in_32_bits(input, plane, y, bias, weights, padded, sums, out);
+    }
 }
 
 /// The bytes of a row of the picture that is made. The rows to work in may be wider.

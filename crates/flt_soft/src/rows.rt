@@ -49,8 +49,8 @@ pub fn wide_row_in(inputs: &[Frame], i: usize, plane: u32, y: u32) -> &[u8]
     wide_row(&inputs[i], plane, y)
 }
 
-// The bytes of a row of samples of two bytes.
-fn wide_row(input: &Frame, plane: u32, y: u32) -> &[u8]
+/// The bytes of a row of samples of two bytes.
+pub fn wide_row(input: &Frame, plane: u32, y: u32) -> &[u8]
     requires wide { sample_bytes input.now.shape ≡ 2 }
     requires plane { plane < planes input.now.shape.kind }
     requires inside { y < plane_height input.now.shape plane }

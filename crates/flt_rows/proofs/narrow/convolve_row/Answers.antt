@@ -13,7 +13,7 @@ loop-x-init c =
     record {
       long = omega (arith, length-set c.args.out.now 0 first);
       done = λ k h. next_set c.args.out.now (λ x. shown c.args.ending (weighed_around c.args.square above row below x)) 0 first 0 (omega (arith, c.requires.some))
-          (around_at c.args.square c.args.ending above row below 0 0 0 c.min.result first (omega arith) (omega arith) (omega arith) c.show_square.ensures)
+          (around_at c.args.square (shown c.args.ending) above row below 0 0 0 c.min.result first (omega arith) (omega arith) (omega arith) c.show_square.ensures)
           (λ j none. absurd (omega arith)) k h;
     }
 
@@ -27,7 +27,7 @@ loop-x-preserved c =
     record {
       long = length-set c.loop-x.out x c.show_square-in-loop-x.result ∙ c.loop-x.invariant.long;
       done = next_set c.loop-x.out (λ k. shown c.args.ending (weighed_around c.args.square above row below k)) x c.show_square-in-loop-x.result 0 inside
-          (around_at c.args.square c.args.ending above row below x (x - 1) x (x + 1) c.show_square-in-loop-x.result (omega arith) (omega arith) (omega arith) c.show_square-in-loop-x.ensures)
+          (around_at c.args.square (shown c.args.ending) above row below x (x - 1) x (x + 1) c.show_square-in-loop-x.result (omega arith) (omega arith) (omega arith) c.show_square-in-loop-x.ensures)
           c.loop-x.invariant.done;
     }
 
@@ -41,5 +41,5 @@ returns c =
     let reached : last ≤ c.loop-x.x = omega (arith, c.loop-x-test.false) in
     let left = c.saturating_sub-before.result in
     λ k h. next_set c.loop-x.out (λ x. shown c.args.ending (weighed_around c.args.square above row below x)) last c.show_square-2.result 0 inside
-    (around_at c.args.square c.args.ending above row below last left last last c.show_square-2.result (omega arith) (omega arith) (omega arith) c.show_square-2.ensures)
+    (around_at c.args.square (shown c.args.ending) above row below last left last last c.show_square-2.result (omega arith) (omega arith) (omega arith) c.show_square-2.ensures)
     (λ j before. c.loop-x.invariant.done j (omega (arith, reached, before))) k (omega (arith, h, length-set c.loop-x.out last c.show_square-2.result, c.loop-x.invariant.long))
