@@ -1,5 +1,5 @@
 #!/usr/bin/env python3
-"""Shows where the time of a check goes, part by part.
+"""Shows where the time of a check goes: by kinds of parts, by functions, and part by part.
 
   bench/check_times.py CRATE [COUNT]
 
@@ -8,16 +8,27 @@ check from nothing with one job (rm -rf crates/CRATE/out/incremental, then rt ch
 files are what the parts took. `Answers` are the goals that need an answer, `Lts` the steps of the code with the goals that the
 prover finds by itself, `Tie` and `Proof` put them together, for a cycle of calls all its functions at once.
 """
+import collections
 import os
 import sys
 
 
 def parts(folder):
+    """When each part was done, its name, and its size in bytes, in the order of time."""
     found = []
     for below, _, names in os.walk(folder):
         if not below.endswith("/records") and "/records/" not in below:
-            found += [(os.stat(f"{below}/{it}").st_mtime, it) for it in names if it.endswith(".oantt")]
+            for name in names:
+                if name.endswith(".oantt"):
+                    kept = os.stat(f"{below}/{name}")
+                    found.append((kept.st_mtime, name.removesuffix(".oantt").removeprefix("Rattle-"), kept.st_size))
     return sorted(found)
+
+
+def show(title, taken, size, count):
+    print(title)
+    for name, seconds in taken.most_common(count):
+        print(f"{seconds:8.1f} {size[name] / 1e6:8.1f} MB  {name}")
 
 
 def main(crate, count="30"):
@@ -25,10 +36,18 @@ def main(crate, count="30"):
     found = parts(f"{here}/crates/{crate}/out/incremental")
     if not found:
         sys.exit(f"no kept work of {crate}: check it first")
-    taken = [(late - soon, name) for (soon, _), (late, name) in zip(found, found[1:])]
     print(f"{found[-1][0] - found[0][0]:8.1f} s in {len(found)} parts")
-    for seconds, name in sorted(taken, reverse=True)[: int(count)]:
-        print(f"{seconds:8.1f} {name.removesuffix('.oantt').removeprefix('Rattle-')}")
+    taken, size = {}, {}
+    for what in ("kind", "function", "part"):
+        taken[what], size[what] = collections.Counter(), collections.Counter()
+    for (soon, _, _), (late, name, bytes_kept) in zip(found, found[1:]):
+        function, _, kind = name.rpartition(".")
+        for what, of in (("kind", kind.partition("-")[0]), ("function", function), ("part", name)):
+            taken[what][of] += late - soon
+            size[what][of] += bytes_kept
+    show("By kind:", taken["kind"], size["kind"], 10)
+    show("By function:", taken["function"], size["function"], int(count))
+    show("By part:", taken["part"], size["part"], int(count))
 
 
 if __name__ == "__main__":
