@@ -1,5 +1,5 @@
 -- Rows of samples and their bytes.
-use Rattle.std.proofs.Common.{◌≡◌, ℕ, zero, suc, ◌+◌, ◌-◌, ◌*◌, ◌≤◌, ◌^◌, Bool, true, false, if◌then◌else◌, ◌==◌, List, [], ◌∷◌, ◌++◌, length, get_or, take, drop, map, replicate, refl, sym, ◌∙◌, ap, subst, arith, inl, inr, eqb-true}
+use Rattle.std.proofs.Common.{◌≡◌, ℕ, zero, suc, ◌+◌, ◌-◌, ◌*◌, ◌/◌, ◌%◌, ◌≤◌, ◌^◌, Bool, true, false, if◌then◌else◌, ◌==◌, List, [], ◌∷◌, ◌++◌, length, get_or, take, drop, map, replicate, refl, sym, ◌∙◌, ap, subst, arith, inl, inr, eqb-true}
 use Rattle.std.specs.Prelude.{min}
 use Rattle.std.proofs.Math.ListN.{get_or-map}
 use Rattle.std.proofs.lemmas.Bool.{cases_lt}
@@ -10,7 +10,7 @@ use Rattle.fv_plane.specs.Rows.{IsPlane, rows_of, flat_rows, rows_put}
 use Rattle.fv_plane.specs.Bytes.{wide_bytes, wide_samples, bytes_of_row, row_of_bytes, bytes_of_rows, decoded_rows, in_range, FitsRow, FitBytes, AreWhole}
 use Rattle.fv_plane.proofs.PictureLemmas.{Bounded, Each, each-put}
 use Rattle.fv_plane.proofs.RowLemmas.{bounded-rows_of, bounded_take, rows_of-take}
-use Rattle.fv_plane.proofs.WideLemmas.{samples-bytes, bytes-samples, length-wide_bytes, length-wide_samples, wide_samples-drop, wide_samples-take, wide_bytes-drop, wide_bytes-take, wide_bytes-append, wide_samples-zero, wide_small}
+use Rattle.fv_plane.proofs.WideLemmas.{samples-bytes, bytes-samples, length-wide_bytes, length-wide_samples, wide_samples-drop, wide_samples-take, wide_bytes-drop, wide_bytes-take, wide_bytes-append, wide_samples-append, wide_samples-zero, wide_small}
 
 -- Each rule below has the case of one byte a sample, `true`, and that of two.
 
@@ -342,6 +342,18 @@ pub length-in_range : (shape : Shape) (n : ℕ) (bytes : List ℕ) → length by
 unfolding in_range
 length-in_range shape n bytes long = long_range_by (shape.bits == 8) (λ s. min s (largest_sample shape)) n bytes long
 
+-- whole samples in range and others after them
+range_append_by : (b : Bool) (f : ℕ → ℕ) (n : ℕ) (front rest : List ℕ) → length front ≡ n * (if b then 1 else 2)
+    → (if b then front ++ rest else wide_bytes (map f (wide_samples (front ++ rest)))) ≡ (if b then front else wide_bytes (map f (wide_samples front))) ++ (if b then rest else wide_bytes (map f (wide_samples rest)))
+range_append_by true f n front rest long = refl
+range_append_by false f n front rest long =
+    ap (λ (l : List ℕ). wide_bytes (map f l)) (wide_samples-append n front rest long) ∙ ap wide_bytes (map-append f (wide_samples front) (wide_samples rest))
+    ∙ wide_bytes-append (map f (wide_samples front)) (map f (wide_samples rest))
+
+pub in_range-append : (shape : Shape) (n : ℕ) (front rest : List ℕ) → length front ≡ n * sample_bytes shape → in_range shape (front ++ rest) ≡ in_range shape front ++ in_range shape rest
+unfolding in_range
+in_range-append shape n front rest long = range_append_by (shape.bits == 8) (λ s. min s (largest_sample shape)) n front rest long
+
 -- no item is changed where each is small
 min_all : (most : ℕ) (row : List ℕ) → ((x : ℕ) → get_or row x 0 ≤ most) → map (λ s. min s most) row ≡ row
 min_all most [] fits = refl
@@ -349,6 +361,11 @@ min_all most (s ∷ row) fits =
     let first : s ≤ most = fits 0 in
     let same : min s most ≡ s = omega arith in
     ap (λ n. n ∷ map (λ s. min s most) row) same ∙ ap (λ l. s ∷ l) (min_all most row (λ x. fits (suc x)))
+
+-- bytes of samples that are all small stay as they are
+pub small_same : (most : ℕ) (bytes : List ℕ) → length bytes % 2 ≡ 0 → ((k : ℕ) → get_or bytes k 0 ≤ 255) → ((x : ℕ) → get_or (wide_samples bytes) x 0 ≤ most)
+    → bytes ≡ wide_bytes (map (λ s. min s most) (wide_samples bytes))
+small_same most bytes even few fits = sym (ap wide_bytes (min_all most (wide_samples bytes) fits) ∙ bytes-samples (length bytes / 2) bytes (omega arith) few)
 
 range_again_by : (b : Bool) (most : ℕ) (row : List ℕ) → ((x : ℕ) → get_or row x 0 ≤ most)
     → (if b then (if b then row else wide_bytes row) else wide_bytes (map (λ s. min s most) (wide_samples (if b then row else wide_bytes row)))) ≡ (if b then row else wide_bytes row)
@@ -370,6 +387,14 @@ sixteen_by bits false n bytes is sixteen long few =
 pub in_range-sixteen : (shape : Shape) (n : ℕ) (bytes : List ℕ) → shape.bits ≡ 16 → length bytes ≡ n * sample_bytes shape → ((k : ℕ) → get_or bytes k 0 ≤ 255) → in_range shape bytes ≡ bytes
 unfolding in_range
 in_range-sixteen shape n bytes sixteen long few = sixteen_by shape.bits (shape.bits == 8) n bytes refl sixteen long few
+
+parts_by : (b : Bool) (n : ℕ) → n % (if b then 1 else 2) ≡ 0 → n ≡ n / (if b then 1 else 2) * (if b then 1 else 2)
+parts_by true n whole = omega arith
+parts_by false n whole = omega arith
+
+-- the bytes of whole samples are so many times a sample's
+pub whole_samples : (shape : Shape) (bytes : List ℕ) → length bytes % sample_bytes shape ≡ 0 → length bytes ≡ length bytes / sample_bytes shape * sample_bytes shape
+whole_samples shape bytes whole = parts_by (shape.bits == 8) (length bytes) whole
 
 wide_range_by : (bits : ℕ) (b : Bool) (bytes : List ℕ) → b ≡ false → (if b then bytes else wide_bytes (map (λ s. min s (2 ^ bits - 1)) (wide_samples bytes))) ≡ wide_bytes (map (λ s. min s (2 ^ bits - 1)) (wide_samples bytes))
 wide_range_by bits true bytes wide = cc

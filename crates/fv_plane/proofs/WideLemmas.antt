@@ -1,8 +1,8 @@
 -- Samples of two bytes and their bytes.
 use Rattle.std.proofs.Common.{◌≡◌, ℕ, zero, suc, ◌+◌, ◌*◌, ◌/◌, ◌%◌, ◌≤◌, ◌<◌, List, [], ◌∷◌, ◌++◌, length, get_or, take, drop, map, replicate, refl, sym, ◌∙◌, ap, arith, inl, inr}
 use Rattle.std.specs.Prelude.{min}
-use Rattle.std.proofs.lemmas.List.{ext_get_or, length-map}
-use Rattle.std.proofs.lemmas.Bool.{cases_eq}
+use Rattle.std.proofs.lemmas.List.{ext_get_or, get_or_past, length-map}
+use Rattle.std.proofs.lemmas.Bool.{cases_eq, cases_lt}
 use Rattle.fv_plane.specs.Bytes.{wide_bytes, wide_samples}
 
 -- the samples of the bytes of samples
@@ -76,6 +76,14 @@ pub wide_bytes-append : (a b : List ℕ) → wide_bytes (a ++ b) ≡ wide_bytes 
 unfolding wide_bytes
 wide_bytes-append [] b = refl
 wide_bytes-append (s ∷ a) b = ap (λ l. (s % 256) ∷ (s / 256) ∷ l) (wide_bytes-append a b)
+
+-- the samples of whole samples' bytes and of others after them
+pub wide_samples-append : (n : ℕ) (front rest : List ℕ) → length front ≡ n * 2 → wide_samples (front ++ rest) ≡ wide_samples front ++ wide_samples rest
+unfolding wide_samples
+wide_samples-append n [] rest long = refl
+wide_samples-append zero (low ∷ front) rest long = absurd (omega arith)
+wide_samples-append (suc n) (low ∷ []) rest long = absurd (omega arith)
+wide_samples-append (suc n) (low ∷ high ∷ front) rest long = ap (λ l. (low + 256 * high) ∷ l) (wide_samples-append n front rest (omega arith))
 
 -- bytes of 0 are samples of 0
 pub wide_samples-zero : (n : ℕ) → wide_samples (replicate (n * 2) 0) ≡ replicate n 0
@@ -156,3 +164,14 @@ bytes_limited largest old new same even_length even odd =
     bytes_written samples new (omega (arith, count))
     (λ k within. even k (omega (arith, count)) ∙ ap (λ s. s % 256) (sym (at k (omega (arith, count)))))
     (λ k within. odd k (omega (arith, count)) ∙ ap (λ s. s / 256) (sym (at k (omega (arith, count)))))
+
+-- samples whose high bytes are no higher than one
+pub high_bounds : (bytes : List ℕ) (highest : ℕ) → length bytes % 2 ≡ 0 → ((k : ℕ) → get_or bytes k 0 ≤ 255) → ((k : ℕ) → k < length bytes / 2 → get_or bytes (2 * k + 1) 0 ≤ highest)
+    → (x : ℕ) → get_or (wide_samples bytes) x 0 ≤ 255 + 256 * highest
+high_bounds bytes highest even few high x =
+    let n : ℕ = length bytes / 2 in
+    let count : length (wide_samples bytes) ≡ n = length-wide_samples n bytes (omega arith) in
+    elim (cases_lt x n) [
+      | inl there ↦ omega (arith, wide_samples-at bytes x (omega arith), few (2 * x), high x there)
+      | inr past ↦ omega (arith, get_or_past (wide_samples bytes) x 0 (omega (arith, count)))
+    ]

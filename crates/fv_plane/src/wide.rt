@@ -1,6 +1,9 @@
 // Samples of two bytes, the low one first.
-ghost use Rattle.std.specs.Prelude.{◌≡◌, ℕ, ◌+◌, ◌*◌, ◌%◌, ◌<◌, ◌≤◌, min, map, length, slice_index, take, drop};
-ghost use Rattle.fv_plane.specs.Bytes.{wide_bytes, wide_samples};
+ghost use Rattle.std.specs.Prelude.{◌≡◌, ℕ, ◌+◌, ◌*◌, ◌%◌, ◌<◌, ◌≤◌, IsTrue, min, map, length, slice_index, take, drop};
+ghost use Rattle.fv_plane.specs.Bytes.{in_range, wide_bytes, wide_samples};
+ghost use Rattle.fv_plane.specs.Format.{IsLegal, sample_bytes};
+
+use crate::Shape;
 
 // The sample of these bytes.
 #[inline(always)]
@@ -40,11 +43,27 @@ pub fn write_samples(samples: &[u16], bytes: &mut [u8])
     }
 }
 
+// Whether no sample is over the largest one, which the high bytes alone may tell: where the answer is no, some may be. A
+// pass that only reads is faster than one that writes, and in most streams there is no such sample.
+fn are_in_range(bytes: &[u8], largest: u16) -> bool
+    requires { length bytes.now % 2 ≡ 0 }
+    ensures { IsTrue result → bytes.now ≡ wide_bytes (map (λ s. min s largest) (wide_samples bytes.now)) }
+{
+    let mut highest = 0;
+    for x in 0..bytes.len() / 2 {
+        highest = bytes[2 * x + 1].max(highest);
+    }
+    joined(255, highest) <= largest
+}
+
 // Makes the samples over the largest one the largest.
 fn limit_samples(bytes: &mut [u8], largest: u16)
     requires { length bytes.old % 2 ≡ 0 }
     ensures { bytes.new ≡ wide_bytes (map (λ s. min s largest) (wide_samples bytes.old)) }
 {
+    if are_in_range(bytes, largest) {
+        return;
+    }
     for x in 0..bytes.len() / 2 {
         let sample = joined(bytes[2 * x], bytes[2 * x + 1]).min(largest);
         bytes[2 * x] = (sample % 256) as u8;
@@ -52,12 +71,25 @@ fn limit_samples(bytes: &mut [u8], largest: u16)
     }
 }
 
-/// Makes the samples over the largest one the largest, in a part of some bytes.
-pub fn limit_part(bytes: &mut [u8], offset: usize, size: usize, largest: u16)
-    requires inside { offset + size ≤ length bytes.old }
-    requires whole { size % 2 ≡ 0 }
-    ensures { take size (drop offset bytes.new)
-        ≡ wide_bytes (map (λ s. min s largest) (wide_samples (take size (drop offset bytes.old)))) }
+/// Makes the samples over the largest one of a shape the largest, in the bytes of whole samples.
+pub fn bring_in_range(shape: Shape, bytes: &mut [u8])
+    requires legal { IsLegal shape }
+    requires whole { length bytes.old % sample_bytes shape ≡ 0 }
+    ensures { bytes.new ≡ in_range shape bytes.old }
 {
-    limit_samples(&mut bytes[offset..offset + size], largest);
+    if shape.bits == 8 || shape.bits == 16 {
+        return;
+    }
+    limit_samples(bytes, shape.largest_sample());
+}
+
+/// Makes them so in a part of some bytes.
+pub fn bring_part_in_range(shape: Shape, bytes: &mut [u8], offset: usize, size: usize)
+    requires legal { IsLegal shape }
+    requires inside { offset + size ≤ length bytes.old }
+    requires whole { size % sample_bytes shape ≡ 0 }
+    ensures part { take size (drop offset bytes.new) ≡ in_range shape (take size (drop offset bytes.old)) }
+    ensures long { length bytes.new ≡ length bytes.old }
+{
+    bring_in_range(shape, &mut bytes[offset..offset + size]);
 }

@@ -7,8 +7,8 @@ use Rattle.fv_plane.proofs.CutLemmas.{cut-limited}
 use Rattle.fv_plane.proofs.BytesLemmas.{in_range-fits}
 use Rattle.fv_plane.proofs.frame.Frame.from_vec.Goals as goal
 
-pub of_bytes-requires-clause-fits : goal.of_bytes-requires-clause-fits
-of_bytes-requires-clause-fits c =
+pub from_vec_in_range-requires-clause-fits : goal.from_vec_in_range-requires-clause-fits
+from_vec_in_range-requires-clause-fits c =
     let shape = c.args.shape in
     let bytes : List ℕ = drop c.args.offset c.args.bytes.items in
     rw c.with_samples_in_range.ensures.frame (in_range-fits shape (take (frame_bytes shape) bytes)
@@ -16,6 +16,6 @@ of_bytes-requires-clause-fits c =
 
 pub returns : goal.returns
 returns c =
-    IfOk-weaker c.of_bytes.result _ _
+    IfOk-weaker c.from_vec_in_range.result _ _
     (λ frame is. is ∙ cut-limited c.args.shape (drop c.args.offset c.with_samples_in_range.result.items) (drop c.args.offset c.args.bytes.items) c.with_samples_in_range.ensures.frame)
-    c.of_bytes.ensures
+    c.from_vec_in_range.ensures

@@ -6,7 +6,7 @@ use Rattle.fv_plane.specs.Bytes.{picture_in_range, frame_of, chroma_list}
 use Rattle.fv_plane.proofs.RowLemmas.{bounded_all}
 use Rattle.fv_plane.proofs.CutLemmas.{IsPicture-cut, cut-take}
 use Rattle.fv_plane.proofs.BytesLemmas.{whole_first}
-use Rattle.fv_plane.proofs.frame.Frame.of_bytes.Goals as goal
+use Rattle.fv_plane.proofs.frame.Frame.from_vec_in_range.Goals as goal
 
 pub plane_at-requires-clause-bytes : goal.plane_at-requires-clause-bytes
 plane_at-requires-clause-bytes c = (λ k. rw c.in_ok-bytes.ensures.ok (bounded_all 255 c.args.bytes.items (λ i within. omega arith) k))
