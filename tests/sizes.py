@@ -6,6 +6,7 @@ compared with a stream that is computed here. One more than a limit is a fault w
 names one as AVSSERVE.
 """
 
+import array
 import os
 import random
 import subprocess
@@ -55,6 +56,26 @@ WIDE = 40_000
 PIECE = 8_192
 
 
+# Samples of two bytes are brought into range in pieces of this size, of so many rows of so many columns.
+READ = 262_144
+COLUMNS = 1_024
+ROWS = READ // (2 * COLUMNS)
+
+
+def deep(height, frames):
+    """A stream of 10 bits."""
+    return f"YUV4MPEG2 W{COLUMNS} H{height} F25:1 Ip A1:1 Cmono10\n".encode() + b"".join(
+        b"FRAME\n" + array.array("H", samples).tobytes() for samples in frames)
+
+
+def deep_frames(dice, height):
+    """Frames of any samples, and of samples in range but for the first of each piece, the last of all, and none."""
+    size = COLUMNS * height
+    inside = [dice.randrange(1_024) for _ in range(size)]
+    edges = [65_535 if n % (READ // 2) == 0 or n == size - 1 else sample for n, sample in enumerate(inside)]
+    return [dice.randrange(65_536) for _ in range(size)], edges, inside
+
+
 def stack_of(clips):
     return head(1, clips) + b"".join(b"FRAME\n" + bytes([n]) * clips for n in range(4))
 
@@ -73,6 +94,14 @@ def rows(folder):
     ):
         with open(os.path.join(folder, name), "wb") as file:
             file.write(data)
+
+    for height in (ROWS - 1, ROWS, ROWS + 1, 3 * ROWS):
+        frames = deep_frames(dice, height)
+        with open(os.path.join(folder, f"deep{height}.y4m"), "wb") as file:
+            file.write(deep(height, frames))
+        limited = [[min(sample, 1_023) for sample in samples] for samples in frames]
+        yield f"10 bits, {height} rows: brought into range", f'Y4MSource("deep{height}.y4m")', deep(height, limited)
+        yield f"10 bits, {height} rows: read backwards", f'Y4MSource("deep{height}.y4m").Reverse', deep(height, limited[::-1])
 
     def of_wide(change, height=3):
         return head(WIDE, height) + b"FRAME\n" + b"".join(change)

@@ -1,9 +1,9 @@
 -- The frame of a number in bytes that were read, and where it ends.
-use Rattle.std.proofs.Common.{◌≡◌, ℕ, ◌+◌, ◌<◌, ◌≤◌, nat_le, Bool, true, false, if◌then◌else◌, List, [], length, take, drop, slice_index, slice_get, Option, Some, None, IsSome, sym, refl, ◌∙◌, ap, subst, arith}
+use Rattle.std.proofs.Common.{◌≡◌, ℕ, ◌+◌, ◌<◌, ◌≤◌, nat_le, Bool, true, false, if◌then◌else◌, List, [], length, drop, slice_index, slice_get, Option, Some, None, IsSome, sym, refl, ◌∙◌, ap, subst, arith}
 use Rattle.std.specs.List.{AllPass}
 use Rattle.std.specs.Option.{ForSome, option_map}
 use Rattle.std.proofs.lemmas.Bool.{leb-true, le-leb}
-use Rattle.std.proofs.lemmas.List.{drop-drop, drop-take, length-map, ext_get_or, get_or_default}
+use Rattle.std.proofs.lemmas.List.{length-map, ext_get_or, get_or_default}
 use Rattle.std.proofs.lemmas.List.Sums.{AllPass-from_list_all, list_all-from_AllPass}
 use Rattle.std.proofs.lemmas.Option.{slice_get-map, slice_get-get_or, get_or_from_slice_get}
 use Rattle.fv_plane.specs.Bytes.{picture_of}
@@ -11,7 +11,6 @@ use Rattle.fv_plane.specs.Clip.{Clip}
 use Rattle.fv_plane.specs.declared.format.Info.{Info}
 use Rattle.fv_plane.specs.Format.{frame_bytes}
 use Rattle.fv_plane.specs.Picture.{Picture}
-use Rattle.fv_plane.proofs.CallerLemmas.{picture_of-take}
 use Rattle.y4m_stream.specs.Index.{Indexed, Indexes}
 use Rattle.y4m_stream.proofs.CallerLemmas.{frame_inside}
 use Rattle.seq_source.specs.FrameSource.{frames_at, has_each, frames_told}
@@ -21,17 +20,6 @@ pub frame_at : (index : Indexed) (told : List ℕ) (n : ℕ) → n < length inde
 frame_at index told n within =
     let cut : ℕ → Picture = λ offset. picture_of index.info.shape (drop offset told) in
     slice_get-map cut index.offsets n ∙ ap (option_map cut) (slice_get-get_or index.offsets n 0 within)
-
--- what was read up to the frame's end has its picture
-pub picture_is : (index : Indexed) (told : List ℕ) (n place before : ℕ) (read : List ℕ) → n < length index.offsets → read ≡ take (before + frame_bytes index.info.shape) (drop place told) → place + before ≡ slice_index index.offsets n
-    → slice_get (frames_at index told) n ≡ Some (picture_of index.info.shape (drop before read))
-picture_is index told n place before read within is offset =
-    let shape = index.info.shape in
-    let size = frame_bytes shape in
-    let same : picture_of shape (drop before read) ≡ picture_of shape (drop (slice_index index.offsets n) told)
-    = ap (λ (l : List ℕ). picture_of shape (drop before l)) is ∙ ap (picture_of shape) (drop-take before size (drop place told) ∙ ap (λ (l : List ℕ). take size l) (drop-drop before place told))
-    ∙ picture_of-take shape (drop (place + before) told) ∙ ap (λ k. picture_of shape (drop k told)) offset in
-    frame_at index told n within ∙ ap Some (sym same)
 
 -- a source tells the frames at the offsets, where its bytes have each
 pub told_at : (index : Indexed) (told : Option (List ℕ)) (n : ℕ) (frame : Picture) → ((bytes : List ℕ) → told ≡ Some bytes → slice_get (frames_at index bytes) n ≡ Some frame)

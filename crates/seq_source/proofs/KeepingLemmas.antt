@@ -38,3 +38,11 @@ no_change source old new n past told is inside (Changed frame want got) shown =
     let ended = shown.ended told is in
     omega arith
 no_change source old new n past told is inside Memory shown = tt
+
+-- a call that keeps the source, and another
+pub keeps_both : {S : Type 0} (source : Ghosts S) (old mid new : S) → KeepsSource source old mid → KeepsSource source mid new → KeepsSource source old new
+keeps_both source old mid new first later = record {
+  told = later.told ∙ first.told;
+  rewinds = later.rewinds ∙ first.rewinds;
+  later = (let before = first.later in let after = later.later in omega arith);
+}

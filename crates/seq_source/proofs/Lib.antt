@@ -2,3 +2,4 @@ pub mod CallerLemmas
 pub mod FrameLemmas
 pub mod KeepingLemmas
 pub mod PlaceLemmas
+pub mod RangeLemmas
