@@ -5,7 +5,6 @@ use Rattle.clip_term.specs.Soft.{place, sample_from}
 use Rattle.flt_rows.specs.declared.narrow.Ending.{Ending}
 use Rattle.flt_rows.specs.declared.narrow.Weights.{Weights}
 use Rattle.flt_rows.specs.declared.narrow.Square.{Square}
-use Rattle.flt_rows.specs.declared.wide_squares.WideEnding.{WideEnding}
 
 -- the sizes of weights, added up
 abbrev pub size_of_all : List ℤ → ℕ
@@ -44,11 +43,7 @@ weighed_around square above row below x =
 
 -- a sum, divided and raised, as a sample
 abbrev pub shown : Ending → ℤ → ℕ
-shown ending sum = sample_from 255 (int_div sum ending.divisor +ℤ (pos ending.more -ℤ pos ending.less))
-
--- the same, of samples of two bytes
-abbrev pub shown_wide : WideEnding → ℤ → ℕ
-shown_wide ending sum =
+shown ending sum =
     sample_from ending.largest (int_div sum ending.divisor +ℤ (pos ending.more -ℤ pos ending.less))
 
 -- no sample of a row is over this one
@@ -63,15 +58,8 @@ pub record IsNarrowReciprocal (divisor factor bits : ℕ) : Type 0 where
   pub high : factor * divisor ≤ 2 ^ (15 + bits) + divisor
   pub wide : 2 ^ 15 * divisor ≤ 2 ^ (15 + bits)
 
--- sums of at most 32,640 in size end as samples
+-- sums below 2^15 in size end as samples
 pub record IsEnding (ending : Ending) : Type 0 where
-  pub by : IsNarrowReciprocal (unsigned_abs ending.divisor) ending.by.factor ending.by.bits
-  pub divisor : unsigned_abs ending.divisor ≤ 128
-  pub more : ending.more ≤ 255
-  pub less : ending.less ≤ 255
-
--- sums below 2^15 in size end as samples of two bytes
-pub record IsWideEnding (ending : WideEnding) : Type 0 where
   pub by : IsNarrowReciprocal (unsigned_abs ending.divisor) ending.by.factor ending.by.bits
   pub divisor : unsigned_abs ending.divisor ≤ 128
   pub more : ending.more < 2 ^ 15

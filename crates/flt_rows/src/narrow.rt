@@ -1,6 +1,6 @@
 // Squares of nine weights that are so small that 16 bits hold each sum, which has twice as many samples in a vector
 // instruction as 32 bits have.
-ghost use Rattle.std.specs.Prelude.{◌≡◌, ◌+◌, ◌*◌, ◌/◌, ◌^◌, ◌<◌, ◌≤◌, pos, ◌+ℤ◌, ◌-ℤ◌, ◌*ℤ◌, EachIndex, length, slice_index, int_div, unsigned_abs};
+ghost use Rattle.std.specs.Prelude.{◌≡◌, ◌+◌, ◌*◌, ◌/◌, ◌^◌, ◌<◌, ◌≤◌, pos, ◌+ℤ◌, ◌-ℤ◌, ◌*ℤ◌, EachIndex, length, slice_index, unsigned_abs};
 ghost use Rattle.clip_term.specs.Soft.{sample_from};
 ghost use Rattle.flt_rows.specs.Squares.{size_of, size_of_square, weighed_at, weighed_square, weighed_around, shown, IsEnding, IsNarrowReciprocal};
 
@@ -27,13 +27,14 @@ pub struct NarrowReciprocal {
     pub bits: u16,
 }
 
-/// What is done to a sum: it is divided, and then more is added and less is taken off.
+/// What is done to a sum: it is divided, and then more is added and less is taken off. No sample is over the largest.
 #[derive(Clone, Copy)]
 pub struct Ending {
     pub divisor: i32,
     pub by: NarrowReciprocal,
     pub more: u16,
     pub less: u16,
+    pub largest: u16,
 }
 
 // The reciprocal of a divisor beside a power of 2.
@@ -147,16 +148,16 @@ pub fn divide(n: u16, divisor: u16, by: NarrowReciprocal) -> u16
 }
 
 // The sample nearest to the difference of two numbers.
-fn sample_between(more: u16, less: u16) -> u8
-    ensures { result ≡ sample_from 255 (pos more -ℤ pos less) }
+fn sample_between(more: u16, less: u16, largest: u16) -> u16
+    ensures { result ≡ sample_from largest (pos more -ℤ pos less) }
 {
-    more.saturating_sub(less).min(255) as u8
+    more.saturating_sub(less).min(largest)
 }
 
-// A sum, divided and raised, brought into the values of a sample.
-fn show(sum: i16, ending: Ending) -> u8
+/// A sum, divided and raised, brought into the values of a sample.
+pub fn show(sum: i16, ending: Ending) -> u16
     requires ending { IsEnding ending }
-    requires size { unsigned_abs sum ≤ 32640 }
+    requires size { unsigned_abs sum < 2 ^ 15 }
     ensures { result ≡ shown ending sum }
 {
     let size = divide(
@@ -165,9 +166,9 @@ fn show(sum: i16, ending: Ending) -> u8
         ending.by,
     );
     if (sum < 0) == (ending.divisor < 0) {
-        sample_between(size + ending.more, ending.less)
+        sample_between(size + ending.more, ending.less, ending.largest)
     } else {
-        sample_between(ending.more, size + ending.less)
+        sample_between(ending.more, size + ending.less, ending.largest)
     }
 }
 
@@ -189,12 +190,13 @@ fn show_square(
     requires below { length below.now ≡ length row.now }
     requires light { size_of_square square ≤ 128 }
     requires ending { IsEnding ending }
+    requires narrow { ending.largest ≤ 255 }
     ensures { result ≡ shown ending (weighed_square square above.now row.now below.now left x right) }
 {
     show(
         weigh_square(square, above, row, below, left, x, right),
         ending,
-    )
+    ) as u8
 }
 
 /// The samples of a row, each from the samples around it. The first and the last are apart, so that no place between
@@ -214,6 +216,7 @@ pub fn convolve_row(
     requires below { length below.now ≡ length out.old }
     requires light { size_of_square square ≤ 128 }
     requires ending { IsEnding ending }
+    requires narrow { ending.largest ≤ 255 }
     ensures { EachIndex out.new (λ x. slice_index out.new x
         ≡ shown ending (weighed_around square above.now row.now below.now x)) }
 {

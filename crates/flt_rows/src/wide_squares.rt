@@ -1,22 +1,11 @@
 // Squares of nine weights, and of samples of two bytes, that are so small that 16 bits hold each sum. What `narrow` has
 // for any samples is used here too.
-ghost use Rattle.std.specs.Prelude.{◌≡◌, ◌+◌, ◌*◌, ◌^◌, ◌<◌, ◌≤◌, pos, ◌-ℤ◌, ◌*ℤ◌, EachIndex, length, slice_index, unsigned_abs};
+ghost use Rattle.std.specs.Prelude.{◌≡◌, ◌+◌, ◌*◌, ◌^◌, ◌<◌, ◌≤◌, pos, ◌*ℤ◌, EachIndex, length, slice_index, unsigned_abs};
 ghost use Rattle.fv_plane.specs.Bytes.{wide_samples};
-ghost use Rattle.clip_term.specs.Soft.{sample_from};
-ghost use Rattle.flt_rows.specs.Squares.{size_of, size_of_square, weighed_at, weighed_square, weighed_around, shown_wide, AreAtMost, IsWideEnding};
+ghost use Rattle.flt_rows.specs.Squares.{size_of, size_of_square, weighed_at, weighed_square, weighed_around, shown, AreAtMost, IsEnding};
 
-use crate::narrow::{NarrowReciprocal, Square, Weights, add, divide};
+use crate::narrow::{Ending, Square, Weights, add, show};
 use crate::wide::sample;
-
-/// What is done to a sum: it is divided, and then more is added and less is taken off. No sample is over the largest.
-#[derive(Clone, Copy)]
-pub struct WideEnding {
-    pub divisor: i32,
-    pub by: NarrowReciprocal,
-    pub more: u16,
-    pub less: u16,
-    pub largest: u16,
-}
 
 // A sample times its weight.
 fn times(weight: i16, sample: u16, largest: u16) -> i16
@@ -79,35 +68,10 @@ fn weigh_square(
     add(two, weigh(square.below, largest, below, left, x, right))
 }
 
-// The sample nearest to the difference of two numbers.
-fn sample_between(more: u16, less: u16, largest: u16) -> u16
-    ensures { result ≡ sample_from largest (pos more -ℤ pos less) }
-{
-    more.saturating_sub(less).min(largest)
-}
-
-// A sum, divided and raised, brought into the values of a sample.
-fn show(sum: i16, ending: WideEnding) -> u16
-    requires ending { IsWideEnding ending }
-    requires size { unsigned_abs sum < 2 ^ 15 }
-    ensures { result ≡ shown_wide ending sum }
-{
-    let size = divide(
-        sum.unsigned_abs(),
-        ending.divisor.unsigned_abs() as u16,
-        ending.by,
-    );
-    if (sum < 0) == (ending.divisor < 0) {
-        sample_between(size + ending.more, ending.less, ending.largest)
-    } else {
-        sample_between(ending.more, size + ending.less, ending.largest)
-    }
-}
-
 // The sample at a place, from those around it.
 fn show_square(
     square: Square,
-    ending: WideEnding,
+    ending: Ending,
     above: &[u8],
     row: &[u8],
     below: &[u8],
@@ -124,8 +88,8 @@ fn show_square(
     requires few { AreAtMost ending.largest (wide_samples row.now) }
     requires few_below { AreAtMost ending.largest (wide_samples below.now) }
     requires light { size_of_square square * ending.largest < 2 ^ 15 }
-    requires ending { IsWideEnding ending }
-    ensures { result ≡ shown_wide ending (weighed_square square (wide_samples above.now) (wide_samples row.now)
+    requires ending { IsEnding ending }
+    ensures { result ≡ shown ending (weighed_square square (wide_samples above.now) (wide_samples row.now)
         (wide_samples below.now) left x right) }
 {
     show(
@@ -138,7 +102,7 @@ fn show_square(
 /// between them is brought into the row.
 pub fn convolve_row(
     square: Square,
-    ending: WideEnding,
+    ending: Ending,
     above: &[u8],
     row: &[u8],
     below: &[u8],
@@ -153,8 +117,8 @@ pub fn convolve_row(
     requires few { AreAtMost ending.largest (wide_samples row.now) }
     requires few_below { AreAtMost ending.largest (wide_samples below.now) }
     requires light { size_of_square square * ending.largest < 2 ^ 15 }
-    requires ending { IsWideEnding ending }
-    ensures { EachIndex out.new (λ x. slice_index out.new x ≡ shown_wide ending
+    requires ending { IsEnding ending }
+    ensures { EachIndex out.new (λ x. slice_index out.new x ≡ shown ending
         (weighed_around square (wide_samples above.now) (wide_samples row.now) (wide_samples below.now) x)) }
 {
     let last = out.len() - 1;

@@ -1,10 +1,10 @@
 -- What a filter makes of pictures.
-use Rattle.std.specs.Prelude.{◌≡◌, ℕ, ◌+◌, ◌*◌, ◌/◌, ◌<◌, ◌≤◌, Bool, false, ◌||◌, if◌then◌else◌, ◌==◌, List, map, length, slice_index_or, IsTrue, None}
+use Rattle.std.specs.Prelude.{◌≡◌, ℕ, ◌+◌, ◌*◌, ◌/◌, ◌<◌, ◌≤◌, ◌⊎◌, ℤ, Bool, false, ◌||◌, if◌then◌else◌, ◌==◌, List, map, length, slice_index_or, IsTrue, None}
 use Rattle.std.specs.List.{All}
 use Rattle.fv_plane.specs.declared.format.Shape.{Shape}
 use Rattle.fv_plane.specs.Picture.{Picture, row_of}
 use Rattle.fv_plane.specs.Bytes.{bytes_of_row}
-use Rattle.fv_plane.specs.Format.{planes, plane_width, plane_height}
+use Rattle.fv_plane.specs.Format.{planes, plane_width, plane_height, sample_bytes}
 use Rattle.fv_plane.specs.Look.{Look, look_at, look_in, picture_from, row_from}
 use Rattle.fv_plane.specs.Refusals.{first_fault}
 use Rattle.clip_term.specs.declared.op.SoftOp.{SoftOp}
@@ -12,6 +12,7 @@ use Rattle.clip_term.specs.declared.op.SoftOp.TheVariants as op
 use Rattle.clip_term.specs.Refusals.{nat_of}
 use Rattle.clip_term.specs.Soft.{samples_at, soft_refusals, soft_at, softened}
 use Rattle.clip_term.specs.Terms.{no_picture, soft_lists}
+use Rattle.flt_rows.specs.Rows.{AreWeights, IsBias}
 
 abbrev pub shape_of : List Picture → Shape
 shape_of pictures = (slice_index_or pictures 0 no_picture).shape
@@ -72,3 +73,12 @@ pub record AreAround (pictures : List Picture) (p y : ℕ) : Type 0 where
   pub alike : HaveShape (shape_of pictures) pictures
   pub plane : p < planes (shape_of pictures).kind
   pub inside : y < plane_height (shape_of pictures) p
+
+-- a row of a picture whose samples have two bytes, and a bias and a square of weights for its sums
+pub record CanConvolveWide (picture : Picture) (p y : ℕ) (bias : ℤ) (weights : List ℤ) : Type 0 where
+  pub wide : sample_bytes picture.shape ≡ 2
+  pub plane : p < planes picture.shape.kind
+  pub inside : y < plane_height picture.shape p
+  pub small : IsBias bias
+  pub light : AreWeights weights
+  pub square : (length weights ≡ 9) ⊎ (length weights ≡ 25)

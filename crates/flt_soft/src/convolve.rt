@@ -1,5 +1,5 @@
 // Sums of the samples around a place.
-ghost use Rattle.std.specs.Prelude.{◌≡◌, ◌<◌, ◌≤◌, ◌+◌, ◌⊎◌, ℕ, max, pos, negsuc, ◌-ℤ◌, ◌≤ℤ◌, IfOk, OnErr, length, EachIndex, slice_index, slice_index_or, unsigned_abs, vec_len};
+ghost use Rattle.std.specs.Prelude.{◌≡◌, ◌<◌, ◌≤◌, ◌+◌, ◌^◌, ◌⊎◌, ℕ, max, pos, negsuc, ◌-ℤ◌, ◌≤ℤ◌, IfOk, OnErr, length, EachIndex, slice_index, slice_index_or, unsigned_abs, vec_len};
 ghost use Rattle.fv_plane.specs.Format.{planes, plane_width, plane_height};
 ghost use Rattle.fv_plane.specs.Look.{look_in};
 ghost use Rattle.clip_term.specs.declared.op.SoftOp.TheVariants.{GeneralConvolution};
@@ -233,14 +233,16 @@ pub fn square_of(weights: &[i32]) -> Square
     }
 }
 
-// How sums end.
-fn ending_of(divisor: i32, bias: i32) -> Ending
+/// How sums end.
+pub fn ending_of(divisor: i32, bias: i32, largest: u16) -> Ending
     requires some { 0 < unsigned_abs divisor }
     requires small { unsigned_abs divisor ≤ 128 }
-    requires bias { IsBias bias }
+    requires bias { unsigned_abs bias < 2 ^ 15 }
+    requires largest { largest < 2 ^ 15 }
     ensures ending { IsEnding result }
     ensures divisor { result.divisor ≡ divisor }
     ensures bias { pos result.more -ℤ pos result.less ≡ bias }
+    ensures largest { result.largest ≡ largest }
 {
     let by = narrow_reciprocal_of(divisor.unsigned_abs() as u16);
     let size = bias.unsigned_abs() as u16;
@@ -250,6 +252,7 @@ fn ending_of(divisor: i32, bias: i32) -> Ending
         by,
         more,
         less,
+        largest,
     }
 }
 
@@ -273,11 +276,12 @@ fn convolve_in_16_bits(
     ensures { EachIndex out.new (λ x. slice_index out.new x
         ≡ convolved bias weights.now input.now.shape (look_in input.now) plane x y) }
 {
-    let height = input.shape().plane_height(plane);
+    let shape = input.shape();
+    let height = shape.plane_height(plane);
     let above = narrow_row(input, plane, place(y, 0, 1, height));
     let row = narrow_row(input, plane, y);
     let below = narrow_row(input, plane, place(y, 2, 1, height));
-    let ending = ending_of(divisor_of(weights), bias);
+    let ending = ending_of(divisor_of(weights), bias, shape.largest_sample());
     narrow::convolve_row(square_of(weights), ending, above, row, below, out);
 }
 

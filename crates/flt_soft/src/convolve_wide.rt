@@ -1,18 +1,18 @@
 // Sums of the samples around a place, where a sample has two bytes.
-ghost use Rattle.std.specs.Prelude.{◌≡◌, ◌<◌, ◌≤◌, ◌+◌, ◌*◌, ◌^◌, ◌⊎◌, ℕ, pos, ◌-ℤ◌, ◌*ℤ◌, length, EachIndex, slice_index, slice_index_or, unsigned_abs, vec_len};
+ghost use Rattle.std.specs.Prelude.{◌≡◌, ◌<◌, ◌≤◌, ◌+◌, ◌*◌, ◌^◌, ◌⊎◌, ℕ, pos, ◌*ℤ◌, length, EachIndex, slice_index, slice_index_or, vec_len};
 ghost use Rattle.fv_plane.specs.Bytes.{wide_bytes};
 ghost use Rattle.fv_plane.specs.Format.{IsLegal, largest_sample, planes, plane_width, plane_height, sample_bytes, scale};
 ghost use Rattle.fv_plane.specs.Look.{look_in, row_from};
 ghost use Rattle.fv_plane.specs.Picture.{row_of};
 ghost use Rattle.clip_term.specs.Soft.{side_of, weighed, convolved};
 ghost use Rattle.flt_rows.specs.Rows.{extended, AreWeights, IsBias, IsWithin, AreWithin};
-ghost use Rattle.flt_rows.specs.Squares.{size_of_all, IsWideEnding};
+ghost use Rattle.flt_rows.specs.Squares.{size_of_all};
+ghost use Rattle.flt_soft.specs.Pictures.{CanConvolveWide};
 
-use crate::convolve::{divisor_of, place, size_of_all, square_of, weight};
+use crate::convolve::{divisor_of, ending_of, place, size_of_all, square_of, weight};
 use crate::rows::wide_row;
-use flt_rows::narrow::narrow_reciprocal_of;
 use flt_rows::wide_reciprocal::wide_reciprocal_of;
-use flt_rows::wide_squares::{self, WideEnding};
+use flt_rows::wide_squares;
 use flt_rows::wide_sums::{add_five, add_three, show_row};
 use fv_plane::{Frame, Shape, write_samples};
 
@@ -154,12 +154,7 @@ fn convolve_in_32_bits(
     sums: &mut [i32],
     out: &mut [u16],
 )
-    requires wide { sample_bytes input.now.shape ≡ 2 }
-    requires plane { plane < planes input.now.shape.kind }
-    requires inside { y < plane_height input.now.shape plane }
-    requires square { (length weights.now ≡ 9) ⊎ (length weights.now ≡ 25) }
-    requires weights { AreWeights weights.now }
-    requires bias { IsBias bias }
+    requires able { CanConvolveWide input.now plane y bias weights.now }
     requires whole { length out.old ≡ plane_width input.now.shape plane }
     requires sums { length sums.old ≡ length out.old }
     requires padded { length padded.old ≡ length out.old + 4 }
@@ -172,29 +167,6 @@ fn convolve_in_32_bits(
     let by = wide_reciprocal_of(divisor.unsigned_abs());
     let bias = scaled_bias(bias, shape);
     show_row(sums, divisor, by, bias, shape.largest_sample(), out);
-}
-
-// How sums end.
-fn ending_of(divisor: i32, bias: i32, largest: u16) -> WideEnding
-    requires some { 0 < unsigned_abs divisor }
-    requires small { unsigned_abs divisor ≤ 128 }
-    requires bias { unsigned_abs bias < 2 ^ 15 }
-    requires largest { largest < 2 ^ 15 }
-    ensures ending { IsWideEnding result }
-    ensures divisor { result.divisor ≡ divisor }
-    ensures bias { pos result.more -ℤ pos result.less ≡ bias }
-    ensures largest { result.largest ≡ largest }
-{
-    let by = narrow_reciprocal_of(divisor.unsigned_abs() as u16);
-    let size = bias.unsigned_abs() as u16;
-    let (more, less) = if bias < 0 { (0, size) } else { (size, 0) };
-    WideEnding {
-        divisor,
-        by,
-        more,
-        less,
-        largest,
-    }
 }
 
 // A row of the picture that is made, by sums of 16 bits.
@@ -239,12 +211,7 @@ fn convolve_row(
     sums: &mut [i32],
     out: &mut [u16],
 )
-    requires wide { sample_bytes input.now.shape ≡ 2 }
-    requires plane { plane < planes input.now.shape.kind }
-    requires inside { y < plane_height input.now.shape plane }
-    requires square { (length weights.now ≡ 9) ⊎ (length weights.now ≡ 25) }
-    requires weights { AreWeights weights.now }
-    requires bias { IsBias bias }
+    requires able { CanConvolveWide input.now plane y bias weights.now }
     requires whole { length out.old ≡ plane_width input.now.shape plane }
     requires sums { length sums.old ≡ length out.old }
     requires padded { length padded.old ≡ length out.old + 4 }

@@ -15,4 +15,4 @@ returns-else-sum-ending c =
     let is : size ≡ unsigned_abs c.args.sum / unsigned_abs ending.divisor = rw (c.unsigned_abs.ensures.value, c.unsigned_abs-2.ensures.value, n, d) at c.divide-size.ensures in
     let quotient : int_div c.args.sum ending.divisor ≡ neg_ℤ (pos size) = quotient_other c.args.sum ending.divisor size is (rw (n, d) at c.if-sum-ending.false) in
     let moved : pos ending.more -ℤ pos (size + ending.less) ≡ neg_ℤ (pos size) +ℤ (pos ending.more -ℤ pos ending.less) = omega (arith, ints) in
-    c.sample_between-else-sum-ending.ensures ∙ ap (sample_from 255) (moved ∙ ap (λ q. q +ℤ (pos ending.more -ℤ pos ending.less)) (sym quotient))
+    c.sample_between-else-sum-ending.ensures ∙ ap (sample_from ending.largest) (moved ∙ ap (λ q. q +ℤ (pos ending.more -ℤ pos ending.less)) (sym quotient))

@@ -1,9 +1,9 @@
 -- The samples around a place lie in three rows of the picture.
-use Rattle.std.proofs.Common.{◌≡◌, ◌≤◌, ◌∙◌, ℕ, get_or, ap, sym, arith, w32, pos, ◌+ℤ◌}
+use Rattle.std.proofs.Common.{◌≡◌, ◌≤◌, ◌-◌, ◌^◌, ◌∙◌, ℕ, get_or, ap, sym, arith, w32, pos, ◌+ℤ◌}
 use Rattle.std.specs.Prelude.{ℤ, int_div, ◌-ℤ◌, ◌==◌, if◌then◌else◌, unsigned_abs}
 use Rattle.std.proofs.lemmas.Int.{ints, to_z-of_z}
 use Rattle.fv_plane.specs.declared.format.Shape.{Shape}
-use Rattle.fv_plane.specs.Format.{plane_height}
+use Rattle.fv_plane.specs.Format.{largest_sample, plane_height}
 use Rattle.fv_plane.specs.Look.{look_in}
 use Rattle.clip_term.specs.Soft.{place, side_of, weighed, divisor_of, sample_from}
 use Rattle.flt_rows.specs.Squares.{shown, weighed_around}
@@ -19,10 +19,10 @@ ending_of-ending-requires-clause-small c =
     rw same few
 
 pub convolve_row-requires-clause-some : goal.convolve_row-requires-clause-some
-convolve_row-requires-clause-some c = rw c.narrow_row-row.ensures.whole (some_columns c.args.input.now.shape c.args.plane c.shape.ensures.sizes.legal)
+convolve_row-requires-clause-some c = rw c.narrow_row-row.ensures.whole (some_columns c.args.input.now.shape c.args.plane c.shape-shape.ensures.sizes.legal)
 
 pub convolve_row-requires-clause-wide : goal.convolve_row-requires-clause-wide
-convolve_row-requires-clause-wide c = rw c.narrow_row-row.ensures.whole (few_columns c.args.input.now.shape c.args.plane c.shape.ensures.sizes.legal)
+convolve_row-requires-clause-wide c = rw c.narrow_row-row.ensures.whole (few_columns c.args.input.now.shape c.args.plane c.shape-shape.ensures.sizes.legal)
 
 pub returns : goal.returns
 returns c =
@@ -32,12 +32,15 @@ returns c =
     let y : ℕ = c.args.y in
     let ending = c.ending_of-ending.result in
     let height : ℕ = plane_height input.shape p in
-    let high : c.plane_height-height.result ≡ height = c.plane_height-height.ensures ∙ ap (λ (s : Shape). plane_height s p) c.shape.ensures.shape in
+    let high : c.plane_height-height.result ≡ height = c.plane_height-height.ensures ∙ ap (λ (s : Shape). plane_height s p) c.shape-shape.ensures.shape in
     let above : c.place.result ≡ place y 0 1 height = c.place.ensures.place ∙ ap (λ h. place y 0 1 h) high in
     let middle : y ≡ place y 1 1 height = omega (arith, c.requires.inside) in
     let below : c.place-2.result ≡ place y 2 1 height = c.place-2.ensures.place ∙ ap (λ h. place y 2 1 h) high in
     let divisor : ending.divisor ≡ divisor_of weights = omega (arith, ints, c.ending_of-ending.ensures.divisor, c.divisor_of.ensures.value) in
     let bias : pos ending.more -ℤ pos ending.less ≡ c.args.bias = c.ending_of-ending.ensures.bias ∙ to_z-of_z w32 c.args.bias c.ranges.bias in
+    let most : ending.largest ≡ 255
+    = c.ending_of-ending.ensures.largest ∙ c.largest_sample.ensures ∙ ap (λ (s : Shape). largest_sample s) c.shape-shape.ensures.shape
+    ∙ ap (λ bits. 2 ^ bits - 1) c.requires.narrow in
     let side : 3 ≡ side_of weights = sym (ap (λ n. if n == 9 then 3 else 5) c.requires.nine) in
     λ x h.
     let sum : ℤ = weighed (side_of weights) 0 weights input.shape (look_in input) p x y in
@@ -49,6 +52,7 @@ returns c =
     ∙ ap (λ ws. weighed 3 0 ws input.shape (look_in input) p x y) c.square_of.ensures
     ∙ ap (λ n. weighed n 0 weights input.shape (look_in input) p x y) side in
     c.convolve_row.ensures x h ∙ ap (shown ending) is
+    ∙ ap (λ m. sample_from m (int_div sum ending.divisor +ℤ (pos ending.more -ℤ pos ending.less))) most
     ∙ ap (λ d. sample_from 255 (int_div sum d +ℤ (pos ending.more -ℤ pos ending.less))) divisor
     ∙ ap (λ b. sample_from 255 (int_div sum (divisor_of weights) +ℤ b)) bias
     ∙ narrow_convolved c.args.bias weights input.shape (look_in input) p x y c.requires.narrow

@@ -8,7 +8,7 @@ use Rattle.fv_plane.specs.Format.{largest_sample, plane_height, plane_width, sca
 use Rattle.fv_plane.specs.Look.{look_in}
 use Rattle.fv_plane.proofs.WideLemmas.{length-wide_samples}
 use Rattle.clip_term.specs.Soft.{place, side_of, weighed, divisor_of, sample_from}
-use Rattle.flt_rows.specs.Squares.{size_of_all, shown_wide, weighed_around}
+use Rattle.flt_rows.specs.Squares.{size_of_all, shown, weighed_around}
 use Rattle.flt_rows.proofs.NarrowLemmas.{divisor_size, square_is, square_size}
 use Rattle.flt_soft.proofs.PictureLemmas.{few_columns, light_weights, row_fits, scaled_small, some_columns}
 use Rattle.flt_soft.proofs.convolve_wide.convolve_in_16_bits.Goals as goal
@@ -90,7 +90,7 @@ returns c =
     (λ z. ap (λ l. get_or l z 0) c.wide_row-below.ensures.row ∙ ap (λ r. look_in input p z r) below)
     ∙ ap (λ ws. weighed 3 0 ws shape (look_in input) p x y) c.square_of.ensures
     ∙ ap (λ n. weighed n 0 weights shape (look_in input) p x y) side in
-    c.convolve_row.ensures x h ∙ ap (shown_wide ending) is
+    c.convolve_row.ensures x h ∙ ap (shown ending) is
     ∙ ap (λ d. sample_from ending.largest (int_div sum d +ℤ (pos ending.more -ℤ pos ending.less))) divisor
     ∙ ap (λ b. sample_from ending.largest (int_div sum (divisor_of weights) +ℤ b)) bias
     ∙ ap (λ m. sample_from m (int_div sum (divisor_of weights) +ℤ c.args.bias *ℤ pos (scale shape))) most
