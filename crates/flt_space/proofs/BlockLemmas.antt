@@ -1,7 +1,7 @@
 -- A block of 16 rows of 16 samples, transposed by four steps.
-use Rattle.std.proofs.Common.{◌≡◌, ◌∙◌, ℕ, ◌+◌, ◌*◌, ◌-◌, ◌/◌, ◌%◌, ◌<◌, ◌≤◌, List, [], ◌∷◌, ◌++◌, length, take, drop, get_or, get_or-take, length-append, length-take-le, length-drop, ap, sym, refl, arith, ⊎_elim}
+use Rattle.std.proofs.Common.{◌≡◌, ◌∙◌, ℕ, ◌+◌, ◌*◌, ◌-◌, ◌/◌, ◌%◌, ◌<◌, ◌≤◌, List, [], ◌∷◌, ◌++◌, length, take, drop, get_or, get_or-take, length-append, length-take-le, length-drop, take-append-drop, ap, sym, refl, arith, ⊎_elim}
 use Rattle.std.proofs.lemmas.Bool.{cases_lt}
-use Rattle.std.proofs.lemmas.List.{get_or_append_left, get_or-append_right, get_or-drop}
+use Rattle.std.proofs.lemmas.List.{get_or_append_left, get_or-append_right, get_or-drop, take_all}
 use Rattle.std.proofs.lemmas.Nat.{mul-le}
 use Rattle.std.proofs.lemmas.Simd.{put_chunk_whole}
 use Rattle.std.proofs.Math.Nat.{suc-mul}
@@ -46,6 +46,46 @@ woven start end front back first last long same =
       odd = λ k less. ap (λ l. get_or l (2 * k + 1) 0) out ∙ odd_lanes pair k less
           ∙ get_or-append_right (take 16 front) (take 16 back) 16 (16 + k) 0 size (omega arith)
           ∙ ap (λ m. get_or (take 16 back) m 0) (omega arith) ∙ get_or-take 16 back k 0 less;
+    }
+
+-- ---- the samples in even places, and those in odd places
+
+abbrev pub evens_of : List ℕ → List ℕ
+evens_of pair = get_or pair 0 0 ∷ get_or pair 2 0 ∷ get_or pair 4 0 ∷ get_or pair 6 0 ∷ get_or pair 8 0 ∷ get_or pair 10 0 ∷ get_or pair 12 0 ∷ get_or pair 14 0 ∷ get_or pair 16 0 ∷ get_or pair 18 0 ∷ get_or pair 20 0 ∷ get_or pair 22 0 ∷ get_or pair 24 0 ∷ get_or pair 26 0 ∷ get_or pair 28 0 ∷ get_or pair 30 0 ∷ []
+
+abbrev pub odds_of : List ℕ → List ℕ
+odds_of pair = get_or pair 1 0 ∷ get_or pair 3 0 ∷ get_or pair 5 0 ∷ get_or pair 7 0 ∷ get_or pair 9 0 ∷ get_or pair 11 0 ∷ get_or pair 13 0 ∷ get_or pair 15 0 ∷ get_or pair 17 0 ∷ get_or pair 19 0 ∷ get_or pair 21 0 ∷ get_or pair 23 0 ∷ get_or pair 25 0 ∷ get_or pair 27 0 ∷ get_or pair 29 0 ∷ get_or pair 31 0 ∷ []
+
+evens : (pair : List ℕ) (k : ℕ) → k < 16 → get_or (evens_of pair) k 0 ≡ get_or pair (2 * k) 0
+evens pair =
+    let P : ℕ → Type 0 = λ k. get_or (evens_of pair) k 0 ≡ get_or pair (2 * k) 0 in
+    below_more P 15 (below_more P 14 (below_more P 13 (below_more P 12 (below_more P 11 (below_more P 10 (below_more P 9 (below_more P 8 (below_more P 7 (below_more P 6 (below_more P 5 (below_more P 4 (below_more P 3 (below_more P 2 (below_more P 1 (below_more P 0 (below_none P) refl) refl) refl) refl) refl) refl) refl) refl) refl) refl) refl) refl) refl) refl) refl) refl
+
+odds : (pair : List ℕ) (k : ℕ) → k < 16 → get_or (odds_of pair) k 0 ≡ get_or pair (2 * k + 1) 0
+odds pair =
+    let P : ℕ → Type 0 = λ k. get_or (odds_of pair) k 0 ≡ get_or pair (2 * k + 1) 0 in
+    below_more P 15 (below_more P 14 (below_more P 13 (below_more P 12 (below_more P 11 (below_more P 10 (below_more P 9 (below_more P 8 (below_more P 7 (below_more P 6 (below_more P 5 (below_more P 4 (below_more P 3 (below_more P 2 (below_more P 1 (below_more P 0 (below_none P) refl) refl) refl) refl) refl) refl) refl) refl) refl) refl) refl) refl) refl) refl) refl) refl
+
+pub record IsUnwoven (samples first second : List ℕ) : Type 0 where
+  pub even_whole : length first ≡ 16
+  pub odd_whole : length second ≡ 16
+  pub even : (k : ℕ) → k < 16 → get_or first k 0 ≡ get_or samples (2 * k) 0
+  pub odd : (k : ℕ) → k < 16 → get_or second k 0 ≡ get_or samples (2 * k + 1) 0
+
+pub unwoven : (samples front back even odd : List ℕ) → length samples ≡ 32 → front ≡ take 16 samples → back ≡ drop 16 samples → length even ≡ 16 → length odd ≡ 16
+    → IsUnwoven samples (put_chunk 0 even (evens_of (take 16 front ++ take 16 back))) (put_chunk 0 odd (odds_of (take 16 front ++ take 16 back)))
+unwoven samples front back even odd long first last even_long odd_long =
+    let pair : List ℕ = take 16 front ++ take 16 back in
+    let before : take 16 front ≡ take 16 samples = ap (take 16) first ∙ take_all 16 (take 16 samples) (omega (arith, length-take-le 16 samples (omega arith))) in
+    let after : take 16 back ≡ drop 16 samples = ap (take 16) last ∙ take_all 16 (drop 16 samples) (omega (arith, length-drop 16 samples)) in
+    let whole : pair ≡ samples = ap (λ l. l ++ take 16 back) before ∙ ap (λ l. take 16 samples ++ l) after ∙ take-append-drop 16 samples in
+    let evens_put = put_chunk_whole even (evens_of pair) even_long in
+    let odds_put = put_chunk_whole odd (odds_of pair) odd_long in
+    record {
+      even_whole = ap length evens_put;
+      odd_whole = ap length odds_put;
+      even = λ k less. ap (λ l. get_or l k 0) evens_put ∙ evens pair k less ∙ ap (λ l. get_or l (2 * k) 0) whole;
+      odd = λ k less. ap (λ l. get_or l k 0) odds_put ∙ odds pair k less ∙ ap (λ l. get_or l (2 * k + 1) 0) whole;
     }
 
 -- the halves of a block, sample by sample in turn

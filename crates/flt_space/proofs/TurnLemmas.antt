@@ -70,6 +70,17 @@ turn_step out want count h x y p v size long ly lx is inside value before here =
       (cases_lt b y),
 )
 
+-- and then column x is done
+pub column_done : (out : List ℕ) (want : ℕ → ℕ → ℕ) (count h x : ℕ) → ((b a : ℕ) → b < count → a < x → get_or out (b * h + a) 0 ≡ want b a) → ((b : ℕ) → b < count → get_or out (b * h + x) 0 ≡ want b x)
+    → (b a : ℕ) → b < count → a < x + 1 → get_or out (b * h + a) 0 ≡ want b a
+column_done out want count h x before here b a few within =
+    ⊎_elim
+    (λ (l : a < x). before b a few l)
+    (λ (l : x ≤ a).
+    let same : a ≡ x = omega arith in
+    ap (λ z. get_or out (b * h + z) 0) same ∙ here b few ∙ ap (want b) (sym same))
+    (cases_lt a x)
+
 -- the whole of a vector is written
 pub whole_put : (new old : List ℕ) (n : ℕ) → length new ≡ n → take n (new ++ drop (length new) old) ≡ new
 whole_put new old n long = ap (λ m. take m (new ++ drop (length new) old)) (sym long) ∙ take-append_seam new (drop (length new) old)
@@ -88,7 +99,7 @@ part_at samples w (suc n) (suc k) less =
     let next : w + k * w ≡ suc k * w = omega (arith, suc-mul k w) in
     part_at (drop w samples) w n k (omega (arith, less)) ∙ ap (take w) (drop-drop (k * w) w samples ∙ ap (λ m. drop m samples) next)
 
-fits_in : (w n k x : ℕ) → k < n → x < w → k * w + x < n * w
+pub fits_in : (w n k x : ℕ) → k < n → x < w → k * w + x < n * w
 fits_in w zero k x less within = absurd (omega (arith, less))
 fits_in w (suc n) zero x less within = omega (arith, within, suc-mul n w)
 fits_in w (suc n) (suc k) x less within =
@@ -113,7 +124,7 @@ pub rows_count : (shape : Shape) (w n : ℕ) (bytes : List ℕ) → length (map 
 rows_count shape w zero bytes = refl
 rows_count shape w (suc n) bytes = ap suc (rows_count shape w n (drop w bytes))
 
-times_three : (n w s : ℕ) → n * (w * s) ≡ (n * w) * s
+pub times_three : (n w s : ℕ) → n * (w * s) ≡ (n * w) * s
 times_three n w s = grind arith
 
 -- the samples of rows that lie side by side

@@ -1,6 +1,7 @@
 -- The rows that makers put.
 use Rattle.std.specs.Prelude.{◌≡◌, ℕ, ◌+◌, ◌*◌, ◌-◌, ◌<◌, ◌==◌, if◌then◌else◌, List, ◌++◌, length, map, replicate, take, drop, slice_index}
 use Rattle.fv_plane.specs.declared.format.Shape.{Shape}
+use Rattle.fv_plane.specs.Bytes.{row_of_bytes}
 use Rattle.fv_plane.specs.Format.{plane_width, plane_height}
 use Rattle.fv_plane.specs.Look.{Look, look_in, row_from}
 use Rattle.fv_plane.specs.Picture.{Picture, row_of, sample_of}
@@ -41,8 +42,9 @@ abbrev pub Turns : SpaceOp → (ℕ → ℕ → ℕ) → (ℕ → ℕ → ℕ) �
 Turns op row column input =
     (p x y : ℕ) → space_at op input.shape (look_in input) p x y ≡ turned_at row column input p x y
 
--- the first columns of rows of a turned plane that lie side by side, from row y on
+-- bytes of rows that lie side by side, whose first columns are those of a turned plane from row y on
 abbrev pub HasColumns : (ℕ → ℕ → ℕ) → (ℕ → ℕ → ℕ) → Picture → ℕ → ℕ → ℕ → ℕ → List ℕ → Type 0
-HasColumns row column input p y count columns rows =
+HasColumns row column input p y count columns bytes =
     (k x : ℕ) → k < count → x < columns
-    → slice_index rows (k * plane_height input.shape p + x) ≡ turned_at row column input p x (y + k)
+    → slice_index (row_of_bytes input.shape bytes) (k * plane_height input.shape p + x)
+    ≡ turned_at row column input p x (y + k)

@@ -120,8 +120,8 @@ pub fn copy_16(samples: &[u8], out: &mut [u8])
     u8x16::from_slice(samples).copy_to_slice(out);
 }
 
-// Sixteen samples and sixteen others, sample by sample in turn.
-fn weave(front: &[u8], back: &[u8], out: &mut [u8])
+/// Sixteen samples and sixteen others, sample by sample in turn.
+pub fn weave(front: &[u8], back: &[u8], out: &mut [u8])
     requires front { length front.now ≡ 16 }
     requires back { length back.now ≡ 16 }
     requires whole { length out.old ≡ 32 }
@@ -133,6 +133,22 @@ fn weave(front: &[u8], back: &[u8], out: &mut [u8])
     let (start, end) = out.split_at_mut(16);
     low.copy_to_slice(start);
     high.copy_to_slice(end);
+}
+
+/// The sixteen samples in even places, and the sixteen in odd places.
+pub fn unweave(samples: &[u8], even: &mut [u8], odd: &mut [u8])
+    requires samples { length samples.now ≡ 32 }
+    requires even { length even.old ≡ 16 }
+    requires odd { length odd.old ≡ 16 }
+    ensures even_whole { length even.new ≡ 16 }
+    ensures odd_whole { length odd.new ≡ 16 }
+    ensures even { (k : ℕ) → k < 16 → slice_index even.new k ≡ slice_index samples.now (2 * k) }
+    ensures odd { (k : ℕ) → k < 16 → slice_index odd.new k ≡ slice_index samples.now (2 * k + 1) }
+{
+    let (front, back) = samples.split_at(16);
+    let (first, second) = u8x16::from_slice(front).deinterleave(u8x16::from_slice(back));
+    first.copy_to_slice(even);
+    second.copy_to_slice(odd);
 }
 
 // The halves of a block, sample by sample in turn. By vectors, so that a block stays in registers from step to step.

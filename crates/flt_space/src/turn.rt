@@ -10,8 +10,8 @@ ghost use Rattle.clip_term.specs.declared.op.SpaceOp.TheVariants.{TurnLeft, Turn
 ghost use Rattle.clip_term.specs.Space.{space_at, space_picture, space_refusals, space_shape};
 ghost use Rattle.flt_space.specs.Rows.{HasRows, HasColumns, Turns};
 
-use crate::kernels::{copy_16, transpose};
-use fv_plane::{Frame, FrameBuilder, Shape, write_samples};
+use crate::kernels::{copy_16, transpose, unweave, weave};
+use fv_plane::{Frame, FrameBuilder, Shape};
 use std::alloc::{AllocError, Global};
 
 // How many rows are made at a time. Columns that lie beside each other are read together, since they share cache lines.
@@ -128,6 +128,46 @@ fn read_block<T: Turn>(input: &Frame, plane: u32, column: u32, x: u32, block: &m
     }
 }
 
+// Reads 16 samples of two bytes, from a column on, of each of the rows that 16 columns of the turned plane are: the low
+// bytes into one block, the high ones into another.
+fn read_wide_block<T: Turn>(
+    input: &Frame,
+    plane: u32,
+    column: u32,
+    x: u32,
+    low: &mut [u8; 256],
+    high: &mut [u8; 256],
+)
+    requires wide { sample_bytes input.now.shape ≡ 2 }
+    requires plane { plane < planes input.now.shape.kind }
+    requires across { column + 16 ≤ plane_width input.now.shape plane }
+    requires down { x + 16 ≤ plane_height input.now.shape plane }
+    ensures { (k i : ℕ) → k < 16 → i < 16 → slice_index low.new (16 * i + k) + 256 * slice_index high.new (16 * i + k)
+        ≡ sample_of input.now.planes plane (column + k) (T.row_of (plane_height input.now.shape plane) (x + i)) }
+{
+    let height = input.shape().plane_height(plane);
+    let column = 2 * column as usize;
+    for i in 0..16 {
+        let row = input.row(plane, T::row(height, x + i));
+        let at = 16 * i as usize;
+        unweave(
+            &row[column..column + 32],
+            &mut low[at..at + 16],
+            &mut high[at..at + 16],
+        );
+    }
+}
+
+// Where the samples that go to row y of the turned plane begin in a block of 16 columns, from `first` on.
+fn start_in_block<T: Turn>(width: u32, first: u32, y: u32) -> usize
+    requires inside { y < width }
+    requires low { first ≤ T.column_of width y }
+    requires high { T.column_of width y < first + 16 }
+    ensures { result ≡ 16 * (T.column_of width y - first) }
+{
+    16 * (T::column(width, y) - first) as usize
+}
+
 // Makes 16 columns, from x on, of 16 rows, from `top` on, of those that lie side by side from row y of the turned plane on.
 fn turn_block<T: Turn>(
     input: &Frame,
@@ -145,7 +185,7 @@ fn turn_block<T: Turn>(
     requires inside { top + 16 ≤ count }
     requires few { count ≤ 64 }
     requires high { plane_height input.now.shape plane ≤ 65535 }
-    requires whole { length out.old ≡ count * plane_height input.now.shape plane }
+    requires whole { length out.old ≡ count * (plane_height input.now.shape plane * sample_bytes input.now.shape) }
     requires above { HasColumns T.row_of T.column_of input.now plane y top (x + 16) out.old }
     requires before { HasColumns T.row_of T.column_of input.now plane y count x out.old }
     ensures whole { length out.new ≡ length out.old }
@@ -159,9 +199,52 @@ fn turn_block<T: Turn>(
     read_block::<T>(input, plane, first, x, &mut block);
     transpose(&mut block);
     for k in 0..16 {
-        let from = 16 * (T::column(width, y + top + k) - first) as usize;
+        let from = start_in_block::<T>(width, first, y + top + k);
         let at = (top + k) as usize * height + x as usize;
         copy_16(&block[from..from + 16], &mut out[at..at + 16]);
+    }
+}
+
+// The same, where a sample has two bytes.
+fn turn_wide_block<T: Turn>(
+    input: &Frame,
+    plane: u32,
+    y: u32,
+    count: u32,
+    top: u32,
+    x: u32,
+    out: &mut [u8],
+)
+    requires wide { sample_bytes input.now.shape ≡ 2 }
+    requires plane { plane < planes input.now.shape.kind }
+    requires across { y + count ≤ plane_width input.now.shape plane }
+    requires down { x + 16 ≤ plane_height input.now.shape plane }
+    requires inside { top + 16 ≤ count }
+    requires few { count ≤ 64 }
+    requires high { plane_height input.now.shape plane ≤ 65535 }
+    requires whole { length out.old ≡ count * (plane_height input.now.shape plane * sample_bytes input.now.shape) }
+    requires above { HasColumns T.row_of T.column_of input.now plane y top (x + 16) out.old }
+    requires before { HasColumns T.row_of T.column_of input.now plane y count x out.old }
+    ensures whole { length out.new ≡ length out.old }
+    ensures more { HasColumns T.row_of T.column_of input.now plane y (top + 16) (x + 16) out.new }
+    ensures before { HasColumns T.row_of T.column_of input.now plane y count x out.new }
+{
+    let width = input.shape().plane_width(plane);
+    let height = input.shape().plane_height(plane) as usize;
+    let first = T::first_column(width, y + top);
+    let mut low = [0; 256];
+    let mut high = [0; 256];
+    read_wide_block::<T>(input, plane, first, x, &mut low, &mut high);
+    transpose(&mut low);
+    transpose(&mut high);
+    for k in 0..16 {
+        let from = start_in_block::<T>(width, first, y + top + k);
+        let at = 2 * ((top + k) as usize * height + x as usize);
+        weave(
+            &low[from..from + 16],
+            &high[from..from + 16],
+            &mut out[at..at + 32],
+        );
     }
 }
 
@@ -172,7 +255,7 @@ fn turn_columns<T: Turn>(input: &Frame, plane: u32, y: u32, count: u32, x: u32, 
     requires inside { y + count ≤ plane_width input.now.shape plane }
     requires few { count ≤ 64 }
     requires high { plane_height input.now.shape plane ≤ 65535 }
-    requires whole { length out.old ≡ count * plane_height input.now.shape plane }
+    requires whole { length out.old ≡ count * (plane_height input.now.shape plane * sample_bytes input.now.shape) }
     requires before { HasColumns T.row_of T.column_of input.now plane y count x out.old }
     ensures whole { length out.new ≡ length out.old }
     ensures all { HasColumns T.row_of T.column_of input.now plane y count (plane_height input.now.shape plane) out.new }
@@ -188,34 +271,62 @@ fn turn_columns<T: Turn>(input: &Frame, plane: u32, y: u32, count: u32, x: u32, 
     }
 }
 
+// The same, where a sample has two bytes.
+fn turn_wide_columns<T: Turn>(input: &Frame, plane: u32, y: u32, count: u32, x: u32, out: &mut [u8])
+    requires wide { sample_bytes input.now.shape ≡ 2 }
+    requires plane { plane < planes input.now.shape.kind }
+    requires inside { y + count ≤ plane_width input.now.shape plane }
+    requires few { count ≤ 64 }
+    requires high { plane_height input.now.shape plane ≤ 65535 }
+    requires whole { length out.old ≡ count * (plane_height input.now.shape plane * sample_bytes input.now.shape) }
+    requires before { HasColumns T.row_of T.column_of input.now plane y count x out.old }
+    ensures whole { length out.new ≡ length out.old }
+    ensures all { HasColumns T.row_of T.column_of input.now plane y count (plane_height input.now.shape plane) out.new }
+{
+    let width = input.shape().plane_width(plane);
+    let height = input.shape().plane_height(plane);
+    for x in x..height {
+        let row = input.row(plane, T::row(height, x));
+        for k in 0..count {
+            let at = 2 * place(k as usize, height as usize, x as usize, count as usize);
+            let from = 2 * T::column(width, y + k) as usize;
+            out[at] = row[from];
+            out[at + 1] = row[from + 1];
+        }
+    }
+}
+
 // Makes 16 columns, from x on, of rows of the turned plane.
 fn turn_across<T: Turn>(input: &Frame, plane: u32, y: u32, count: u32, x: u32, out: &mut [u8])
-    requires narrow { input.now.shape.bits ≡ 8 }
     requires plane { plane < planes input.now.shape.kind }
     requires across { y + count ≤ plane_width input.now.shape plane }
     requires down { x + 16 ≤ plane_height input.now.shape plane }
     requires blocks { count % 16 ≡ 0 }
     requires few { count ≤ 64 }
     requires high { plane_height input.now.shape plane ≤ 65535 }
-    requires whole { length out.old ≡ count * plane_height input.now.shape plane }
+    requires whole { length out.old ≡ count * (plane_height input.now.shape plane * sample_bytes input.now.shape) }
     requires before { HasColumns T.row_of T.column_of input.now plane y count x out.old }
     ensures whole { length out.new ≡ length out.old }
     ensures more { HasColumns T.row_of T.column_of input.now plane y count (x + 16) out.new }
 {
+    let narrow = input.shape().bits == 8;
     for block in 0..count / 16 {
-        turn_block::<T>(input, plane, y, count, 16 * block, x, out);
+        if narrow {
+            turn_block::<T>(input, plane, y, count, 16 * block, x, out);
+        } else {
+            turn_wide_block::<T>(input, plane, y, count, 16 * block, x, out);
+        }
     }
 }
 
 // Makes rows of the turned plane, but for its last columns, and answers at which column these begin.
 fn turn_blocks<T: Turn>(input: &Frame, plane: u32, y: u32, count: u32, out: &mut [u8]) -> u32
-    requires narrow { input.now.shape.bits ≡ 8 }
     requires plane { plane < planes input.now.shape.kind }
     requires inside { y + count ≤ plane_width input.now.shape plane }
     requires blocks { count % 16 ≡ 0 }
     requires few { count ≤ 64 }
     requires high { plane_height input.now.shape plane ≤ 65535 }
-    requires whole { length out.old ≡ count * plane_height input.now.shape plane }
+    requires whole { length out.old ≡ count * (plane_height input.now.shape plane * sample_bytes input.now.shape) }
     ensures whole { length out.new ≡ length out.old }
     ensures inside { result ≤ plane_height input.now.shape plane }
     ensures done { HasColumns T.row_of T.column_of input.now plane y count result out.new }
@@ -229,12 +340,11 @@ fn turn_blocks<T: Turn>(input: &Frame, plane: u32, y: u32, count: u32, out: &mut
 
 // Makes rows of the turned plane from row `y` on, which lie side by side.
 fn turn_rows<T: Turn>(input: &Frame, plane: u32, y: u32, count: u32, out: &mut [u8])
-    requires narrow { input.now.shape.bits ≡ 8 }
     requires plane { plane < planes input.now.shape.kind }
     requires inside { y + count ≤ plane_width input.now.shape plane }
     requires few { count ≤ 64 }
     requires high { plane_height input.now.shape plane ≤ 65535 }
-    requires whole { length out.old ≡ count * plane_height input.now.shape plane }
+    requires whole { length out.old ≡ count * (plane_height input.now.shape plane * sample_bytes input.now.shape) }
     ensures whole { length out.new ≡ length out.old }
     ensures rows { HasColumns T.row_of T.column_of input.now plane y count (plane_height input.now.shape plane) out.new }
 {
@@ -243,39 +353,20 @@ fn turn_rows<T: Turn>(input: &Frame, plane: u32, y: u32, count: u32, out: &mut [
     } else {
         0
     };
-    turn_columns::<T>(input, plane, y, count, made, out);
-}
-
-// Makes rows of the turned plane from row `y` on, which lie side by side, of samples of two bytes.
-fn turn_samples<T: Turn>(input: &Frame, plane: u32, y: u32, count: u32, out: &mut [u16])
-    requires wide { sample_bytes input.now.shape ≡ 2 }
-    requires plane { plane < planes input.now.shape.kind }
-    requires inside { y + count ≤ plane_width input.now.shape plane }
-    requires few { count ≤ 64 }
-    requires high { plane_height input.now.shape plane ≤ 65535 }
-    requires whole { length out.old ≡ count * plane_height input.now.shape plane }
-    ensures whole { length out.new ≡ length out.old }
-    ensures rows { HasColumns T.row_of T.column_of input.now plane y count (plane_height input.now.shape plane) out.new }
-{
-    let width = input.shape().plane_width(plane);
-    let height = input.shape().plane_height(plane);
-    for x in 0..height {
-        let row = input.row(plane, T::row(height, x));
-        for k in 0..count {
-            let at = place(k as usize, height as usize, x as usize, count as usize);
-            let from = 2 * T::column(width, y + k) as usize;
-            out[at] = row[from] as u16 + 256 * row[from + 1] as u16;
-        }
+    if input.shape().bits == 8 {
+        turn_columns::<T>(input, plane, y, count, made, out);
+    } else {
+        turn_wide_columns::<T>(input, plane, y, count, made, out);
     }
 }
 
-// How many samples rows of this width have.
-fn size_of(count: u32, width: u32) -> usize
+// How many bytes rows of this many samples have.
+fn size_of(shape: Shape, count: u32, width: u32) -> usize
     requires few { count ≤ 64 }
     requires wide { width ≤ 65535 }
-    ensures { result ≡ count * width }
+    ensures { result ≡ count * (width * sample_bytes shape) }
 {
-    count as usize * width as usize
+    count as usize * (width * shape.sample_bytes()) as usize
 }
 
 // The bytes of rows of the turned plane from row `y` on, which lie side by side. An `Err` is out of memory.
@@ -297,16 +388,9 @@ fn turned_rows<T: Turn>(
         (plane_height input.now.shape plane) (row_of_bytes input.now.shape rows.items)) }
 {
     let shape = input.shape();
-    let size = size_of(count, shape.plane_height(plane));
-    if shape.bits == 8 {
-        let mut rows = vec![in alloc; 0u8; size]?;
-        turn_rows::<T>(input, plane, y, count, rows.as_mut_slice());
-        return Ok(rows);
-    }
-    let mut samples = vec![in alloc; 0u16; size]?;
-    turn_samples::<T>(input, plane, y, count, samples.as_mut_slice());
-    let mut rows = vec![in alloc; 0u8; 2 * size]?;
-    write_samples(samples.as_slice(), rows.as_mut_slice());
+    let size = size_of(shape, count, shape.plane_height(plane));
+    let mut rows = vec![in alloc; 0u8; size]?;
+    turn_rows::<T>(input, plane, y, count, rows.as_mut_slice());
     Ok(rows)
 }
 
