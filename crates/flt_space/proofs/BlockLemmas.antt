@@ -210,9 +210,6 @@ module _ (out part : List ℕ) (want : ℕ → ℕ → ℕ) (count h x k a n : �
   fits : a + n ≤ length out
   fits = place_fits count h x k a n (length out) below right at whole size
 
-  pub row_long : length (put_mid a n out part) ≡ count * h
-  row_long = length_written a n out part long fits ∙ size
-
   pub row_done : ((i : ℕ) → i < 16 → get_or part i 0 ≡ want k (x + i))
       → ((j z : ℕ) → j < k → z < x + 16 → get_or out (j * h + z) 0 ≡ want j z)
       → ((j z : ℕ) → k ≤ j → j < count → z < x → get_or out (j * h + z) 0 ≡ want j z)

@@ -8,17 +8,11 @@ use Rattle.fv_plane.specs.Format.{sample_bytes}
 use Rattle.fv_plane.specs.Bytes.{row_of_bytes, wide_samples}
 use Rattle.fv_plane.proofs.BytesLemmas.{length-row_of_bytes, row_of_bytes-take, row_of_bytes-drop}
 use Rattle.fv_plane.proofs.CallerLemmas.{narrow_of_bytes, wide_of_bytes}
+use Rattle.fv_plane.proofs.WideLemmas.{wide_samples-append}
 use Rattle.flt_space.proofs.BlockLemmas.{length_written, place_fits, row_done, row_left}
 use Rattle.flt_space.proofs.TurnLemmas.{fits_in, samples_count, times_three, turn_step}
 
 -- ---- bytes that are put together
-
-wide_samples-append : (n : ℕ) (front rest : List ℕ) → length front ≡ n * 2 → wide_samples (front ++ rest) ≡ wide_samples front ++ wide_samples rest
-unfolding wide_samples
-wide_samples-append n [] rest long = refl
-wide_samples-append zero (low ∷ front) rest long = absurd (omega arith)
-wide_samples-append (suc n) (low ∷ []) rest long = absurd (omega arith)
-wide_samples-append (suc n) (low ∷ high ∷ front) rest long = ap (λ l. (low + 256 * high) ∷ l) (wide_samples-append n front rest (omega arith))
 
 append_by : (b : Bool) (n : ℕ) (front rest : List ℕ) → length front ≡ n * (if b then 1 else 2) → (if b then front ++ rest else wide_samples (front ++ rest)) ≡ (if b then front else wide_samples front) ++ (if b then rest else wide_samples rest)
 append_by true n front rest long = refl

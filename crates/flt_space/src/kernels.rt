@@ -85,8 +85,9 @@ pub fn reverse_row(row: &[u8], out: &mut [u8])
     ensures { EachIndex out.new (λ x. slice_index out.new x ≡ slice_index row.now (length row.now - 1 - x)) }
 {
     let width = out.len();
+    // The row is read forwards, as the rows of a picture lie, and what is written stays in the cache.
     for x in 0..width {
-        out[x] = row[width - 1 - x];
+        out[width - 1 - x] = row[x];
     }
 }
 

@@ -15,7 +15,7 @@ use fv_plane::{Frame, FrameBuilder, Shape};
 use std::alloc::{AllocError, Global};
 
 // How many rows are made at a time. Columns that lie beside each other are read together, since they share cache lines.
-const AT_A_TIME: u32 = 64;
+const AT_A_TIME: u32 = 128;
 
 // The place of a column in one of rows that lie side by side.
 fn place(row: usize, width: usize, column: usize, rows: usize) -> usize
@@ -183,7 +183,7 @@ fn turn_block<T: Turn>(
     requires across { y + count ≤ plane_width input.now.shape plane }
     requires down { x + 16 ≤ plane_height input.now.shape plane }
     requires inside { top + 16 ≤ count }
-    requires few { count ≤ 64 }
+    requires few { count ≤ 128 }
     requires high { plane_height input.now.shape plane ≤ 65535 }
     requires whole { length out.old ≡ count * (plane_height input.now.shape plane * sample_bytes input.now.shape) }
     requires above { HasColumns T.row_of T.column_of input.now plane y top (x + 16) out.old }
@@ -220,7 +220,7 @@ fn turn_wide_block<T: Turn>(
     requires across { y + count ≤ plane_width input.now.shape plane }
     requires down { x + 16 ≤ plane_height input.now.shape plane }
     requires inside { top + 16 ≤ count }
-    requires few { count ≤ 64 }
+    requires few { count ≤ 128 }
     requires high { plane_height input.now.shape plane ≤ 65535 }
     requires whole { length out.old ≡ count * (plane_height input.now.shape plane * sample_bytes input.now.shape) }
     requires above { HasColumns T.row_of T.column_of input.now plane y top (x + 16) out.old }
@@ -253,7 +253,7 @@ fn turn_columns<T: Turn>(input: &Frame, plane: u32, y: u32, count: u32, x: u32, 
     requires narrow { input.now.shape.bits ≡ 8 }
     requires plane { plane < planes input.now.shape.kind }
     requires inside { y + count ≤ plane_width input.now.shape plane }
-    requires few { count ≤ 64 }
+    requires few { count ≤ 128 }
     requires high { plane_height input.now.shape plane ≤ 65535 }
     requires whole { length out.old ≡ count * (plane_height input.now.shape plane * sample_bytes input.now.shape) }
     requires before { HasColumns T.row_of T.column_of input.now plane y count x out.old }
@@ -276,7 +276,7 @@ fn turn_wide_columns<T: Turn>(input: &Frame, plane: u32, y: u32, count: u32, x: 
     requires wide { sample_bytes input.now.shape ≡ 2 }
     requires plane { plane < planes input.now.shape.kind }
     requires inside { y + count ≤ plane_width input.now.shape plane }
-    requires few { count ≤ 64 }
+    requires few { count ≤ 128 }
     requires high { plane_height input.now.shape plane ≤ 65535 }
     requires whole { length out.old ≡ count * (plane_height input.now.shape plane * sample_bytes input.now.shape) }
     requires before { HasColumns T.row_of T.column_of input.now plane y count x out.old }
@@ -302,7 +302,7 @@ fn turn_across<T: Turn>(input: &Frame, plane: u32, y: u32, count: u32, x: u32, o
     requires across { y + count ≤ plane_width input.now.shape plane }
     requires down { x + 16 ≤ plane_height input.now.shape plane }
     requires blocks { count % 16 ≡ 0 }
-    requires few { count ≤ 64 }
+    requires few { count ≤ 128 }
     requires high { plane_height input.now.shape plane ≤ 65535 }
     requires whole { length out.old ≡ count * (plane_height input.now.shape plane * sample_bytes input.now.shape) }
     requires before { HasColumns T.row_of T.column_of input.now plane y count x out.old }
@@ -324,7 +324,7 @@ fn turn_blocks<T: Turn>(input: &Frame, plane: u32, y: u32, count: u32, out: &mut
     requires plane { plane < planes input.now.shape.kind }
     requires inside { y + count ≤ plane_width input.now.shape plane }
     requires blocks { count % 16 ≡ 0 }
-    requires few { count ≤ 64 }
+    requires few { count ≤ 128 }
     requires high { plane_height input.now.shape plane ≤ 65535 }
     requires whole { length out.old ≡ count * (plane_height input.now.shape plane * sample_bytes input.now.shape) }
     ensures whole { length out.new ≡ length out.old }
@@ -342,7 +342,7 @@ fn turn_blocks<T: Turn>(input: &Frame, plane: u32, y: u32, count: u32, out: &mut
 fn turn_rows<T: Turn>(input: &Frame, plane: u32, y: u32, count: u32, out: &mut [u8])
     requires plane { plane < planes input.now.shape.kind }
     requires inside { y + count ≤ plane_width input.now.shape plane }
-    requires few { count ≤ 64 }
+    requires few { count ≤ 128 }
     requires high { plane_height input.now.shape plane ≤ 65535 }
     requires whole { length out.old ≡ count * (plane_height input.now.shape plane * sample_bytes input.now.shape) }
     ensures whole { length out.new ≡ length out.old }
@@ -362,7 +362,7 @@ fn turn_rows<T: Turn>(input: &Frame, plane: u32, y: u32, count: u32, out: &mut [
 
 // How many bytes rows of this many samples have.
 fn size_of(shape: Shape, count: u32, width: u32) -> usize
-    requires few { count ≤ 64 }
+    requires few { count ≤ 128 }
     requires wide { width ≤ 65535 }
     ensures { result ≡ count * (width * sample_bytes shape) }
 {
@@ -379,7 +379,7 @@ fn turned_rows<T: Turn>(
 ) -> Result<Vec<u8>, AllocError>
     requires plane { plane < planes input.now.shape.kind }
     requires inside { y + count ≤ plane_width input.now.shape plane }
-    requires few { count ≤ 64 }
+    requires few { count ≤ 128 }
     requires high { plane_height input.now.shape plane ≤ 65535 }
     requires turns { Turns T.op T.row_of T.column_of input.now }
     ensures long { IfOk result (λ rows.

@@ -99,7 +99,7 @@ pub fn reverse_row(row: &[u8], out: &mut [u16])
 {
     let width = out.len();
     for x in 0..width {
-        out[x] = sample(row, width - 1 - x);
+        out[width - 1 - x] = sample(row, x);
     }
 }
 

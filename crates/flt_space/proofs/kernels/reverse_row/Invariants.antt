@@ -1,5 +1,5 @@
-use Rattle.std.proofs.Common.{◌≡◌, ◌-◌, ℕ, ◌<◌, get_or, length}
+use Rattle.std.proofs.Common.{◌≡◌, ◌+◌, ◌-◌, ℕ, ◌<◌, ◌≤◌, get_or, length}
 use Rattle.flt_space.proofs.kernels.reverse_row.Given as goal
 
 abbrev pub invariant-loop-x : goal.invariant-loop-x
-invariant-loop-x l = (x : ℕ) → x < l.x → get_or l.out x 0 ≡ get_or l.row (length l.row - 1 - x) 0
+invariant-loop-x l = (x : ℕ) → x < length l.out → length l.out ≤ x + l.x → get_or l.out x 0 ≡ get_or l.row (length l.out - 1 - x) 0
