@@ -1,14 +1,15 @@
 -- Rows inside borders.
-use Rattle.std.proofs.Common.{◌≡◌, ℕ, ◌+◌, ◌-◌, ◌/◌, ◌<◌, ◌≤◌, List, [], ◌∷◌, ◌++◌, length, get_or, take, drop, Bool, true, false, None, refl, ap, ◌∙◌, arith, replicate}
+use Rattle.std.proofs.Common.{◌≡◌, ℕ, ◌+◌, ◌-◌, ◌/◌, ◌<◌, ◌≤◌, List, [], ◌∷◌, ◌++◌, length, get_or, take, drop, Bool, true, false, None, refl, sym, ap, ◌∙◌, arith, replicate}
 use Rattle.std.specs.Prelude.{ℤ, ◌==◌, ◌&&◌, ◌||◌, if◌then◌else◌, nat_lt, nat_le}
-use Rattle.std.proofs.lemmas.List.{get_or_append_left, get_or-append_right, get_or-replicate, length-replicate, length-append, length-take-le, length-drop, get_or-take, get_or-drop}
+use Rattle.std.proofs.lemmas.List.{append-nil, take_all, get_or_append_left, get_or-append_right, get_or-replicate, length-replicate, length-append, length-take-le, length-drop, get_or-take, get_or-drop}
 use Rattle.std.proofs.lemmas.Bool.Decides.{nat_tests}
 use Rattle.fv_plane.specs.declared.format.PixelType.{PixelType}
 use Rattle.fv_plane.specs.declared.format.PixelType.TheVariants.{Y8, YV12, YV16, YV24, YV411}
 use Rattle.fv_plane.specs.declared.format.Shape.{Shape}
-use Rattle.fv_plane.specs.Format.{sub_w, plane_width, plane_height}
+use Rattle.fv_plane.specs.Format.{sub_w, planes, plane_width, plane_height}
 use Rattle.fv_plane.specs.Look.{across, down, look_in, row_from}
-use Rattle.fv_plane.specs.Picture.{Picture, row_of}
+use Rattle.fv_plane.specs.Picture.{Picture, IsPicture, row_of}
+use Rattle.fv_plane.proofs.CallerLemmas.{length-row}
 use Rattle.fv_plane.proofs.FillLemmas.{row_listed}
 use Rattle.fv_plane.specs.Refusals.{first_fault}
 use Rattle.clip_term.specs.declared.fault.FilterFault.{FilterFault}
@@ -16,7 +17,7 @@ use Rattle.clip_term.specs.declared.op.SpaceOp.TheVariants.{AddBorders, LetterBo
 use Rattle.clip_term.specs.Refusals.{sized, nat_of, paint}
 use Rattle.clip_term.specs.Space.{is_within, space_at, space_refusals}
 use Rattle.clip_term.proofs.PassedLemmas.{both, if_same}
-use Rattle.flt_space.specs.Rows.{padded, covered}
+use Rattle.flt_space.specs.Rows.{padded, covered, row_made}
 
 between_by : (luma : Bool) (kind : PixelType) (w l r : ℕ)
     → (if luma then l else l / sub_w kind) + (if luma then w else w / sub_w kind) ≤ (if luma then w + l + r else (w + l + r) / sub_w kind)
@@ -145,3 +146,53 @@ boxed_row input top bottom x1 x2 color p y long room told =
     get_or-take (length row - right - left) (drop left row) (x - left) 0 (omega (arith, places.0, places.1, size)) ∙ get_or-drop left row (x - left) 0 ∙ ap (λ (k : ℕ). get_or row k 0) (omega (arith, places.0))) refl
     ∙ ap (λ (n : ℕ). if is_within left n x then get_or row x 0 else value) end
     ∙ in_row (is_within left (width - right) x) (is_within (down input.shape p (nat_of top)) (plane_height input.shape p - down input.shape p (nat_of bottom)) y) (get_or row x 0) value told)
+
+nothing_by : (luma : Bool) (kind : PixelType) → (if luma then 0 else 0 / sub_w kind) ≡ 0
+nothing_by true kind = refl
+nothing_by false Y8 = omega arith
+nothing_by false YV12 = omega arith
+nothing_by false YV16 = omega arith
+nothing_by false YV24 = omega arith
+nothing_by false YV411 = omega arith
+
+-- no columns of luma are none on a plane
+across_none : (shape : Shape) (p n : ℕ) → n ≡ 0 → across shape p n ≡ 0
+across_none shape p n none = rw none (nothing_by (p == 0) shape.kind)
+
+-- a row between no samples is itself
+padded_none : (row : List ℕ) (before value width : ℕ) → before ≡ 0 → length row ≡ width → padded before value row width ≡ row
+padded_none row before value width none whole =
+    ap (λ n. padded n value row width) none ∙ ap (λ n. row ++ replicate n value) (let full : width - 0 - length row ≡ 0 = omega (arith, whole) in full) ∙ append-nil row
+
+-- and so is a row none of whose samples are covered
+covered_none : (row : List ℕ) (left right value : ℕ) → left ≡ 0 → right ≡ 0 → covered left right value row ≡ row
+covered_none row left right value no_left no_right =
+    ap (λ n. covered n right value row) no_left ∙ ap (λ n. covered 0 n value row) no_right
+    ∙ ap (λ (l : List ℕ). padded 0 value l (length row)) (take_all (length row - 0 - 0) row (omega arith)) ∙ padded_none row 0 value (length row) refl refl
+
+-- without columns, a row between the borders above and below is a row of the picture
+pub shown_bordered : (input : Picture) (left top right bottom color : ℤ) (p y : ℕ) → IsPicture input → p < planes input.shape.kind → nat_of left ≡ 0 → nat_of right ≡ 0
+    → is_within (down input.shape p (nat_of top)) (down input.shape p (nat_of top) + plane_height input.shape p) y ≡ true
+    → row_of input.planes p (y - down input.shape p (nat_of top)) ≡ row_made (AddBorders left top right bottom color) input p y
+shown_bordered input left top right bottom color p y sizes there no_left no_right told =
+    let dy = down input.shape p (nat_of top) in
+    let row = row_of input.planes p (y - dy) in
+    let width = plane_width (sized input.shape (input.shape.width + nat_of left + nat_of right) (input.shape.height + nat_of top + nat_of bottom)) p in
+    let places = inside_of dy (dy + plane_height input.shape p) y told in
+    let long : length row ≡ plane_width input.shape p = length-row input p (y - dy) sizes there (omega (arith, places.0, places.1)) in
+    let whole : length row ≡ width = long ∙ ap (λ w. if p == 0 then w else w / sub_w input.shape.kind) (omega (arith, no_left, no_right)) in
+    sym (padded_none row (across input.shape p (nat_of left)) (paint color input.shape p) width (across_none input.shape p (nat_of left) no_left) whole)
+    ∙ bordered_row input left top right bottom color p y width long (fits_between input.shape p (nat_of left) (nat_of right) (input.shape.height + nat_of top + nat_of bottom)) told
+
+-- and so is one of a letter box
+pub shown_boxed : (input : Picture) (top bottom x1 x2 color : ℤ) (p y : ℕ) → IsPicture input → p < planes input.shape.kind → nat_of x1 ≡ 0 → nat_of x2 ≡ 0
+    → is_within (down input.shape p (nat_of top)) (plane_height input.shape p - down input.shape p (nat_of bottom)) y ≡ true
+    → row_of input.planes p y ≡ row_made (LetterBox top bottom x1 x2 color) input p y
+shown_boxed input top bottom x1 x2 color p y sizes there no_left no_right told =
+    let row = row_of input.planes p y in
+    let places = inside_of (down input.shape p (nat_of top)) (plane_height input.shape p - down input.shape p (nat_of bottom)) y told in
+    let long : length row ≡ plane_width input.shape p = length-row input p y sizes there (omega (arith, places.0, places.1)) in
+    let left : across input.shape p (nat_of x1) ≡ 0 = across_none input.shape p (nat_of x1) no_left in
+    let right : across input.shape p (nat_of x2) ≡ 0 = across_none input.shape p (nat_of x2) no_right in
+    sym (covered_none row (across input.shape p (nat_of x1)) (across input.shape p (nat_of x2)) (paint color input.shape p) left right)
+    ∙ boxed_row input top bottom x1 x2 color p y long (omega (arith, left, right)) told

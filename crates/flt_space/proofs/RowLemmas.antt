@@ -1,19 +1,18 @@
 -- The rows that are made.
-use Rattle.std.proofs.Common.{◌≡◌, ℕ, ◌*◌, ◌<◌, ◌≤◌, ◌==◌, ◌∙◌, List, None, false, length, get_or, ap, sym, inl, inr, arith, ne_eqb}
+use Rattle.std.proofs.Common.{◌≡◌, ℕ, ◌*◌, ◌<◌, ◌≤◌, ◌==◌, if◌then◌else◌, ◌∙◌, List, None, false, length, get_or, ap, sym, inl, inr, arith, ne_eqb}
 use Rattle.std.specs.List.{range_with_len}
 use Rattle.std.proofs.lemmas.List.{length-map, get_or_past}
 use Rattle.std.proofs.lemmas.List.FromFn.{get_or-map-range_with_len, length-range_with_len}
 use Rattle.std.proofs.lemmas.Bool.{cases_lt}
 use Rattle.fv_plane.specs.declared.format.Shape.{Shape}
 use Rattle.fv_plane.specs.Bytes.{bytes_of_row, row_of_bytes, FitBytes}
-use Rattle.fv_plane.specs.Format.{largest_sample, plane_width, row_bytes}
+use Rattle.fv_plane.specs.Format.{largest_sample, planes, plane_width, plane_height, row_bytes, sample_bytes}
 use Rattle.fv_plane.specs.Look.{Look, look_in, row_from}
-use Rattle.fv_plane.specs.Picture.{Picture, IsPicture}
+use Rattle.fv_plane.specs.Picture.{Picture, IsPicture, row_of}
 use Rattle.fv_plane.specs.Refusals.{first_fault}
 use Rattle.fv_plane.proofs.BytesLemmas.{bytes_of_row-same}
-use Rattle.fv_plane.proofs.CallerLemmas.{fit_row, row_again, two_bytes}
+use Rattle.fv_plane.proofs.CallerLemmas.{fit_row, length-row, row_again, two_bytes}
 use Rattle.fv_plane.proofs.FillLemmas.{row_listed}
-use Rattle.fv_plane.proofs.WholePlaneLemmas.{rows_listed}
 use Rattle.clip_term.specs.declared.op.SpaceOp.{SpaceOp}
 use Rattle.clip_term.specs.Space.{space_at, space_refusals, space_shape}
 use Rattle.clip_term.proofs.BoundedLemmas.{IsBounded, space_bounded}
@@ -54,20 +53,27 @@ bounded_row at shape p width y x bounded = elim (cases_lt x width) [
   | inr past ↦ rw (get_or_past (row_from at p width y) x 0 (omega (arith, length-map (range_with_len 0 width) (λ k. at p k y), length-range_with_len 0 width))) (omega arith)
 ]
 
-module _ (op : SpaceOp) (input : Picture) (shape made : Shape) (p y : ℕ) (out : List ℕ) (is : shape ≡ space_shape op input.shape) (same : made ≡ shape) (kept : (space_shape op input.shape).bits ≡ input.shape.bits)
+module _ (op : SpaceOp) (input : Picture) (made : Shape) (p y : ℕ) (out : List ℕ) (same : made ≡ space_shape op input.shape) (kept : (space_shape op input.shape).bits ≡ input.shape.bits)
     (put : out ≡ bytes_of_row input.shape (row_made op input p y)) where
   stored : out ≡ bytes_of_row made (row_made op input p y)
-  stored = put ∙ bytes_of_row-same input.shape made (row_made op input p y) (sym (ap (λ (s : Shape). s.bits) (same ∙ is) ∙ kept))
+  stored = put ∙ bytes_of_row-same input.shape made (row_made op input p y) (sym (ap (λ (s : Shape). s.bits) same ∙ kept))
 
   -- the samples of the bytes are the row
-  pub made_again : row_of_bytes made out ≡ rows_listed shape (space_at op input.shape (look_in input)) p y
-  made_again =
-      ap (row_of_bytes made) stored ∙ row_again made (row_made op input p y)
-      ∙ ap (λ (s : Shape). row_from (space_at op input.shape (look_in input)) p (plane_width s p) y) (sym is)
+  pub made_samples : row_of_bytes made out ≡ row_made op input p y
+  made_samples = ap (row_of_bytes made) stored ∙ row_again made (row_made op input p y)
 
   -- and are in range
   pub made_fits : first_fault (space_refusals op input.shape) ≡ None → IsPicture input → FitBytes made out
   made_fits none sizes =
       let bounded : IsBounded (space_shape op input.shape) (space_at op input.shape (look_in input))
       = space_bounded op input.shape (look_in input) sizes.legal (accepted (space_refusals op input.shape) none) (record { at = sizes.bounded }) in
-      rw stored (fit_row made (row_made op input p y) (rw (same, is) (λ x. bounded_row (space_at op input.shape (look_in input)) (space_shape op input.shape) p (plane_width (space_shape op input.shape) p) y x bounded)))
+      rw stored (fit_row made (row_made op input p y) (rw same (λ x. bounded_row (space_at op input.shape (look_in input)) (space_shape op input.shape) p (plane_width (space_shape op input.shape) p) y x bounded)))
+
+-- a row of the input that the filter makes has the bytes of a row of the result
+pub shown_bytes : (op : SpaceOp) (input : Picture) (made : Shape) (p at y : ℕ) → IsPicture input → p < planes input.shape.kind → at < plane_height input.shape p
+    → row_of input.planes p at ≡ row_made op input p y → made ≡ space_shape op input.shape → (space_shape op input.shape).bits ≡ input.shape.bits → row_bytes input.shape p ≡ row_bytes made p
+shown_bytes op input made p at y sizes there inside shown same kept =
+    let width = plane_width (space_shape op input.shape) p in
+    let wide : plane_width input.shape p ≡ width
+    = sym (length-row input p at sizes there inside) ∙ ap length shown ∙ length-map (range_with_len 0 width) (λ x. space_at op input.shape (look_in input) p x y) ∙ length-range_with_len 0 width in
+    rw same (ap (λ w. w * sample_bytes input.shape) wide ∙ ap (λ bits. width * (if bits == 8 then 1 else 2)) (sym kept))

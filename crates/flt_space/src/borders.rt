@@ -98,6 +98,17 @@ impl RowFilter for BorderRows {
             out.fill(colour);
         }
     }
+
+    fn shown_row(&self, input: &Frame, plane: u32, y: u32) -> Option<u32> {
+        let shape = input.shape();
+        let top = down(shape, plane, self.top);
+        let end = top as u64 + shape.plane_height(plane) as u64;
+        if self.left == 0 && self.right == 0 && is_within(top as u64, end, y as u64) {
+            Some(y - top)
+        } else {
+            None
+        }
+    }
 }
 
 /// `AddBorders`: the picture with columns and rows of one colour around it. An `Err` is out of memory.
@@ -173,6 +184,18 @@ impl RowFilter for BoxRows {
             wide::cover_row(wide_row(input, plane, y), left, right, colour, out);
         } else {
             out.fill(colour);
+        }
+    }
+
+    fn shown_row(&self, input: &Frame, plane: u32, y: u32) -> Option<u32> {
+        let shape = input.shape();
+        let top = down(shape, plane, self.top) as u64;
+        let bottom = down(shape, plane, self.bottom) as u64;
+        let end = (shape.plane_height(plane) as u64).saturating_sub(bottom);
+        if self.x1 == 0 && self.x2 == 0 && is_within(top, end, y as u64) {
+            Some(y)
+        } else {
+            None
         }
     }
 }

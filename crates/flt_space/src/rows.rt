@@ -1,8 +1,8 @@
 // Filters that make each row of a picture by itself.
-ghost use Rattle.std.specs.Prelude.{◌≡◌, ◌<◌, IfOk, OnOk, None, false, length};
+ghost use Rattle.std.specs.Prelude.{◌≡◌, ◌<◌, IfOk, IfSome, OnOk, None, false, length};
 ghost use Rattle.fv_plane.specs.Bytes.{bytes_of_row};
 ghost use Rattle.fv_plane.specs.Format.{IsLegal, planes, plane_width, plane_height, row_bytes, sample_bytes};
-ghost use Rattle.fv_plane.specs.Picture.{IsPicture};
+ghost use Rattle.fv_plane.specs.Picture.{IsPicture, row_of, with_row};
 ghost use Rattle.fv_plane.specs.Refusals.{first_fault};
 ghost use Rattle.clip_term.specs.declared.op.SpaceOp.{SpaceOp};
 ghost use Rattle.clip_term.specs.Space.{space_shape, space_picture, space_refusals};
@@ -40,6 +40,21 @@ pub trait RowFilter {
         requires wide { sample_bytes input.now.shape ≡ 2 }
         requires whole { length out.old ≡ plane_width (space_shape (op self.now) input.now.shape) plane }
         ensures { out.new ≡ row_made (op self.now) input.now plane y };
+
+    /// The row of the input's plane that a row of a plane that isn't kept is, where it is one: its bytes are put as
+    /// they are. `None` says nothing.
+    fn shown_row(&self, input: &Frame, plane: u32, y: u32) -> Option<u32>
+        requires accepted { first_fault (space_refusals (op self.now) input.now.shape) ≡ None }
+        requires changed { keeps_plane (op self.now) plane ≡ false }
+        requires plane { plane < planes (space_shape (op self.now) input.now.shape).kind }
+        requires inside { y < plane_height (space_shape (op self.now) input.now.shape) plane }
+        ensures plane { IfSome result (λ at. plane < planes input.now.shape.kind) }
+        ensures inside { IfSome result (λ at. at < plane_height input.now.shape plane) }
+        ensures row { IfSome result (λ at.
+            row_of input.now.planes plane at ≡ row_made (op self.now) input.now plane y) }
+    {
+        None
+    }
 }
 
 // The samples of a row that are made before their bytes: none, where a sample is a byte.
@@ -79,6 +94,40 @@ fn fill_bytes<F: RowFilter>(
     }
 }
 
+// Puts a row of a plane that isn't kept. Its bytes are made in `row` where it is no row of the input.
+fn put_row_of<F: RowFilter>(
+    filter: &F,
+    input: &Frame,
+    plane: u32,
+    y: u32,
+    samples: &mut [u16],
+    row: &mut [u8],
+    made: &mut FrameBuilder,
+)
+    requires accepted { first_fault (space_refusals (F.op filter.now) input.now.shape) ≡ None }
+    requires bits { (space_shape (F.op filter.now) input.now.shape).bits ≡ input.now.shape.bits }
+    requires changed { keeps_plane (F.op filter.now) plane ≡ false }
+    requires plane { plane < planes (space_shape (F.op filter.now) input.now.shape).kind }
+    requires inside { y < plane_height (space_shape (F.op filter.now) input.now.shape) plane }
+    requires samples { length samples.old ≡ wide_width (space_shape (F.op filter.now) input.now.shape) plane }
+    requires whole { length row.old ≡ row_bytes (space_shape (F.op filter.now) input.now.shape) plane }
+    requires made { made.old.shape ≡ space_shape (F.op filter.now) input.now.shape }
+    ensures shape { made.new.shape ≡ made.old.shape }
+    ensures rows { made.new.planes
+        ≡ with_row made.old.planes plane y (row_made (F.op filter.now) input.now plane y) }
+    ensures sizes { IsPicture made.new }
+{
+    // Called for what its contract says.
+    let _ = input.shape();
+    match filter.shown_row(input, plane, y) {
+        Some(at) => made.put_row(plane, y, input.row(plane, at)),
+        None => {
+            fill_bytes(filter, input, plane, y, samples, row);
+            made.put_row(plane, y, row);
+        }
+    }
+}
+
 // Makes the planes of the picture, in a builder of its shape.
 fn fill_planes<F: RowFilter>(
     alloc: Global,
@@ -106,8 +155,7 @@ fn fill_planes<F: RowFilter>(
         let samples = samples.as_mut_slice();
         let row = bytes.as_mut_slice();
         for y in 0..shape.plane_height(plane) {
-            fill_bytes(filter, input, plane, y, samples, row);
-            made.put_row(plane, y, row);
+            put_row_of(filter, input, plane, y, samples, row, made);
         }
     }
     Ok(())

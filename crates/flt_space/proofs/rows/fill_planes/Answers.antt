@@ -1,14 +1,13 @@
 use Rattle.std.proofs.Common.{rules, ◌≡◌, ◌<◌, ◌∙◌, true, refl, ap, sym, arith}
 use Rattle.fv_plane.specs.declared.format.Shape.{Shape}
-use Rattle.fv_plane.specs.Bytes.{row_of_bytes}
 use Rattle.fv_plane.specs.Format.{planes, plane_width, plane_height}
-use Rattle.fv_plane.specs.Look.{look_in}
+use Rattle.fv_plane.specs.Look.{look_in, row_from}
 use Rattle.fv_plane.proofs.FillLemmas.{filled_put, filled_plane, filled_done}
 use Rattle.clip_term.specs.Space.{space_at}
 use Rattle.flt_space.specs.Kept.{keeps_plane}
+use Rattle.flt_space.specs.Rows.{row_made}
 use Rattle.fv_plane.proofs.WholePlaneLemmas.{rows_listed, filled_whole, row_seen}
 use Rattle.flt_space.proofs.KeptLemmas.{kept_shape, kept_samples}
-use Rattle.flt_space.proofs.RowLemmas.{made_again, made_fits}
 use Rattle.flt_space.proofs.rows.fill_planes.Goals as goal
 
 pub loop-plane-init : goal.loop-plane-init
@@ -41,53 +40,39 @@ loop-plane-preserved-then-keeps_plane g c =
     (omega (arith, there, ap (λ (s : Shape). planes s.kind) same)) (omega (arith, inside, ap (λ (s : Shape). plane_height s c.loop-plane.plane) same))
     (sym (ap (λ (s : Shape). plane_width s c.loop-plane.plane) same)) (λ x. sym (kept_samples filter input.shape c.loop-plane.plane keeps (look_in input) x z))) there
 
-pub fill_bytes-requires-clause-bits : goal.fill_bytes-requires-clause-bits
-fill_bytes-requires-clause-bits g c = rw (← c.requires.shape) c.requires.bits
+pub put_row_of-requires-clause-bits : goal.put_row_of-requires-clause-bits
+put_row_of-requires-clause-bits g c = rw (← c.requires.shape) c.requires.bits
 
-pub fill_bytes-requires-clause-plane : goal.fill_bytes-requires-clause-plane
-fill_bytes-requires-clause-plane g c =
+pub put_row_of-requires-clause-plane : goal.put_row_of-requires-clause-plane
+put_row_of-requires-clause-plane g c =
     let there : c.loop-plane.plane < planes c.args.shape.kind = search rules in
     rw (← c.requires.shape) there
 
-pub fill_bytes-requires-clause-inside : goal.fill_bytes-requires-clause-inside
-fill_bytes-requires-clause-inside g c =
+pub put_row_of-requires-clause-inside : goal.put_row_of-requires-clause-inside
+put_row_of-requires-clause-inside g c =
     let inside : c.loop-y.y < plane_height c.args.shape c.loop-plane.plane = search rules in
     rw (← c.requires.shape) inside
 
-pub fill_bytes-requires-clause-samples : goal.fill_bytes-requires-clause-samples
-fill_bytes-requires-clause-samples g c = rw (← c.requires.shape) c.loop-y.invariant.samples
+pub put_row_of-requires-clause-samples : goal.put_row_of-requires-clause-samples
+put_row_of-requires-clause-samples g c = rw (← c.requires.shape) c.loop-y.invariant.samples
 
-pub fill_bytes-requires-clause-whole : goal.fill_bytes-requires-clause-whole
-fill_bytes-requires-clause-whole g c = rw (← c.requires.shape) c.loop-y.invariant.row
+pub put_row_of-requires-clause-whole : goal.put_row_of-requires-clause-whole
+put_row_of-requires-clause-whole g c = rw (← c.requires.shape) c.loop-y.invariant.row
 
-pub put_row-requires-clause-whole : goal.put_row-requires-clause-whole
-put_row-requires-clause-whole g c = rw c.loop-y.invariant.filled.same (c.fill_bytes.auto.out ∙ c.loop-y.invariant.row)
-
-pub put_row-requires-clause-fits : goal.put_row-requires-clause-fits
-put_row-requires-clause-fits g c =
-    made_fits (g.F.RowFilter.op c.args.filter.now) c.args.input.now c.args.shape c.loop-y.made.shape c.loop-plane.plane c.loop-y.y c.fill_bytes.new.out c.requires.shape c.loop-y.invariant.filled.same
-    (rw (← c.requires.shape) c.requires.bits) c.fill_bytes.ensures c.requires.accepted c.shape.ensures.sizes
-
-pub put_row-requires-clause-plane : goal.put_row-requires-clause-plane
-put_row-requires-clause-plane g c =
-    let there : c.loop-plane.plane < planes c.args.shape.kind = search rules in
-    rw c.loop-y.invariant.filled.same there
-
-pub put_row-requires-clause-inside : goal.put_row-requires-clause-inside
-put_row-requires-clause-inside g c =
-    let inside : c.loop-y.y < plane_height c.args.shape c.loop-plane.plane = search rules in
-    rw c.loop-y.invariant.filled.same inside
+pub put_row_of-requires-clause-made : goal.put_row_of-requires-clause-made
+put_row_of-requires-clause-made g c = c.loop-y.invariant.filled.same ∙ c.requires.shape
 
 pub loop-y-preserved : goal.loop-y-preserved
 loop-y-preserved g c =
     let filter = g.F.RowFilter.op c.args.filter.now in
     let at = space_at filter c.args.input.now.shape (look_in c.args.input.now) in
-    let row = made_again filter c.args.input.now c.args.shape c.loop-y.made.shape c.loop-plane.plane c.loop-y.y c.fill_bytes.new.out c.requires.shape c.loop-y.invariant.filled.same (rw (← c.requires.shape) c.requires.bits) c.fill_bytes.ensures in
+    let row = row_made filter c.args.input.now c.loop-plane.plane c.loop-y.y in
     record {
-      samples = c.fill_bytes.auto.samples ∙ c.loop-y.invariant.samples;
-      row = c.fill_bytes.auto.out ∙ c.loop-y.invariant.row;
-      filled = filled_put (rows_listed c.args.shape at) c.args.shape c.loop-y.made c.put_row.new.self c.loop-plane.plane c.loop-y.y (row_of_bytes c.loop-y.made.shape c.fill_bytes.new.out) c.loop-y.invariant.filled
-          c.put_row.ensures.sizes c.put_row.ensures.shape c.put_row.ensures.rows row (search rules) (search rules);
+      samples = c.put_row_of.auto.samples ∙ c.loop-y.invariant.samples;
+      row = c.put_row_of.auto.row ∙ c.loop-y.invariant.row;
+      filled = filled_put (rows_listed c.args.shape at) c.args.shape c.loop-y.made c.put_row_of.new.made c.loop-plane.plane c.loop-y.y row c.loop-y.invariant.filled
+          c.put_row_of.ensures.sizes c.put_row_of.ensures.shape c.put_row_of.ensures.rows
+          (ap (λ (s : Shape). row_from at c.loop-plane.plane (plane_width s c.loop-plane.plane) c.loop-y.y) (sym c.requires.shape)) (search rules) (search rules);
     }
 
 pub loop-plane-preserved : goal.loop-plane-preserved
