@@ -165,13 +165,12 @@ bytes_limited largest old new same even_length even odd =
     (λ k within. even k (omega (arith, count)) ∙ ap (λ s. s % 256) (sym (at k (omega (arith, count)))))
     (λ k within. odd k (omega (arith, count)) ∙ ap (λ s. s / 256) (sym (at k (omega (arith, count)))))
 
--- samples whose high bytes are no higher than one
-pub high_bounds : (bytes : List ℕ) (highest : ℕ) → length bytes % 2 ≡ 0 → ((k : ℕ) → get_or bytes k 0 ≤ 255) → ((k : ℕ) → k < length bytes / 2 → get_or bytes (2 * k + 1) 0 ≤ highest)
-    → (x : ℕ) → get_or (wide_samples bytes) x 0 ≤ 255 + 256 * highest
-high_bounds bytes highest even few high x =
+-- samples that are no more than one, pair by pair
+pub pairs_bound : (bytes : List ℕ) (highest : ℕ) → length bytes % 2 ≡ 0 → ((k : ℕ) → k < length bytes / 2 → pair bytes k ≤ highest) → (x : ℕ) → get_or (wide_samples bytes) x 0 ≤ highest
+pairs_bound bytes highest even high x =
     let n : ℕ = length bytes / 2 in
     let count : length (wide_samples bytes) ≡ n = length-wide_samples n bytes (omega arith) in
     elim (cases_lt x n) [
-      | inl there ↦ omega (arith, wide_samples-at bytes x (omega arith), few (2 * x), high x there)
+      | inl there ↦ omega (arith, wide_samples-at bytes x (omega arith), high x there)
       | inr past ↦ omega (arith, get_or_past (wide_samples bytes) x 0 (omega (arith, count)))
     ]

@@ -43,17 +43,17 @@ pub fn write_samples(samples: &[u16], bytes: &mut [u8])
     }
 }
 
-// Whether no sample is over the largest one, which the high bytes alone may tell: where the answer is no, some may be. A
-// pass that only reads is faster than one that writes, and in most streams there is no such sample.
+// Whether no sample is over the largest one. A pass that only reads is faster than one that writes, and in most streams no
+// sample is.
 fn are_in_range(bytes: &[u8], largest: u16) -> bool
     requires { length bytes.now % 2 ≡ 0 }
     ensures { IsTrue result → bytes.now ≡ wide_bytes (map (λ s. min s largest) (wide_samples bytes.now)) }
 {
     let mut highest = 0;
     for x in 0..bytes.len() / 2 {
-        highest = bytes[2 * x + 1].max(highest);
+        highest = joined(bytes[2 * x], bytes[2 * x + 1]).max(highest);
     }
-    joined(255, highest) <= largest
+    highest <= largest
 }
 
 // Makes the samples over the largest one the largest.
