@@ -20,10 +20,6 @@ use Rattle.flt_space.specs.Rows.{row_made, wide_width}
 use Rattle.flt_space.proofs.CutLemmas.{accepted}
 use Rattle.flt_space.proofs.KeptLemmas.{second_of}
 
--- where a sample is a byte, a row has as many bytes as samples
-pub narrow_bytes : (shape : Shape) (p : ℕ) → shape.bits ≡ 8 → row_bytes shape p ≡ plane_width shape p
-narrow_bytes shape p narrow = rw narrow (omega arith)
-
 -- a row whose samples are those of the filter is the row that it makes
 pub made_row : (op : SpaceOp) (input : Picture) (p y : ℕ) (out : List ℕ) → length out ≡ plane_width (space_shape op input.shape) p
     → ((x : ℕ) → x < length out → get_or out x 0 ≡ space_at op input.shape (look_in input) p x y) → out ≡ row_made op input p y

@@ -27,24 +27,3 @@ padded before value row width = replicate before value ++ (row ++ replicate (wid
 -- a row whose first and last samples are of one value
 abbrev pub covered : ℕ → ℕ → ℕ → List ℕ → List ℕ
 covered left right value row = padded left value (take (length row - right - left) (drop left row)) (length row)
-
--- rows of this width that lie side by side, from row y on
-abbrev pub HasRows : Look → ℕ → ℕ → ℕ → ℕ → List ℕ → Type 0
-HasRows at p y count width rows =
-    (k x : ℕ) → k < count → x < width → slice_index rows (k * width + x) ≡ at p x (y + k)
-
--- column x of a turned plane is a row of the picture, and row y of it a column, which these name by the plane's sizes
-abbrev pub turned_at : (ℕ → ℕ → ℕ) → (ℕ → ℕ → ℕ) → Picture → Look
-turned_at row column input p x y =
-    sample_of input.planes p (column (plane_width input.shape p) y) (row (plane_height input.shape p) x)
-
-abbrev pub Turns : SpaceOp → (ℕ → ℕ → ℕ) → (ℕ → ℕ → ℕ) → Picture → Type 0
-Turns op row column input =
-    (p x y : ℕ) → space_at op input.shape (look_in input) p x y ≡ turned_at row column input p x y
-
--- bytes of rows that lie side by side, whose first columns are those of a turned plane from row y on
-abbrev pub HasColumns : (ℕ → ℕ → ℕ) → (ℕ → ℕ → ℕ) → Picture → ℕ → ℕ → ℕ → ℕ → List ℕ → Type 0
-HasColumns row column input p y count columns bytes =
-    (k x : ℕ) → k < count → x < columns
-    → slice_index (row_of_bytes input.shape bytes) (k * plane_height input.shape p + x)
-    ≡ turned_at row column input p x (y + k)

@@ -12,7 +12,6 @@ mod flip;
 mod kernels;
 mod make;
 mod rows;
-mod turn;
 mod wide;
 
 pub use clip_check::check_space;

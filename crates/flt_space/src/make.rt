@@ -9,8 +9,8 @@ use crate::borders::{add_borders, letter_box};
 use crate::cut::{convert_to_y8, crop, crop_bottom, u_to_y8, v_to_y8};
 use crate::depth::convert_bits;
 use crate::flip::{flip_horizontal, flip_vertical, turn_180};
-use crate::turn::{turn_left, turn_right};
 use clip_term::SpaceOp;
+use flt_turn::{turn_left, turn_right};
 use fv_plane::Frame;
 use std::alloc::{AllocError, Global};
 

@@ -5,7 +5,7 @@ use Rattle.fv_plane.specs.Picture.{row_of}
 use Rattle.fv_plane.proofs.CallerLemmas.{bytes_of_narrow}
 use Rattle.clip_term.specs.Space.{converted}
 use Rattle.flt_space.proofs.DepthLemmas.{depth_of, scaled_row, rounded_row, raised_small, converted_fits}
-use Rattle.flt_space.proofs.RowLemmas.{narrow_bytes}
+use Rattle.flt_turn.proofs.PartLemmas.{narrow_bytes}
 use Rattle.flt_space.proofs.depth.convert_samples.Goals as goal
 
 pub returns-then-old-eq8-clause-row : goal.returns-then-old-eq8-clause-row

@@ -4,7 +4,8 @@ use Rattle.fv_plane.specs.Bytes.{wide_bytes}
 use Rattle.fv_plane.proofs.CallerLemmas.{bytes_of_narrow, bytes_of_wide, two_bytes}
 use Rattle.clip_term.specs.Space.{space_shape}
 use Rattle.flt_space.specs.Rows.{row_made}
-use Rattle.flt_space.proofs.RowLemmas.{more_bits, narrow_bytes, wide_kept, wide_row, wide_row_bytes}
+use Rattle.flt_space.proofs.RowLemmas.{more_bits, wide_kept, wide_row, wide_row_bytes}
+use Rattle.flt_turn.proofs.PartLemmas.{narrow_bytes}
 use Rattle.flt_space.proofs.rows.fill_bytes.Goals as goal
 
 pub fill_row-requires-clause-whole : goal.fill_row-requires-clause-whole

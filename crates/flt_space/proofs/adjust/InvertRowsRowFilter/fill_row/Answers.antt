@@ -4,7 +4,8 @@ use Rattle.fv_plane.proofs.CallerLemmas.{bytes_of_narrow}
 use Rattle.clip_term.specs.declared.op.SpaceOp.TheVariants as op
 use Rattle.clip_term.specs.Space.{is_among}
 use Rattle.flt_space.proofs.KeptLemmas.{negated}
-use Rattle.flt_space.proofs.RowLemmas.{narrow_bytes, made_row}
+use Rattle.flt_space.proofs.RowLemmas.{made_row}
+use Rattle.flt_turn.proofs.PartLemmas.{narrow_bytes}
 use Rattle.flt_space.proofs.adjust.InvertRowsRowFilter.fill_row.Goals as goal
 
 pub copy_inverted-requires : goal.copy_inverted-requires

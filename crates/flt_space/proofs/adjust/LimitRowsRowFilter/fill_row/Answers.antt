@@ -6,7 +6,8 @@ use Rattle.fv_plane.proofs.CallerLemmas.{bytes_of_narrow}
 use Rattle.clip_term.specs.Refusals.{nat_of}
 use Rattle.clip_term.specs.declared.op.SpaceOp.TheVariants.{Limiter}
 use Rattle.flt_space.proofs.KeptLemmas.{first_of, second_of}
-use Rattle.flt_space.proofs.RowLemmas.{narrow_bytes, made_row}
+use Rattle.flt_space.proofs.RowLemmas.{made_row}
+use Rattle.flt_turn.proofs.PartLemmas.{narrow_bytes}
 use Rattle.flt_space.proofs.adjust.LimitRowsRowFilter.fill_row.Goals as goal
 
 pub copy_limited-requires : goal.copy_limited-requires

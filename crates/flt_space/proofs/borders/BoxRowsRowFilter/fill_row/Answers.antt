@@ -8,7 +8,8 @@ use Rattle.clip_term.specs.declared.op.SpaceOp.TheVariants.{LetterBox}
 use Rattle.clip_term.specs.Refusals.{nat_of, paint}
 use Rattle.clip_term.specs.Space.{is_within}
 use Rattle.flt_space.proofs.BorderLemmas.{fits_across, covers_less, boxed_row, out_of_row}
-use Rattle.flt_space.proofs.RowLemmas.{narrow_bytes, made_row}
+use Rattle.flt_space.proofs.RowLemmas.{made_row}
+use Rattle.flt_turn.proofs.PartLemmas.{narrow_bytes}
 use Rattle.flt_space.proofs.borders.BoxRowsRowFilter.fill_row.Goals as goal
 
 pub cover_row-requires-clause-inside : goal.cover_row-requires-clause-inside

@@ -3,7 +3,8 @@ use Rattle.fv_plane.specs.Format.{plane_width}
 use Rattle.fv_plane.specs.Picture.{row_of}
 use Rattle.fv_plane.proofs.CallerLemmas.{bytes_of_narrow}
 use Rattle.clip_term.specs.declared.op.SpaceOp.TheVariants.{FlipHorizontal}
-use Rattle.flt_space.proofs.RowLemmas.{narrow_bytes, made_row}
+use Rattle.flt_space.proofs.RowLemmas.{made_row}
+use Rattle.flt_turn.proofs.PartLemmas.{narrow_bytes}
 use Rattle.flt_space.proofs.flip.MirrorRowsRowFilter.fill_row.Goals as goal
 
 pub reverse_row-requires : goal.reverse_row-requires

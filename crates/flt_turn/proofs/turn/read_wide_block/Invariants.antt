@@ -1,0 +1,15 @@
+use Rattle.std.proofs.Common.{◌≡◌, ℕ, ◌+◌, ◌*◌, ◌<◌, length, get_or}
+use Rattle.fv_plane.specs.Bytes.{bytes_of_row}
+use Rattle.fv_plane.specs.Format.{plane_height}
+use Rattle.fv_plane.specs.Picture.{row_of}
+use Rattle.flt_turn.proofs.turn.read_wide_block.Given as goal
+
+abbrev pub invariant-loop-i : goal.invariant-loop-i
+invariant-loop-i g l = record {
+  low_long : length l.low ≡ 256;
+  high_long : length l.high ≡ 256;
+  low : (k i : ℕ) → k < 16 → i < l.i → get_or l.low (16 * i + k) 0
+      ≡ get_or (bytes_of_row l.input.shape (row_of l.input.planes l.plane (g.T.Turn.row_of (plane_height l.input.shape l.plane) (l.x + i)))) (2 * (l.fn.column + k)) 0;
+  high : (k i : ℕ) → k < 16 → i < l.i → get_or l.high (16 * i + k) 0
+      ≡ get_or (bytes_of_row l.input.shape (row_of l.input.planes l.plane (g.T.Turn.row_of (plane_height l.input.shape l.plane) (l.x + i)))) (2 * (l.fn.column + k) + 1) 0;
+}
