@@ -8,4 +8,4 @@ mod inputs;
 mod make;
 
 pub use inputs::input_at;
-pub use make::make_frame;
+pub use make::{make_frame, takes_memory};

@@ -10,7 +10,7 @@ use clip_term::Op;
 use flt_merge::make_join;
 use flt_soft::{Scratch, make_soft};
 use flt_space::make_space;
-use fv_plane::{Frame, Key};
+use fv_plane::{Frame, FrameMemory, Key};
 use std::alloc::{AllocError, Global};
 
 // The frame that a filter of the group Time shows.
@@ -23,10 +23,22 @@ fn shown(frame: &Frame) -> Result<Frame, AllocError>
     frame.share()
 }
 
-/// The frame that a node makes of the frames of `input_at`, in their order. The scratch serves filters of the group
-/// Soft; what it holds matters to no frame. An `Err` is out of memory.
+/// Whether a filter writes the rows of a plane, and so takes memory for it. Other planes share the bytes of its inputs, or a
+/// source reads them.
+pub fn takes_memory(op: &Op, plane: u32) -> bool {
+    match op {
+        Op::Source { .. } | Op::Blank { .. } | Op::Time(_) => false,
+        Op::Space(op) => flt_space::takes_memory(op, plane),
+        Op::Join(op) => flt_merge::takes_memory(op),
+        Op::Soft(op) => flt_soft::takes_memory(op, plane),
+    }
+}
+
+/// The frame that a node makes of the frames of `input_at`, in their order. It is made in `memory` as far as that has
+/// room. The scratch serves filters of the group Soft; what it holds matters to no frame. An `Err` is out of memory.
 pub fn make_frame(
     alloc: Global,
+    memory: FrameMemory,
     graph: &Graph,
     key: Key,
     frames: &[Frame],
@@ -44,8 +56,8 @@ pub fn make_frame(
         Op::Source { .. } => unreachable!(),
         Op::Blank { info, colour } => Frame::blank(alloc, info.shape, *colour),
         Op::Time(_) => shown(&frames[0]),
-        Op::Space(op) => make_space(alloc, op, &frames[0]),
-        Op::Join(op) => make_join(alloc, op, frames),
-        Op::Soft(op) => make_soft(alloc, op, frames, scratch),
+        Op::Space(op) => make_space(alloc, memory, op, &frames[0]),
+        Op::Join(op) => make_join(alloc, memory, op, frames),
+        Op::Soft(op) => make_soft(alloc, memory, op, frames, scratch),
     }
 }

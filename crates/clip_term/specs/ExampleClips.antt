@@ -7,7 +7,7 @@ use Rattle.fv_plane.specs.declared.format.Info.{Info}
 use Rattle.fv_plane.specs.declared.format.PixelType.TheVariants.{Y8, YV12, YV16, YV24, YV411}
 use Rattle.fv_plane.specs.declared.format.Field.TheVariants.{Progressive, Top}
 use Rattle.fv_plane.specs.declared.format.Tag.TheVariants.{Jpeg, Mpeg2}
-use Rattle.fv_plane.specs.Rows.{flat_rows}
+use Rattle.fv_rows.specs.Rows.{flat_rows}
 use Rattle.fv_plane.specs.Picture.{Picture}
 use Rattle.clip_term.specs.declared.fault.FilterFault.{FilterFault}
 use Rattle.clip_term.specs.declared.op.Channels.{Channels}

@@ -1,5 +1,6 @@
 // Frames as the filters make them, compared with the frames of their definitions, sample by sample.
 ghost use Rattle.std.specs.Prelude.{◌≡◌, length, IfOk};
+ghost use Rattle.fv_plane.specs.Format.{IsLegal};
 ghost use Rattle.fv_plane.specs.Info.{IsLawful};
 ghost use Rattle.clip_graph.specs.Plan.{application_at};
 ghost use Rattle.clip_graph.specs.Unfolding.{IsKeyBelow};
@@ -16,17 +17,49 @@ use clip_graph::Graph;
 use clip_reference::{Book, reference_frame};
 use clip_term::{Op, Term};
 use flt_soft::Scratch;
-use fv_plane::{Frame, Info, Key, PixelType};
+use fv_plane::{Frame, FrameMemory, Info, Key, PixelType, Shape};
 use std::alloc::{AllocError, Global};
 use std::process::Abort;
 use std::test::Fail;
 
-// A frame of a node, by plain recursion.
+// Memory for a plane, of `more` bytes more than it has. All of them are 255.
+fn plane_memory(
+    alloc: Global,
+    shape: Shape,
+    plane: u32,
+    more: Option<isize>,
+) -> Result<Option<Vec<u8>>, AllocError>
+    requires { IsLegal shape }
+{
+    let Some(more) = more else {
+        return Ok(None);
+    };
+    let size = (shape.plane_bytes(plane) as usize).saturating_add_signed(more);
+    Ok(Some(vec![in alloc; 255u8; size]?))
+}
+
+// Such memory for each plane of a frame. `None` is no memory.
+fn memory_for(
+    rt: &impl Abort,
+    alloc: Global,
+    shape: Shape,
+    more: Option<isize>,
+) -> Result<FrameMemory, AllocError> {
+    assert!(rt; shape.is_legal(), "{shape:?}");
+    Ok(FrameMemory {
+        luma: plane_memory(alloc, shape, 0, more)?,
+        u: plane_memory(alloc, shape, 1, more)?,
+        v: plane_memory(alloc, shape, 2, more)?,
+    })
+}
+
+// A frame of a node, by plain recursion. Each filter gets memory by `memory_for`.
 fn frame_of(
     rt: &impl Abort,
     alloc: Global,
     graph: &Graph,
     key: Key,
+    more: Option<isize>,
     scratch: &mut Scratch,
 ) -> Result<Frame, AllocError>
     requires { IsKeyBelow graph.now (length graph.now) key }
@@ -40,11 +73,12 @@ fn frame_of(
     let mut frames = Vec::new(alloc);
     let mut i = 0;
     while let Some(input) = input_at(graph, key, i) {
-        frames.push(frame_of(rt, alloc, graph, input, scratch)?)?;
+        frames.push(frame_of(rt, alloc, graph, input, more, scratch)?)?;
         assert!(rt; i < 100);
         i += 1;
     }
-    make_frame(alloc, graph, key, &frames, scratch)
+    let memory = memory_for(rt, alloc, node.info.shape, more)?;
+    make_frame(alloc, memory, graph, key, &frames, scratch)
 }
 
 // Whether two frames are equal, row by row.
@@ -63,7 +97,7 @@ fn are_equal(made: &Frame, want: &Frame) -> bool {
     true
 }
 
-// Compares all frames of a node with those of a term.
+// Compares all frames of a node with those of a term, whatever memory they are made in.
 fn compare_frames(
     rt: &impl Abort,
     alloc: Global,
@@ -80,9 +114,11 @@ fn compare_frames(
     assert_eq!(rt; graph.node(node).info, info);
     let mut scratch = Scratch::new(alloc);
     for n in 0..info.frames {
-        let made = frame_of(rt, alloc, graph, Key { node, n }, &mut scratch)?;
         let want = reference_frame(alloc, term, n, book)?;
-        assert!(rt; are_equal(&made, &want), "at {n} of {info:?}");
+        for more in [None, Some(-1), Some(0), Some(100)] {
+            let made = frame_of(rt, alloc, graph, Key { node, n }, more, &mut scratch)?;
+            assert!(rt; are_equal(&made, &want), "at {n} of {info:?} with {more:?}");
+        }
     }
     Ok(info)
 }

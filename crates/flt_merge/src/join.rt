@@ -12,7 +12,7 @@ use crate::merge::merge;
 use crate::planes::{luma_and_chroma, luma_of_three};
 use crate::stack::{stack_horizontal, stack_vertical};
 use clip_term::JoinOp;
-use fv_plane::{Frame, PixelType, Shape};
+use fv_plane::{Frame, FrameMemory, PixelType, Shape};
 use std::alloc::{AllocError, Global};
 
 // Whether luma of the size of `y` has chroma of the size of `u` in this format.
@@ -59,16 +59,29 @@ fn y_to_uv(alloc: Global, u: &Frame, v: &Frame, y: &Frame) -> Result<Frame, Allo
     luma_of_three(alloc, shape, y, u, v)
 }
 
+/// Whether a filter writes the rows of its planes, and so takes memory for them. Else they share the bytes of the inputs.
+pub fn takes_memory(op: &JoinOp) -> bool {
+    match op {
+        JoinOp::StackHorizontal | JoinOp::StackVertical | JoinOp::Merge => true,
+        JoinOp::MergeLuma | JoinOp::MergeChroma | JoinOp::YToUV => false,
+    }
+}
+
 /// The frame that a filter makes of a frame of each of its clips. The inputs have the shapes of the clips, which the
-/// check of the filter accepts. An `Err` is out of memory.
-pub fn make_join(alloc: Global, op: &JoinOp, inputs: &[Frame]) -> Result<Frame, AllocError>
+/// check of the filter accepts. It is made in `memory` as far as that has room. An `Err` is out of memory.
+pub fn make_join(
+    alloc: Global,
+    memory: FrameMemory,
+    op: &JoinOp,
+    inputs: &[Frame],
+) -> Result<Frame, AllocError>
     requires { CanJoin op.now inputs.now }
     ensures { IfOk result (λ made. made ≡ join_picture op.now inputs.now) }
 {
     match op {
-        JoinOp::StackHorizontal => stack_horizontal(alloc, inputs),
-        JoinOp::StackVertical => stack_vertical(alloc, inputs),
-        JoinOp::Merge => merge(alloc, &inputs[0], &inputs[1]),
+        JoinOp::StackHorizontal => stack_horizontal(alloc, memory, inputs),
+        JoinOp::StackVertical => stack_vertical(alloc, memory, inputs),
+        JoinOp::Merge => merge(alloc, memory, &inputs[0], &inputs[1]),
         JoinOp::MergeLuma => luma_and_chroma(alloc, &inputs[1], &inputs[0]),
         JoinOp::MergeChroma => luma_and_chroma(alloc, &inputs[0], &inputs[1]),
         JoinOp::YToUV => y_to_uv(alloc, &inputs[0], &inputs[1], &inputs[2]),

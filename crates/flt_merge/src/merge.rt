@@ -7,7 +7,7 @@ ghost use Rattle.fv_plane.specs.Look.{picture_from};
 ghost use Rattle.flt_merge.specs.Rows.{mean, look_of_means};
 
 use crate::kernels::{merge_row, merge_wide_row};
-use fv_plane::{Frame, FrameBuilder, Shape, write_samples};
+use fv_plane::{Frame, FrameBuilder, FrameMemory, Shape, write_samples};
 use std::alloc::{AllocError, Global};
 
 // Writes the bytes of the means of two rows. Samples of two bytes are made in `samples` first.
@@ -27,14 +27,14 @@ fn fill_means(shape: Shape, plane: u32, a: &[u8], b: &[u8], samples: &mut [u16],
 }
 
 /// The mean of two pictures of one shape, sample by sample. An `Err` is out of memory.
-pub fn merge(alloc: Global, a: &Frame, b: &Frame) -> Result<Frame, AllocError>
+pub fn merge(alloc: Global, memory: FrameMemory, a: &Frame, b: &Frame) -> Result<Frame, AllocError>
     requires { b.now.shape ≡ a.now.shape }
     ensures { IfOk result (λ made. made ≡ picture_from a.now.shape (look_of_means a.now b.now)) }
 {
     let shape = a.shape();
     // Called for what its contract says.
     let _ = b.shape();
-    let mut made = FrameBuilder::new(alloc, shape)?;
+    let mut made = FrameBuilder::new_in(alloc, memory, shape)?;
     for plane in 0..shape.kind.planes() {
         let mut samples = vec![in alloc; 0u16; shape.plane_width(plane) as usize]?;
         let mut bytes = vec![in alloc; 0u8; shape.row_bytes(plane) as usize]?;

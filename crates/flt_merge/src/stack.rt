@@ -7,7 +7,7 @@ ghost use Rattle.clip_term.specs.declared.op.JoinOp.TheVariants.{StackHorizontal
 ghost use Rattle.flt_merge.specs.Joined.{shape_joined, join_picture};
 ghost use Rattle.flt_merge.specs.Rows.{HaveWidth, HaveHeight, width_of_all, height_of_all, bytes_beside};
 
-use fv_plane::{Frame, FrameBuilder, Shape};
+use fv_plane::{Frame, FrameBuilder, FrameMemory, Shape};
 use std::alloc::{AllocError, Global};
 
 // The heights of all pictures.
@@ -63,14 +63,18 @@ fn shape_beside(inputs: &[Frame]) -> Shape
 }
 
 /// The pictures below each other, from the top. An `Err` is out of memory.
-pub fn stack_vertical(alloc: Global, inputs: &[Frame]) -> Result<Frame, AllocError>
+pub fn stack_vertical(
+    alloc: Global,
+    memory: FrameMemory,
+    inputs: &[Frame],
+) -> Result<Frame, AllocError>
     requires some { 0 < length inputs.now }
     requires legal { IsLegal (shape_joined StackVertical inputs.now) }
     requires alike { HaveWidth (shape_joined StackVertical inputs.now) inputs.now }
     ensures { IfOk result (λ made. made ≡ join_picture StackVertical inputs.now) }
 {
     let shape = shape_beneath(inputs);
-    let mut made = FrameBuilder::new(alloc, shape)?;
+    let mut made = FrameBuilder::new_in(alloc, memory, shape)?;
     for plane in 0..shape.kind.planes() {
         let mut top = 0;
         for i in 0..inputs.len() {
@@ -103,14 +107,18 @@ fn fill_row(inputs: &[Frame], plane: u32, y: u32, row: &mut [u8])
 }
 
 /// The pictures side by side, from the left. An `Err` is out of memory.
-pub fn stack_horizontal(alloc: Global, inputs: &[Frame]) -> Result<Frame, AllocError>
+pub fn stack_horizontal(
+    alloc: Global,
+    memory: FrameMemory,
+    inputs: &[Frame],
+) -> Result<Frame, AllocError>
     requires some { 0 < length inputs.now }
     requires legal { IsLegal (shape_joined StackHorizontal inputs.now) }
     requires alike { HaveHeight (shape_joined StackHorizontal inputs.now) inputs.now }
     ensures { IfOk result (λ made. made ≡ join_picture StackHorizontal inputs.now) }
 {
     let shape = shape_beside(inputs);
-    let mut made = FrameBuilder::new(alloc, shape)?;
+    let mut made = FrameBuilder::new_in(alloc, memory, shape)?;
     for plane in 0..shape.kind.planes() {
         let mut buffer = vec![in alloc; 0u8; shape.row_bytes(plane) as usize]?;
         let row = buffer.as_mut_slice();

@@ -15,7 +15,7 @@ use clip_term::Matrix;
 use flt_rows::kernels::{add_five, add_three, pad_row, show_row};
 use flt_rows::narrow::{self, Ending, Square, Weights, narrow_reciprocal_of};
 use flt_rows::reciprocal::reciprocal_of;
-use fv_plane::Frame;
+use fv_plane::{Frame, FrameMemory};
 use std::alloc::{AllocError, Global};
 
 /// A place beside another, brought to the edge where it is past it.
@@ -389,6 +389,7 @@ impl RowFilter for ConvolveRows<'_> {
 /// weights, plus the bias. An `Err` is out of memory.
 pub fn general_convolution(
     alloc: Global,
+    memory: FrameMemory,
     bias: i32,
     matrix: &Matrix,
     inputs: &[Frame],
@@ -399,5 +400,6 @@ pub fn general_convolution(
     ensures room { scratch.new ≤ max scratch.old (shape_of inputs.now).width }
     ensures err { OnErr result (scratch.new ≡ scratch.old) }
 {
-    make_by_rows(alloc, &ConvolveRows { bias, matrix }, inputs, scratch)
+    let filter = ConvolveRows { bias, matrix };
+    make_by_rows(alloc, memory, &filter, inputs, scratch)
 }

@@ -14,6 +14,6 @@ mod soften;
 mod soften_wide;
 
 pub use clip_check::check_soft;
-pub use make::make_soft;
+pub use make::{make_soft, takes_memory};
 pub use matrix::{MatrixFault, read_matrix};
 pub use scratch::Scratch;

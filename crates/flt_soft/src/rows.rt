@@ -8,7 +8,7 @@ ghost use Rattle.clip_term.specs.declared.op.SoftOp.{SoftOp};
 ghost use Rattle.flt_soft.specs.Pictures.{CanSoften, HaveShape, bytes_made, keeps_plane, row_in, shape_of, soft_picture};
 
 use crate::scratch::Scratch;
-use fv_plane::{Frame, FrameBuilder};
+use fv_plane::{Frame, FrameBuilder, FrameMemory};
 use std::alloc::{AllocError, Global};
 
 /// A row of samples of eight bits.
@@ -143,6 +143,7 @@ fn fill_planes<F: RowFilter>(
 // The picture that a filter makes, in a scratch that has room for it.
 fn make_in<F: RowFilter>(
     alloc: Global,
+    memory: FrameMemory,
     filter: &F,
     inputs: &[Frame],
     scratch: &mut Scratch,
@@ -153,7 +154,7 @@ fn make_in<F: RowFilter>(
     ensures room { scratch.new ≡ scratch.old }
 {
     let first = &inputs[0];
-    let mut made = FrameBuilder::new(alloc, first.shape())?;
+    let mut made = FrameBuilder::new_in(alloc, memory, first.shape())?;
     fill_planes(alloc, filter, inputs, scratch, &mut made)?;
     made.finish()
 }
@@ -161,6 +162,7 @@ fn make_in<F: RowFilter>(
 /// The picture that a filter makes. After an `Err` the scratch has the room that it had.
 pub fn make_by_rows<F: RowFilter>(
     alloc: Global,
+    memory: FrameMemory,
     filter: &F,
     inputs: &[Frame],
     scratch: &mut Scratch,
@@ -173,9 +175,9 @@ pub fn make_by_rows<F: RowFilter>(
     let first = &inputs[0];
     let shape = first.shape();
     match scratch.wider(shape.width as usize)? {
-        None => make_in(alloc, filter, inputs, scratch),
+        None => make_in(alloc, memory, filter, inputs, scratch),
         Some(mut rows) => {
-            let made = make_in(alloc, filter, inputs, &mut rows)?;
+            let made = make_in(alloc, memory, filter, inputs, &mut rows)?;
             *scratch = rows;
             Ok(made)
         }

@@ -8,7 +8,7 @@ use crate::rows::{RowFilter, make_by_rows, row_in};
 use crate::scratch::Scratch;
 use crate::soften_wide::{scaled, soften_wide};
 use flt_rows::kernels::{add_near, mean_row, soften_five, soften_three};
-use fv_plane::Frame;
+use fv_plane::{Frame, FrameMemory};
 use std::alloc::{AllocError, Global};
 
 // Seven to fifteen rows at a place, by their sums.
@@ -133,6 +133,7 @@ impl RowFilter for SoftenRows {
 /// threshold. Planes that stay are shared. An `Err` is out of memory.
 pub fn temporal_soften(
     alloc: Global,
+    memory: FrameMemory,
     radius: u32,
     luma: u8,
     chroma: u8,
@@ -150,5 +151,5 @@ pub fn temporal_soften(
         luma,
         chroma,
     };
-    make_by_rows(alloc, &filter, inputs, scratch)
+    make_by_rows(alloc, memory, &filter, inputs, scratch)
 }

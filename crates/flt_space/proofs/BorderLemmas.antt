@@ -1,8 +1,10 @@
 -- Rows inside borders.
-use Rattle.std.proofs.Common.{◌≡◌, ℕ, ◌+◌, ◌-◌, ◌/◌, ◌<◌, ◌≤◌, List, [], ◌∷◌, ◌++◌, length, get_or, take, drop, Bool, true, false, None, refl, sym, ap, ◌∙◌, arith, replicate}
+use Rattle.std.proofs.Common.{◌≡◌, ℕ, ◌+◌, ◌-◌, ◌/◌, ◌<◌, ◌≤◌, List, [], ◌∷◌, ◌++◌, length, get_or, take, drop, Bool, true, false, None, refl, sym, ap, ◌∙◌, arith, replicate, w32}
 use Rattle.std.specs.Prelude.{ℤ, ◌==◌, ◌&&◌, ◌||◌, if◌then◌else◌, nat_lt, nat_le}
 use Rattle.std.proofs.lemmas.List.{append-nil, take_all, get_or_append_left, get_or-append_right, get_or-replicate, length-replicate, length-append, length-take-le, length-drop, get_or-take, get_or-drop}
 use Rattle.std.proofs.lemmas.Bool.Decides.{nat_tests}
+use Rattle.std.proofs.lemmas.Int.{to_z-of_z}
+use mir.Val.{SFits, of_z, to_z}
 use Rattle.fv_plane.specs.declared.format.PixelType.{PixelType}
 use Rattle.fv_plane.specs.declared.format.PixelType.TheVariants.{Y8, YV12, YV16, YV24, YV411}
 use Rattle.fv_plane.specs.declared.format.Shape.{Shape}
@@ -78,24 +80,34 @@ length-padded row before value width room =
     ∙ omega (arith, length-replicate before value, length-append row (replicate (width - before - length row) value), length-replicate (width - before - length row) value)
 
 -- in a row between the borders above and below, a column decides
-pub in_row : (column row : Bool) (a b : ℕ) → row ≡ true → (if column then a else b) ≡ (if column && row then a else b)
+in_row : (column row : Bool) (a b : ℕ) → row ≡ true → (if column then a else b) ≡ (if column && row then a else b)
 in_row true true a b e = refl
 in_row true false a b e = cc
 in_row false row a b e = refl
 
 -- another row has the colour
-pub out_of_row : (column row : Bool) (a b : ℕ) → row ≡ false → b ≡ (if column && row then a else b)
+out_of_row : (column row : Bool) (a b : ℕ) → row ≡ false → b ≡ (if column && row then a else b)
 out_of_row true true a b e = cc
 out_of_row true false a b e = refl
 out_of_row false row a b e = refl
 
 -- what a test of a place between others says
-pub inside_of : (start end at : ℕ) → is_within start end at ≡ true → (start ≤ at) × (at < end)
+inside_of : (start end at : ℕ) → is_within start end at ≡ true → (start ≤ at) × (at < end)
 inside_of start end at e =
     let told = both (nat_le start at) (nat_lt at end) e in
     let from : nat_le start at ≡ true = told.0 in
     let below : nat_lt at end ≡ true = told.1 in
     (grind (arith, nat_tests), grind (arith, nat_tests))
+
+-- and where it stands below the start
+pub below_start : (start high h at : ℕ) → high ≡ h → is_within start (start + high) at ≡ true → at - start < h
+below_start start high h at same e =
+    let places = inside_of start (start + high) at e in
+    omega (arith, places.0, places.1, same)
+
+-- a border of no columns
+pub no_columns : (n : ℤ) → SFits w32 n → of_z w32 n ≡ 0 → nat_of n ≡ 0
+no_columns n fits none = ap nat_of (sym (to_z-of_z w32 n fits) ∙ ap (to_z w32) none)
 
 -- a letter box covers no more columns than there are
 pub fits_across : (shape : Shape) (p l r : ℕ) → l + r ≤ shape.width → across shape p l + across shape p r ≤ plane_width shape p
@@ -123,6 +135,15 @@ bordered_row input left top right bottom color p y width long room told =
     ∙ ap (λ (n : ℕ). if is_within before (before + n) x then get_or row (x - before) 0 else value) long
     ∙ in_row (is_within before (before + plane_width input.shape p) x) (is_within dy (dy + plane_height input.shape p) y) (get_or row (x - before) 0) value told)
 
+-- a row of its borders
+pub border_row : (input : Picture) (left top right bottom color : ℤ) (p y width : ℕ) → is_within (down input.shape p (nat_of top)) (down input.shape p (nat_of top) + plane_height input.shape p) y ≡ false
+    → replicate width (paint color input.shape p) ≡ row_from (space_at (AddBorders left top right bottom color) input.shape (look_in input)) p width y
+border_row input left top right bottom color p y width told =
+    let before = across input.shape p (nat_of left) in
+    let value = paint color input.shape p in
+    row_listed (replicate width value) (space_at (AddBorders left top right bottom color) input.shape (look_in input)) p width y (length-replicate width value)
+    (λ x inside. get_or-replicate width x value 0 inside ∙ out_of_row (is_within before (before + plane_width input.shape p) x) _ _ value told)
+
 -- a row of a picture in a letter box
 pub boxed_row : (input : Picture) (top bottom x1 x2 color : ℤ) (p y : ℕ) → length (row_of input.planes p y) ≡ plane_width input.shape p
     → across input.shape p (nat_of x1) + across input.shape p (nat_of x2) ≤ plane_width input.shape p
@@ -146,6 +167,15 @@ boxed_row input top bottom x1 x2 color p y long room told =
     get_or-take (length row - right - left) (drop left row) (x - left) 0 (omega (arith, places.0, places.1, size)) ∙ get_or-drop left row (x - left) 0 ∙ ap (λ (k : ℕ). get_or row k 0) (omega (arith, places.0))) refl
     ∙ ap (λ (n : ℕ). if is_within left n x then get_or row x 0 else value) end
     ∙ in_row (is_within left (width - right) x) (is_within (down input.shape p (nat_of top)) (plane_height input.shape p - down input.shape p (nat_of bottom)) y) (get_or row x 0) value told)
+
+-- a row that a letter box covers
+pub box_row : (input : Picture) (top bottom x1 x2 color : ℤ) (p y width : ℕ) → is_within (down input.shape p (nat_of top)) (plane_height input.shape p - down input.shape p (nat_of bottom)) y ≡ false
+    → replicate width (paint color input.shape p) ≡ row_from (space_at (LetterBox top bottom x1 x2 color) input.shape (look_in input)) p width y
+box_row input top bottom x1 x2 color p y width told =
+    let value = paint color input.shape p in
+    row_listed (replicate width value) (space_at (LetterBox top bottom x1 x2 color) input.shape (look_in input)) p width y (length-replicate width value)
+    (λ x inside. get_or-replicate width x value 0 inside
+    ∙ out_of_row (is_within (across input.shape p (nat_of x1)) (plane_width input.shape p - across input.shape p (nat_of x2)) x) _ _ value told)
 
 nothing_by : (luma : Bool) (kind : PixelType) → (if luma then 0 else 0 / sub_w kind) ≡ 0
 nothing_by true kind = refl

@@ -10,10 +10,11 @@ use crate::kernels::{copy_inverted, copy_limited};
 use crate::rows::{RowFilter, make_by_rows};
 use crate::wide::{self, wide_row};
 use clip_term::Channels;
-use fv_plane::{Frame, FrameBuilder, Shape};
+use fv_plane::{Frame, FrameBuilder, FrameMemory, Shape};
 use std::alloc::{AllocError, Global};
 
-fn is_among(channels: Channels, plane: u32) -> bool
+/// Whether a plane is among those that a filter changes.
+pub fn is_among(channels: Channels, plane: u32) -> bool
     ensures { result ≡ is_among channels plane }
 {
     if plane == 0 {
@@ -49,10 +50,21 @@ impl RowFilter for InvertRows {
 
 /// `Invert`: the complement of each sample of the planes that are named. The others are shared. An `Err` is out of
 /// memory.
-pub fn invert(alloc: Global, input: &Frame, channels: Channels) -> Result<Frame, AllocError>
+pub fn invert(
+    alloc: Global,
+    memory: FrameMemory,
+    input: &Frame,
+    channels: Channels,
+) -> Result<Frame, AllocError>
     ensures { IfOk result (λ made. made ≡ space_picture (op.Invert channels) input.now) }
 {
-    make_by_rows(alloc, &InvertRows { channels }, input, input.shape())
+    make_by_rows(
+        alloc,
+        memory,
+        &InvertRows { channels },
+        input,
+        input.shape(),
+    )
 }
 
 // A bound from 0 to 255 as a sample.
@@ -114,6 +126,7 @@ impl RowFilter for LimitRows {
 /// `Limiter`: each sample brought into the bounds of its plane. An `Err` is out of memory.
 pub fn limiter(
     alloc: Global,
+    memory: FrameMemory,
     input: &Frame,
     min_luma: i32,
     max_luma: i32,
@@ -130,7 +143,7 @@ pub fn limiter(
         min_chroma,
         max_chroma,
     };
-    make_by_rows(alloc, &filter, input, input.shape())
+    make_by_rows(alloc, memory, &filter, input, input.shape())
 }
 
 #[derive(Drop)]
@@ -153,10 +166,10 @@ impl RowFilter for GreyRows {
 }
 
 /// `Greyscale`: luma as it is, which is shared, and chroma without colour. An `Err` is out of memory.
-pub fn greyscale(alloc: Global, input: &Frame) -> Result<Frame, AllocError>
+pub fn greyscale(alloc: Global, memory: FrameMemory, input: &Frame) -> Result<Frame, AllocError>
     ensures { IfOk result (λ made. made ≡ space_picture op.Greyscale input.now) }
 {
-    make_by_rows(alloc, &GreyRows, input, input.shape())
+    make_by_rows(alloc, memory, &GreyRows, input, input.shape())
 }
 
 // The planes of chroma exchanged.

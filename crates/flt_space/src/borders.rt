@@ -11,7 +11,7 @@ use crate::kernels::{cover_row, pad_row};
 use crate::rows::{RowFilter, make_by_rows};
 use crate::wide::{self, wide_row};
 use clip_term::part_of;
-use fv_plane::{Frame, Shape};
+use fv_plane::{Frame, FrameMemory, Shape};
 use std::alloc::{AllocError, Global};
 
 // Columns of luma, on a plane.
@@ -114,6 +114,7 @@ impl RowFilter for BorderRows {
 /// `AddBorders`: the picture with columns and rows of one colour around it. An `Err` is out of memory.
 pub fn add_borders(
     alloc: Global,
+    memory: FrameMemory,
     input: &Frame,
     left: i32,
     top: i32,
@@ -138,7 +139,7 @@ pub fn add_borders(
         bottom,
         color_yuv,
     };
-    make_by_rows(alloc, &filter, input, bordered)
+    make_by_rows(alloc, memory, &filter, input, bordered)
 }
 
 #[derive(Drop)]
@@ -203,6 +204,7 @@ impl RowFilter for BoxRows {
 /// `LetterBox`: the picture with its edges covered by one colour. An `Err` is out of memory.
 pub fn letter_box(
     alloc: Global,
+    memory: FrameMemory,
     input: &Frame,
     top: i32,
     bottom: i32,
@@ -220,5 +222,5 @@ pub fn letter_box(
         x2,
         color_yuv,
     };
-    make_by_rows(alloc, &filter, input, input.shape())
+    make_by_rows(alloc, memory, &filter, input, input.shape())
 }

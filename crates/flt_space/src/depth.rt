@@ -11,7 +11,7 @@ ghost use Rattle.flt_space.specs.Rows.{row_converted};
 use crate::kernels;
 use crate::wide::{self, wide_row};
 use clip_term::depth_of;
-use fv_plane::{Frame, FrameBuilder, Shape, write_samples};
+use fv_plane::{Frame, FrameBuilder, FrameMemory, Shape, write_samples};
 use std::alloc::{AllocError, Global};
 
 // The factor from samples of `old` bits to samples of `new` bits.
@@ -65,13 +65,18 @@ fn convert_row(input: &Frame, plane: u32, y: u32, shape: Shape, samples: &mut [u
 }
 
 // The picture in the bits of `shape`, which is else that of the input.
-fn make_converted(alloc: Global, input: &Frame, shape: Shape) -> Result<Frame, AllocError>
+fn make_converted(
+    alloc: Global,
+    memory: FrameMemory,
+    input: &Frame,
+    shape: Shape,
+) -> Result<Frame, AllocError>
     requires legal { IsLegal shape }
     requires shape { shape ≡ space_shape (ConvertBits (pos shape.bits)) input.now.shape }
     requires sizes { IsPicture input.now }
     ensures { IfOk result (λ made. made ≡ space_picture (ConvertBits (pos shape.bits)) input.now) }
 {
-    let mut made = FrameBuilder::new(alloc, shape)?;
+    let mut made = FrameBuilder::new_in(alloc, memory, shape)?;
     for plane in 0..shape.kind.planes() {
         let width = shape.plane_width(plane) as usize;
         let mut samples = vec![in alloc; 0u16; width]?;
@@ -88,7 +93,12 @@ fn make_converted(alloc: Global, input: &Frame, shape: Shape) -> Result<Frame, A
 
 /// `ConvertBits`: the picture in samples of other bits. Where the bits are those of the input, it is shared. An `Err` is
 /// out of memory, or more shares than can be counted.
-pub fn convert_bits(alloc: Global, input: &Frame, bits: i32) -> Result<Frame, AllocError>
+pub fn convert_bits(
+    alloc: Global,
+    memory: FrameMemory,
+    input: &Frame,
+    bits: i32,
+) -> Result<Frame, AllocError>
     requires accepted { first_fault (space_refusals (ConvertBits bits) input.now.shape) ≡ None }
     requires legal { IsLegal (space_shape (ConvertBits bits) input.now.shape) }
     ensures { IfOk result (λ made. made ≡ space_picture (ConvertBits bits) input.now) }
@@ -101,5 +111,5 @@ pub fn convert_bits(alloc: Global, input: &Frame, bits: i32) -> Result<Frame, Al
     if shape.bits == old.bits {
         return input.share();
     }
-    make_converted(alloc, input, shape)
+    make_converted(alloc, memory, input, shape)
 }

@@ -6,7 +6,7 @@ ghost use Rattle.clip_term.specs.Space.{space_picture};
 use crate::kernels::reverse_row;
 use crate::rows::{RowFilter, make_by_rows};
 use crate::wide::{self, wide_row};
-use fv_plane::Frame;
+use fv_plane::{Frame, FrameMemory};
 use std::alloc::{AllocError, Global};
 
 /// `FlipVertical`: the picture upside down, over the bytes of the input. An `Err` is more shares than can be counted.
@@ -36,10 +36,14 @@ impl RowFilter for MirrorRows {
 }
 
 /// `FlipHorizontal`: the picture from right to left. An `Err` is out of memory.
-pub fn flip_horizontal(alloc: Global, input: &Frame) -> Result<Frame, AllocError>
+pub fn flip_horizontal(
+    alloc: Global,
+    memory: FrameMemory,
+    input: &Frame,
+) -> Result<Frame, AllocError>
     ensures { IfOk result (λ made. made ≡ space_picture FlipHorizontal input.now) }
 {
-    make_by_rows(alloc, &MirrorRows, input, input.shape())
+    make_by_rows(alloc, memory, &MirrorRows, input, input.shape())
 }
 
 #[derive(Drop)]
@@ -64,8 +68,8 @@ impl RowFilter for TurnRows {
 }
 
 /// `Turn180`: the picture upside down, from right to left. An `Err` is out of memory.
-pub fn turn_180(alloc: Global, input: &Frame) -> Result<Frame, AllocError>
+pub fn turn_180(alloc: Global, memory: FrameMemory, input: &Frame) -> Result<Frame, AllocError>
     ensures { IfOk result (λ made. made ≡ space_picture Turn180 input.now) }
 {
-    make_by_rows(alloc, &TurnRows, input, input.shape())
+    make_by_rows(alloc, memory, &TurnRows, input, input.shape())
 }

@@ -1,5 +1,5 @@
 // What is done to the samples of a row. Plain loops over slices, which the compiler turns into vector instructions.
-ghost use Rattle.std.specs.Prelude.{◌≡◌, ◌-◌, ◌+◌, ◌*◌, ◌<◌, ◌≤◌, ℕ, EachIndex, length, map, slice_index};
+ghost use Rattle.std.specs.Prelude.{◌≡◌, ◌-◌, ◌+◌, ◌*◌, ◌≤◌, EachIndex, length, map, slice_index};
 ghost use Rattle.clip_term.specs.Space.{limited};
 ghost use Rattle.flt_space.specs.Rows.{padded, covered};
 

@@ -1,15 +1,15 @@
 // Filters that make each row of a picture by itself.
-ghost use Rattle.std.specs.Prelude.{◌≡◌, ◌<◌, IfOk, IfSome, OnOk, None, false, length};
+ghost use Rattle.std.specs.Prelude.{◌≡◌, ◌<◌, IfOk, IfSome, OnOk, None, length};
 ghost use Rattle.fv_plane.specs.Bytes.{bytes_of_row};
-ghost use Rattle.fv_plane.specs.Format.{IsLegal, planes, plane_width, plane_height, row_bytes, sample_bytes};
+ghost use Rattle.fv_plane.specs.Format.{IsLegal, planes, plane_width, plane_height, sample_bytes};
 ghost use Rattle.fv_plane.specs.Picture.{IsPicture, row_of, with_row};
 ghost use Rattle.fv_plane.specs.Refusals.{first_fault};
 ghost use Rattle.clip_term.specs.declared.op.SpaceOp.{SpaceOp};
 ghost use Rattle.clip_term.specs.Space.{space_shape, space_picture, space_refusals};
 ghost use Rattle.flt_space.specs.Kept.{keeps_plane};
-ghost use Rattle.flt_space.specs.Rows.{row_made, wide_width};
+ghost use Rattle.flt_space.specs.Rows.{IsRowToMake, IsRowToPut, row_made, wide_width};
 
-use fv_plane::{Frame, FrameBuilder, Shape, write_samples};
+use fv_plane::{Frame, FrameBuilder, FrameMemory, Shape, write_samples};
 use std::alloc::{AllocError, Global};
 
 /// A filter that makes a row from the rows of the input.
@@ -23,20 +23,14 @@ pub trait RowFilter {
 
     /// Writes a row of a plane that isn't kept, where a sample is a byte.
     fn fill_row(&self, input: &Frame, plane: u32, y: u32, out: &mut [u8])
-        requires accepted { first_fault (space_refusals (op self.now) input.now.shape) ≡ None }
-        requires changed { keeps_plane (op self.now) plane ≡ false }
-        requires plane { plane < planes (space_shape (op self.now) input.now.shape).kind }
-        requires inside { y < plane_height (space_shape (op self.now) input.now.shape) plane }
+        requires row { IsRowToMake (op self.now) input.now plane y }
         requires narrow { input.now.shape.bits ≡ 8 }
         requires whole { length out.old ≡ plane_width (space_shape (op self.now) input.now.shape) plane }
         ensures { out.new ≡ row_made (op self.now) input.now plane y };
 
     /// Writes a row of a plane that isn't kept, where a sample has two bytes.
     fn fill_samples(&self, input: &Frame, plane: u32, y: u32, out: &mut [u16])
-        requires accepted { first_fault (space_refusals (op self.now) input.now.shape) ≡ None }
-        requires changed { keeps_plane (op self.now) plane ≡ false }
-        requires plane { plane < planes (space_shape (op self.now) input.now.shape).kind }
-        requires inside { y < plane_height (space_shape (op self.now) input.now.shape) plane }
+        requires row { IsRowToMake (op self.now) input.now plane y }
         requires wide { sample_bytes input.now.shape ≡ 2 }
         requires whole { length out.old ≡ plane_width (space_shape (op self.now) input.now.shape) plane }
         ensures { out.new ≡ row_made (op self.now) input.now plane y };
@@ -44,10 +38,7 @@ pub trait RowFilter {
     /// The row of the input's plane that a row of a plane that isn't kept is, where it is one: its bytes are put as
     /// they are. `None` says nothing.
     fn shown_row(&self, input: &Frame, plane: u32, y: u32) -> Option<u32>
-        requires accepted { first_fault (space_refusals (op self.now) input.now.shape) ≡ None }
-        requires changed { keeps_plane (op self.now) plane ≡ false }
-        requires plane { plane < planes (space_shape (op self.now) input.now.shape).kind }
-        requires inside { y < plane_height (space_shape (op self.now) input.now.shape) plane }
+        requires { IsRowToMake (op self.now) input.now plane y }
         ensures plane { IfSome result (λ at. plane < planes input.now.shape.kind) }
         ensures inside { IfSome result (λ at. at < plane_height input.now.shape plane) }
         ensures row { IfSome result (λ at.
@@ -77,13 +68,7 @@ fn fill_bytes<F: RowFilter>(
     samples: &mut [u16],
     out: &mut [u8],
 )
-    requires accepted { first_fault (space_refusals (F.op filter.now) input.now.shape) ≡ None }
-    requires bits { (space_shape (F.op filter.now) input.now.shape).bits ≡ input.now.shape.bits }
-    requires changed { keeps_plane (F.op filter.now) plane ≡ false }
-    requires plane { plane < planes (space_shape (F.op filter.now) input.now.shape).kind }
-    requires inside { y < plane_height (space_shape (F.op filter.now) input.now.shape) plane }
-    requires samples { length samples.old ≡ wide_width (space_shape (F.op filter.now) input.now.shape) plane }
-    requires whole { length out.old ≡ row_bytes (space_shape (F.op filter.now) input.now.shape) plane }
+    requires { IsRowToPut (F.op filter.now) input.now plane y samples.old out.old }
     ensures { out.new ≡ bytes_of_row input.now.shape (row_made (F.op filter.now) input.now plane y) }
 {
     if input.shape().bits == 8 {
@@ -104,13 +89,7 @@ fn put_row_of<F: RowFilter>(
     row: &mut [u8],
     made: &mut FrameBuilder,
 )
-    requires accepted { first_fault (space_refusals (F.op filter.now) input.now.shape) ≡ None }
-    requires bits { (space_shape (F.op filter.now) input.now.shape).bits ≡ input.now.shape.bits }
-    requires changed { keeps_plane (F.op filter.now) plane ≡ false }
-    requires plane { plane < planes (space_shape (F.op filter.now) input.now.shape).kind }
-    requires inside { y < plane_height (space_shape (F.op filter.now) input.now.shape) plane }
-    requires samples { length samples.old ≡ wide_width (space_shape (F.op filter.now) input.now.shape) plane }
-    requires whole { length row.old ≡ row_bytes (space_shape (F.op filter.now) input.now.shape) plane }
+    requires row { IsRowToPut (F.op filter.now) input.now plane y samples.old row.old }
     requires made { made.old.shape ≡ space_shape (F.op filter.now) input.now.shape }
     ensures shape { made.new.shape ≡ made.old.shape }
     ensures rows { made.new.planes
@@ -164,6 +143,7 @@ fn fill_planes<F: RowFilter>(
 /// The picture of this shape that a filter makes, which keeps the bits of a sample.
 pub fn make_by_rows<F: RowFilter>(
     alloc: Global,
+    memory: FrameMemory,
     filter: &F,
     input: &Frame,
     shape: Shape,
@@ -174,7 +154,7 @@ pub fn make_by_rows<F: RowFilter>(
     requires legal { IsLegal shape }
     ensures { IfOk result (λ made. made ≡ space_picture (F.op filter.now) input.now) }
 {
-    let mut made = FrameBuilder::new(alloc, shape)?;
+    let mut made = FrameBuilder::new_in(alloc, memory, shape)?;
     fill_planes(alloc, filter, input, shape, &mut made)?;
     made.finish()
 }

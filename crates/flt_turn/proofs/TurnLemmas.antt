@@ -12,7 +12,7 @@ use Rattle.fv_plane.specs.Bytes.{row_of_bytes, rows_of_bytes, wide_bytes}
 use Rattle.fv_plane.specs.declared.format.Shape.{Shape}
 use Rattle.fv_plane.specs.Look.{Look, row_from}
 use Rattle.fv_plane.specs.Refusals.{first_fault}
-use Rattle.fv_plane.specs.Rows.{rows_of}
+use Rattle.fv_rows.specs.Rows.{rows_of}
 use Rattle.fv_plane.proofs.BytesLemmas.{decoded-rows_of, length-row_of_bytes}
 use Rattle.fv_plane.proofs.WideLemmas.{wide_bytes-at}
 use Rattle.fv_plane.proofs.FillLemmas.{row_listed}
@@ -20,7 +20,7 @@ use Rattle.clip_term.specs.declared.op.SpaceOp.TheVariants.{TurnLeft}
 use Rattle.clip_term.specs.Space.{space_refusals}
 use Rattle.flt_turn.specs.Rows.{HasRows}
 
--- the planes of a picture that may be turned have the same sides, exchanged
+-- a plane of a picture that may be turned is as wide afterwards as it was high
 pub turned_width : (kind : PixelType) (bits w h p : ℕ) → first_fault (space_refusals TurnLeft (record { kind = kind; bits = bits; width = w; height = h })) ≡ None
     → plane_width (record { kind = kind; bits = bits; width = h; height = w }) p ≡ plane_height (record { kind = kind; bits = bits; width = w; height = h }) p
 turned_width Y8 bits w h p told = refl
@@ -28,14 +28,6 @@ turned_width YV12 bits w h p told = refl
 turned_width YV24 bits w h p told = refl
 turned_width YV16 bits w h p told = cc
 turned_width YV411 bits w h p told = cc
-
-pub turned_height : (kind : PixelType) (bits w h p : ℕ) → first_fault (space_refusals TurnLeft (record { kind = kind; bits = bits; width = w; height = h })) ≡ None
-    → plane_height (record { kind = kind; bits = bits; width = h; height = w }) p ≡ plane_width (record { kind = kind; bits = bits; width = w; height = h }) p
-turned_height Y8 bits w h p told = refl
-turned_height YV12 bits w h p told = refl
-turned_height YV24 bits w h p told = refl
-turned_height YV16 bits w h p told = cc
-turned_height YV411 bits w h p told = cc
 
 -- ---- places of columns in rows that lie side by side
 

@@ -8,10 +8,10 @@ ghost use Rattle.fv_plane.specs.Refusals.{first_fault};
 ghost use Rattle.clip_term.specs.declared.op.SpaceOp.{SpaceOp};
 ghost use Rattle.clip_term.specs.declared.op.SpaceOp.TheVariants.{TurnLeft, TurnRight};
 ghost use Rattle.clip_term.specs.Space.{space_at, space_picture, space_refusals, space_shape};
-ghost use Rattle.flt_turn.specs.Rows.{HasBlock, HasRows, HasColumns, Turns};
+ghost use Rattle.flt_turn.specs.Rows.{AreRows, HasBlock, HasMoreAbove, HasRows, HasColumns, Turns, size_of_rows};
 
 use crate::kernels::{copy_16, transpose, unweave, weave};
-use fv_plane::{Frame, FrameBuilder, Shape};
+use fv_plane::{Frame, FrameBuilder, FrameMemory, Shape};
 use std::alloc::{AllocError, Global};
 
 // How many rows are made at a time. Columns that lie beside each other are read together, since they share cache lines.
@@ -126,8 +126,7 @@ fn read_block<T: Turn>(input: &Frame, plane: u32, from: usize, x: u32, block: &m
 }
 
 // Reads 16 samples of two bytes, from a column on, of each of the rows that 16 columns of the turned plane are: the low
-// bytes into one block, the high ones into another. The bytes are read before they are taken apart, so that the processor
-// waits for many rows at once.
+// bytes into one block, the high ones into another.
 fn read_wide_block<T: Turn>(
     input: &Frame,
     plane: u32,
@@ -180,18 +179,13 @@ fn turn_block<T: Turn>(
     out: &mut [u8],
 )
     requires narrow { input.now.shape.bits ≡ 8 }
-    requires plane { plane < planes input.now.shape.kind }
-    requires across { y + count ≤ plane_width input.now.shape plane }
+    requires rows { AreRows input.now plane y count }
     requires down { x + 16 ≤ plane_height input.now.shape plane }
     requires inside { top + 16 ≤ count }
-    requires few { count ≤ 128 }
-    requires high { plane_height input.now.shape plane ≤ 65535 }
-    requires whole { length out.old ≡ count * (plane_height input.now.shape plane * sample_bytes input.now.shape) }
-    requires above { HasColumns T.row_of T.column_of input.now plane y top (x + 16) out.old }
-    requires before { HasColumns T.row_of T.column_of input.now plane y count x out.old }
+    requires whole { length out.old ≡ size_of_rows input.now.shape plane count }
+    requires before { HasMoreAbove T.row_of T.column_of input.now plane y count top x out.old }
     ensures whole { length out.new ≡ length out.old }
-    ensures more { HasColumns T.row_of T.column_of input.now plane y (top + 16) (x + 16) out.new }
-    ensures before { HasColumns T.row_of T.column_of input.now plane y count x out.new }
+    ensures more { HasMoreAbove T.row_of T.column_of input.now plane y count (top + 16) x out.new }
 {
     let width = input.shape().plane_width(plane);
     let height = input.shape().plane_height(plane) as usize;
@@ -217,18 +211,13 @@ fn turn_wide_block<T: Turn>(
     out: &mut [u8],
 )
     requires wide { sample_bytes input.now.shape ≡ 2 }
-    requires plane { plane < planes input.now.shape.kind }
-    requires across { y + count ≤ plane_width input.now.shape plane }
+    requires rows { AreRows input.now plane y count }
     requires down { x + 16 ≤ plane_height input.now.shape plane }
     requires inside { top + 16 ≤ count }
-    requires few { count ≤ 128 }
-    requires high { plane_height input.now.shape plane ≤ 65535 }
-    requires whole { length out.old ≡ count * (plane_height input.now.shape plane * sample_bytes input.now.shape) }
-    requires above { HasColumns T.row_of T.column_of input.now plane y top (x + 16) out.old }
-    requires before { HasColumns T.row_of T.column_of input.now plane y count x out.old }
+    requires whole { length out.old ≡ size_of_rows input.now.shape plane count }
+    requires before { HasMoreAbove T.row_of T.column_of input.now plane y count top x out.old }
     ensures whole { length out.new ≡ length out.old }
-    ensures more { HasColumns T.row_of T.column_of input.now plane y (top + 16) (x + 16) out.new }
-    ensures before { HasColumns T.row_of T.column_of input.now plane y count x out.new }
+    ensures more { HasMoreAbove T.row_of T.column_of input.now plane y count (top + 16) x out.new }
 {
     let width = input.shape().plane_width(plane);
     let height = input.shape().plane_height(plane) as usize;
@@ -252,11 +241,8 @@ fn turn_wide_block<T: Turn>(
 // Makes the columns, from x on, of rows of the turned plane.
 fn turn_columns<T: Turn>(input: &Frame, plane: u32, y: u32, count: u32, x: u32, out: &mut [u8])
     requires narrow { input.now.shape.bits ≡ 8 }
-    requires plane { plane < planes input.now.shape.kind }
-    requires inside { y + count ≤ plane_width input.now.shape plane }
-    requires few { count ≤ 128 }
-    requires high { plane_height input.now.shape plane ≤ 65535 }
-    requires whole { length out.old ≡ count * (plane_height input.now.shape plane * sample_bytes input.now.shape) }
+    requires rows { AreRows input.now plane y count }
+    requires whole { length out.old ≡ size_of_rows input.now.shape plane count }
     requires before { HasColumns T.row_of T.column_of input.now plane y count x out.old }
     ensures whole { length out.new ≡ length out.old }
     ensures all { HasColumns T.row_of T.column_of input.now plane y count (plane_height input.now.shape plane) out.new }
@@ -275,11 +261,8 @@ fn turn_columns<T: Turn>(input: &Frame, plane: u32, y: u32, count: u32, x: u32, 
 // The same, where a sample has two bytes.
 fn turn_wide_columns<T: Turn>(input: &Frame, plane: u32, y: u32, count: u32, x: u32, out: &mut [u8])
     requires wide { sample_bytes input.now.shape ≡ 2 }
-    requires plane { plane < planes input.now.shape.kind }
-    requires inside { y + count ≤ plane_width input.now.shape plane }
-    requires few { count ≤ 128 }
-    requires high { plane_height input.now.shape plane ≤ 65535 }
-    requires whole { length out.old ≡ count * (plane_height input.now.shape plane * sample_bytes input.now.shape) }
+    requires rows { AreRows input.now plane y count }
+    requires whole { length out.old ≡ size_of_rows input.now.shape plane count }
     requires before { HasColumns T.row_of T.column_of input.now plane y count x out.old }
     ensures whole { length out.new ≡ length out.old }
     ensures all { HasColumns T.row_of T.column_of input.now plane y count (plane_height input.now.shape plane) out.new }
@@ -299,13 +282,10 @@ fn turn_wide_columns<T: Turn>(input: &Frame, plane: u32, y: u32, count: u32, x: 
 
 // Makes 16 columns, from x on, of rows of the turned plane.
 fn turn_across<T: Turn>(input: &Frame, plane: u32, y: u32, count: u32, x: u32, out: &mut [u8])
-    requires plane { plane < planes input.now.shape.kind }
-    requires across { y + count ≤ plane_width input.now.shape plane }
+    requires rows { AreRows input.now plane y count }
     requires down { x + 16 ≤ plane_height input.now.shape plane }
     requires blocks { count % 16 ≡ 0 }
-    requires few { count ≤ 128 }
-    requires high { plane_height input.now.shape plane ≤ 65535 }
-    requires whole { length out.old ≡ count * (plane_height input.now.shape plane * sample_bytes input.now.shape) }
+    requires whole { length out.old ≡ size_of_rows input.now.shape plane count }
     requires before { HasColumns T.row_of T.column_of input.now plane y count x out.old }
     ensures whole { length out.new ≡ length out.old }
     ensures more { HasColumns T.row_of T.column_of input.now plane y count (x + 16) out.new }
@@ -322,12 +302,9 @@ fn turn_across<T: Turn>(input: &Frame, plane: u32, y: u32, count: u32, x: u32, o
 
 // Makes rows of the turned plane, but for its last columns, and answers at which column these begin.
 fn turn_blocks<T: Turn>(input: &Frame, plane: u32, y: u32, count: u32, out: &mut [u8]) -> u32
-    requires plane { plane < planes input.now.shape.kind }
-    requires inside { y + count ≤ plane_width input.now.shape plane }
+    requires rows { AreRows input.now plane y count }
     requires blocks { count % 16 ≡ 0 }
-    requires few { count ≤ 128 }
-    requires high { plane_height input.now.shape plane ≤ 65535 }
-    requires whole { length out.old ≡ count * (plane_height input.now.shape plane * sample_bytes input.now.shape) }
+    requires whole { length out.old ≡ size_of_rows input.now.shape plane count }
     ensures whole { length out.new ≡ length out.old }
     ensures inside { result ≤ plane_height input.now.shape plane }
     ensures done { HasColumns T.row_of T.column_of input.now plane y count result out.new }
@@ -341,11 +318,8 @@ fn turn_blocks<T: Turn>(input: &Frame, plane: u32, y: u32, count: u32, out: &mut
 
 // Makes rows of the turned plane from row `y` on, which lie side by side.
 fn turn_rows<T: Turn>(input: &Frame, plane: u32, y: u32, count: u32, out: &mut [u8])
-    requires plane { plane < planes input.now.shape.kind }
-    requires inside { y + count ≤ plane_width input.now.shape plane }
-    requires few { count ≤ 128 }
-    requires high { plane_height input.now.shape plane ≤ 65535 }
-    requires whole { length out.old ≡ count * (plane_height input.now.shape plane * sample_bytes input.now.shape) }
+    requires rows { AreRows input.now plane y count }
+    requires whole { length out.old ≡ size_of_rows input.now.shape plane count }
     ensures whole { length out.new ≡ length out.old }
     ensures rows { HasColumns T.row_of T.column_of input.now plane y count (plane_height input.now.shape plane) out.new }
 {
@@ -378,13 +352,9 @@ fn turned_rows<T: Turn>(
     y: u32,
     count: u32,
 ) -> Result<Vec<u8>, AllocError>
-    requires plane { plane < planes input.now.shape.kind }
-    requires inside { y + count ≤ plane_width input.now.shape plane }
-    requires few { count ≤ 128 }
-    requires high { plane_height input.now.shape plane ≤ 65535 }
+    requires rows { AreRows input.now plane y count }
     requires turns { Turns T.op T.row_of T.column_of input.now }
-    ensures long { IfOk result (λ rows.
-        length rows.items ≡ count * (plane_height input.now.shape plane * sample_bytes input.now.shape)) }
+    ensures long { IfOk result (λ rows. length rows.items ≡ size_of_rows input.now.shape plane count) }
     ensures rows { IfOk result (λ rows. HasRows (space_at T.op input.now.shape (look_in input.now)) plane y count
         (plane_height input.now.shape plane) (row_of_bytes input.now.shape rows.items)) }
 {
@@ -396,7 +366,11 @@ fn turned_rows<T: Turn>(
 }
 
 // The picture turned to a side.
-fn make_turned<T: Turn>(alloc: Global, input: &Frame) -> Result<Frame, AllocError>
+fn make_turned<T: Turn>(
+    alloc: Global,
+    memory: FrameMemory,
+    input: &Frame,
+) -> Result<Frame, AllocError>
     requires accepted { first_fault (space_refusals TurnLeft input.now.shape) ≡ None }
     requires side { space_shape T.op input.now.shape ≡ space_shape TurnLeft input.now.shape }
     requires turns { Turns T.op T.row_of T.column_of input.now }
@@ -404,7 +378,7 @@ fn make_turned<T: Turn>(alloc: Global, input: &Frame) -> Result<Frame, AllocErro
     ensures { IfOk result (λ made. made ≡ space_picture T.op input.now) }
 {
     let shape = on_side(input.shape());
-    let mut made = FrameBuilder::new(alloc, shape)?;
+    let mut made = FrameBuilder::new_in(alloc, memory, shape)?;
     for plane in 0..shape.kind.planes() {
         let height = shape.plane_height(plane);
         let mut y = 0;
@@ -418,20 +392,22 @@ fn make_turned<T: Turn>(alloc: Global, input: &Frame) -> Result<Frame, AllocErro
     made.finish()
 }
 
-/// `TurnLeft`: the picture turned to the left, the right edge at the top. An `Err` is out of memory.
-pub fn turn_left(alloc: Global, input: &Frame) -> Result<Frame, AllocError>
+/// `TurnLeft`: the picture turned to the left, the right edge at the top. It is made in `memory` as far as that has room.
+/// An `Err` is out of memory.
+pub fn turn_left(alloc: Global, memory: FrameMemory, input: &Frame) -> Result<Frame, AllocError>
     requires accepted { first_fault (space_refusals TurnLeft input.now.shape) ≡ None }
     requires legal { IsLegal (space_shape TurnLeft input.now.shape) }
     ensures { IfOk result (λ made. made ≡ space_picture TurnLeft input.now) }
 {
-    make_turned::<ToLeft>(alloc, input)
+    make_turned::<ToLeft>(alloc, memory, input)
 }
 
-/// `TurnRight`: the picture turned to the right, the left edge at the top. An `Err` is out of memory.
-pub fn turn_right(alloc: Global, input: &Frame) -> Result<Frame, AllocError>
+/// `TurnRight`: the picture turned to the right, the left edge at the top. It is made in `memory` as far as that has room.
+/// An `Err` is out of memory.
+pub fn turn_right(alloc: Global, memory: FrameMemory, input: &Frame) -> Result<Frame, AllocError>
     requires accepted { first_fault (space_refusals TurnRight input.now.shape) ≡ None }
     requires legal { IsLegal (space_shape TurnRight input.now.shape) }
     ensures { IfOk result (λ made. made ≡ space_picture TurnRight input.now) }
 {
-    make_turned::<ToRight>(alloc, input)
+    make_turned::<ToRight>(alloc, memory, input)
 }

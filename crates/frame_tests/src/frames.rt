@@ -19,7 +19,7 @@ fn shares_frames(rt: HostRuntime) -> Result<(), Fail> {
         shares.push(frame.window(1, 0, 4095, 4096)?)?;
     }
     assert_eq!(rt; shares.len(), 2_000);
-    assert!(rt; frame.into_vec().is_none());
+    assert!(rt; frame.into_memory().luma.is_none());
     Ok(())
 }
 
@@ -35,8 +35,8 @@ fn gives_back_what_it_was_made_of(rt: HostRuntime) -> Result<(), Fail> {
     let bytes = Vec::from_slice(alloc, &[0, 0, 1, 2, 3, 4, 5, 6])?;
     let frame = Frame::from_vec(bytes, 2, shape)?;
     let share = frame.share()?;
-    assert!(rt; frame.into_vec().is_none());
-    let kept = share.into_vec();
+    assert!(rt; frame.into_memory().luma.is_none());
+    let kept = share.into_memory().luma;
     assert_eq!(rt; kept.map_or(0, |bytes| bytes.len()), 8);
     Ok(())
 }
@@ -54,8 +54,8 @@ fn shows_its_bytes_upside_down(rt: HostRuntime) -> Result<(), Fail> {
     let bytes = Vec::from_slice(alloc, &[0, 1, 2, 3, 4, 5, 6, 7, 8, 9, 10, 11, 12])?;
     let frame = Frame::from_vec(bytes, 1, shape)?;
     let turned = frame.flipped()?.flipped()?.flipped()?;
-    assert!(rt; frame.into_vec().is_none());
-    let kept = turned.into_vec();
+    assert!(rt; frame.into_memory().luma.is_none());
+    let kept = turned.into_memory().luma;
     assert_eq!(rt; kept.map_or(0, |bytes| bytes.len()), 13);
     Ok(())
 }

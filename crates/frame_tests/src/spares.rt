@@ -10,26 +10,23 @@ const GREY: Colour = Colour {
     v: 128,
 };
 
-// A frame of 16 bytes in one piece.
-fn grey(alloc: Global) -> Result<Frame, AllocError> {
-    let shape = Shape {
-        kind: PixelType::Y8,
+fn shape_of(kind: PixelType) -> Shape {
+    Shape {
+        kind,
         bits: 8,
         width: 4,
         height: 4,
-    };
-    Frame::blank(alloc, shape, GREY)
+    }
 }
 
-// A frame with a piece of memory for each plane.
+// A frame of 16 bytes in one piece.
+fn grey(alloc: Global) -> Result<Frame, AllocError> {
+    Frame::blank(alloc, shape_of(PixelType::Y8), GREY)
+}
+
+// A frame with a piece of memory for each plane, of 16, 4 and 4 bytes.
 fn coloured(alloc: Global) -> Result<Frame, AllocError> {
-    let shape = Shape {
-        kind: PixelType::YV12,
-        bits: 8,
-        width: 4,
-        height: 4,
-    };
-    Frame::blank(alloc, shape, GREY)
+    Frame::blank(alloc, shape_of(PixelType::YV12), GREY)
 }
 
 #[test]
@@ -43,21 +40,21 @@ fn keeps_what_nothing_shares(rt: HostRuntime) -> Result<(), Fail> {
     spares.keep(share);
     assert_eq!(rt; spares.len(), 1);
     spares.keep(coloured(alloc)?);
-    assert_eq!(rt; spares.len(), 1);
+    assert_eq!(rt; spares.len(), 4);
     let frames = vec![in alloc; Some(grey(alloc)?), None, Some(grey(alloc)?)]?;
     spares.keep_all(frames);
-    assert_eq!(rt; spares.len(), 3);
+    assert_eq!(rt; spares.len(), 6);
     Ok(())
 }
 
 #[test]
-fn keeps_sixteen_at_most(rt: HostRuntime) -> Result<(), Fail> {
+fn keeps_forty_eight_at_most(rt: HostRuntime) -> Result<(), Fail> {
     let alloc = rt.alloc();
     let mut spares = Spares::new(alloc);
     for _ in 0..20 {
-        spares.keep(grey(alloc)?);
+        spares.keep(coloured(alloc)?);
     }
-    assert_eq!(rt; spares.len(), 16);
+    assert_eq!(rt; spares.len(), 48);
     Ok(())
 }
 
@@ -65,11 +62,32 @@ fn keeps_sixteen_at_most(rt: HostRuntime) -> Result<(), Fail> {
 fn hands_out_what_serves(rt: HostRuntime) -> Result<(), Fail> {
     let alloc = rt.alloc();
     let mut spares = Spares::new(alloc);
-    for (size, serves) in [(17, false), (16, true), (8, true), (7, false)] {
+    for (size, serves) in [(17, false), (16, true), (12, true), (11, false)] {
         spares.keep(grey(alloc)?);
         let kept = spares.len();
         assert_eq!(rt; spares.take(size).is_some(), serves, "for {size}");
         assert_eq!(rt; spares.len() < kept, serves, "for {size}");
     }
+    Ok(())
+}
+
+#[test]
+fn hands_out_planes(rt: HostRuntime) -> Result<(), Fail> {
+    let alloc = rt.alloc();
+    let mut spares = Spares::new(alloc);
+    spares.keep(coloured(alloc)?);
+    let planes = [
+        (PixelType::YV12, 3, None),
+        (PixelType::Y8, 1, None),
+        (PixelType::YV12, 2, Some(4)),
+        (PixelType::YV24, 0, Some(16)),
+        (PixelType::YV12, 1, Some(4)),
+        (PixelType::YV12, 1, None),
+    ];
+    for (kind, plane, size) in planes {
+        let memory = spares.take_plane(shape_of(kind), plane);
+        assert_eq!(rt; memory.map(|bytes| bytes.len()), size, "for plane {plane}");
+    }
+    assert_eq!(rt; spares.len(), 0);
     Ok(())
 }

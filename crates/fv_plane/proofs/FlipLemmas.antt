@@ -4,87 +4,16 @@ use Rattle.std.specs.Prelude.{reverse, not}
 use Rattle.std.proofs.lemmas.List.{append_assoc, reverse-append, reverse-reverse, length-reverse, get_or-reverse, map-append, take-append-drop, take_at, drop_at, length-drop, length-take-le, get_or_past}
 use Rattle.fv_plane.specs.declared.format.Shape.{Shape}
 use Rattle.fv_plane.specs.Format.{planes, plane_width, plane_height}
-use Rattle.fv_plane.specs.Rows.{IsPlane, rows_of, rows_part, width_of, seen, first_stored}
+use Rattle.fv_rows.specs.Rows.{IsPlane, rows_of, rows_part, width_of, seen, first_stored}
 use Rattle.fv_plane.specs.Picture.{Picture, IsPicture}
 use Rattle.fv_plane.specs.Bytes.{row_of_bytes, decoded_rows, chroma_list, frame_of, AreWhole}
 use Rattle.fv_plane.specs.Look.{Look, look_in, upside_down}
 use Rattle.std.proofs.Math.ListN.{get_or-map}
 use Rattle.std.proofs.lemmas.Bool.{cases_lt}
 use Rattle.fv_plane.proofs.BytesLemmas.{whole_none}
-use Rattle.fv_plane.proofs.RowLemmas.{length-rows_of}
-use Rattle.fv_plane.proofs.WindowLemmas.{width-rows_of, plane_listed, get_or-picture_from, IsPicture-picture_from, frame_listed, no_chroma, two_chroma}
-
--- ROWS
-
--- as many rows are seen as there are
-pub length-seen : (upwards : Bool) (rows : List (List ℕ)) → length (seen upwards rows) ≡ length rows
-unfolding seen
-length-seen true rows = length-reverse rows
-length-seen false rows = refl
-
--- rows are seen as they are stored
-pub seen_down : (rows : List (List ℕ)) → seen false rows ≡ rows
-unfolding seen
-seen_down rows = refl
-
--- each row that is seen is one of those that are stored
-pub row-seen : (upwards : Bool) (rows : List (List ℕ)) (y : ℕ) → y < length rows → get_or (seen upwards rows) y [] ≡ get_or rows (first_stored upwards (length rows) y 1) []
-unfolding seen
-row-seen true rows y within = get_or-reverse rows y [] within ∙ ap (λ n. get_or rows n []) (omega arith)
-row-seen false rows y within = refl
-
--- some rows that are seen lie among those that are stored
-pub inside-stored : (upwards : Bool) (height y count : ℕ) → y + count ≤ height → first_stored upwards height y count + count ≤ height
-inside-stored true height y count within = omega arith
-inside-stored false height y count within = within
-
--- rows from the other end are the same rows in the other order
-pub seen_flipped : (upwards : Bool) (rows : List (List ℕ)) → seen (not upwards) rows ≡ reverse (seen upwards rows)
-unfolding seen
-seen_flipped true rows = sym (reverse-reverse rows)
-seen_flipped false rows = refl
-
--- each row of the other order, changed
-map-reverse : (f : List ℕ → List ℕ) (rows : List (List ℕ)) → map f (reverse rows) ≡ reverse (map f rows)
-map-reverse f [] = refl
-map-reverse f (row ∷ rows) =
-    ap (map f) (reverse-append (row ∷ []) rows) ∙ map-append f (reverse rows) (row ∷ [])
-    ∙ ap (λ l. l ++ f row ∷ []) (map-reverse f rows) ∙ sym (reverse-append (f row ∷ []) (map f rows))
-
--- what is in the middle stays there in the other order
-middle-reverse : (above rows below : List (List ℕ)) (y h : ℕ) → length below ≡ y → length rows ≡ h → take h (drop y (reverse (above ++ (rows ++ below)))) ≡ reverse rows
-middle-reverse above rows below y h deep high =
-    let all : reverse (above ++ (rows ++ below)) ≡ reverse below ++ (reverse rows ++ reverse above)
-    = reverse-append above (rows ++ below) ∙ ap (λ l. l ++ reverse above) (reverse-append rows below) ∙ append_assoc (reverse below) (reverse rows) (reverse above) in
-    ap (λ l. take h (drop y l)) all ∙ ap (take h) (drop_at (reverse below) (reverse rows ++ reverse above) y (length-reverse below ∙ deep))
-    ∙ take_at (reverse rows) (reverse above) h (length-reverse rows ∙ high)
-
--- some rows of the other order
-run-reverse : (rows : List (List ℕ)) (y h : ℕ) → y + h ≤ length rows → take h (drop y (reverse rows)) ≡ reverse (take h (drop (length rows - y - h) rows))
-run-reverse rows y h within =
-    let k : ℕ = length rows - y - h in
-    let rest : List (List ℕ) = drop k rows in
-    let whole : take k rows ++ (take h rest ++ drop h rest) ≡ rows = ap (λ l. take k rows ++ l) (take-append-drop h rest) ∙ take-append-drop k rows in
-    ap (λ l. take h (drop y (reverse l))) (sym whole)
-    ∙ middle-reverse (take k rows) (take h rest) (drop h rest) y h (omega (arith, length-drop h rest, length-drop k rows)) (length-take-le h rest (omega (arith, length-drop k rows)))
-
--- a part of the rows that are seen is a part of those that are stored, as it is seen
-pub part-seen : (upwards : Bool) (rows : List (List ℕ)) (x y w h : ℕ) → y + h ≤ length rows
-    → seen upwards (rows_part rows x (first_stored upwards (length rows) y h) w h) ≡ rows_part (seen upwards rows) x y w h
-unfolding seen
-part-seen true rows x y w h within =
-    let cut : List ℕ → List ℕ = λ row. take w (drop x row) in
-    sym (ap (map cut) (run-reverse rows y h within) ∙ map-reverse cut (take h (drop (length rows - y - h) rows)))
-part-seen false rows x y w h within = refl
-
--- the rows that are seen have the width of those that are stored
-pub width-seen : (upwards : Bool) (bytes : List ℕ) (offset stride width height : ℕ) → 0 < height → ((y : ℕ) → y < height → offset + y * stride + width ≤ length bytes)
-    → width_of (seen upwards (rows_of (drop offset bytes) stride width height)) ≡ width
-width-seen upwards bytes offset stride width height some ends =
-    let rows : List (List ℕ) = rows_of (drop offset bytes) stride width height in
-    let high : length rows ≡ height = length-rows_of (drop offset bytes) stride width height in
-    ap length (row-seen upwards rows 0 (omega (arith, high)))
-    ∙ width-rows_of bytes offset stride width height (first_stored upwards (length rows) 0 1) (omega (arith, high, inside-stored upwards (length rows) 0 1 (omega (arith, high)))) ends
+use Rattle.fv_rows.proofs.RowLemmas.{length-rows_of}
+use Rattle.fv_rows.proofs.SeenLemmas.{map-reverse}
+use Rattle.fv_plane.proofs.WindowLemmas.{plane_listed, get_or-picture_from, IsPicture-picture_from, frame_listed, no_chroma, two_chroma}
 
 -- whole rows are whole in the other order
 pub whole-reverse : (shape : Shape) (rows : List (List ℕ)) → AreWhole shape rows → AreWhole shape (reverse rows)
@@ -94,8 +23,6 @@ whole-reverse shape rows are = record {
     | inr past ↦ rw (get_or_past (reverse rows) y [] (omega (arith, length-reverse rows))) ((whole_none shape).whole 0)
   ];
 }
-
--- PICTURES
 
 -- the rows of a plane in the other order are a plane
 IsPlane-reverse : (width height : ℕ) (rows : List (List ℕ)) → IsPlane width height rows → IsPlane width height (reverse rows)

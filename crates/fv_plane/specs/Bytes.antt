@@ -5,7 +5,7 @@ use Rattle.std.specs.Prelude.{List, [], ◌∷◌, length, drop, slice_index, sl
 use Rattle.std.specs.List.{flat_map}
 use Rattle.fv_plane.specs.declared.format.Shape.{Shape}
 use Rattle.fv_plane.specs.Format.{IsLegal, largest_sample, planes, plane_height, plane_bytes, row_bytes, frame_bytes, sample_bytes}
-use Rattle.fv_plane.specs.Rows.{rows_of}
+use Rattle.fv_rows.specs.Rows.{rows_of}
 use Rattle.fv_plane.specs.Picture.{Picture, IsPicture}
 
 -- the bytes of samples of two bytes

@@ -2,13 +2,14 @@
 ghost use Rattle.std.specs.Prelude.{◌≡◌, ◌<◌, ◌≤◌, ◌+◌, ◌*◌, IfOk, OnOk, OnErr};
 ghost use Rattle.std.specs.Prelude.{[], ◌^◌, map, length, replicate, slice_index_or, slice_set};
 ghost use Rattle.fv_plane.specs.Format.{IsLegal, HasSamePlane, planes, plane_width, plane_height, row_bytes};
-ghost use Rattle.fv_plane.specs.Rows.{IsPlaneLike, width_of, bytes_put};
+ghost use Rattle.fv_rows.specs.Rows.{IsPlaneLike, width_of, bytes_put};
 ghost use Rattle.fv_plane.specs.Picture.{IsPicture, with_row, with_rows, blank};
 ghost use Rattle.fv_plane.specs.Picture.{plain_plane as of_one_value, plain_chroma as of_one_colour};
 ghost use Rattle.fv_plane.specs.Bytes.{row_of_bytes, rows_of_bytes, decoded_rows, chroma_list, plane_list, plane_of};
 ghost use Rattle.fv_plane.specs.Bytes.{wide_bytes, FitBytes, AreWhole, AllWhole};
 
-use crate::{Colour, Frame, Plane, PlaneBuilder, Shape, write_samples};
+use crate::{Colour, Frame, FrameMemory, Shape, write_samples};
+use fv_rows::{Plane, PlaneBuilder};
 use std::alloc::{AllocError, Global};
 use std::marker::Model;
 
@@ -45,11 +46,16 @@ fn plain_row(alloc: Global, width: usize, value: u16) -> Result<Vec<u8>, AllocEr
 }
 
 // A plane all of whose rows are this one.
-fn repeated(alloc: Global, height: usize, row: &[u8]) -> Result<PlaneBuilder, AllocError>
+fn repeated(
+    alloc: Global,
+    memory: Option<Vec<u8>>,
+    height: usize,
+    row: &[u8],
+) -> Result<PlaneBuilder, AllocError>
     requires { height * length row.now < 2 ^ 32 }
     ensures { IfOk result (λ plane. plane ≡ replicate height row.now) }
 {
-    let mut made = PlaneBuilder::new(alloc, row.len(), height, 0)?;
+    let mut made = PlaneBuilder::new(alloc, memory, row.len(), height, 0)?;
     for y in 0..height {
         made.put_rows(y, 1, row);
     }
@@ -59,6 +65,7 @@ fn repeated(alloc: Global, height: usize, row: &[u8]) -> Result<PlaneBuilder, Al
 // A plane of one value.
 fn plain_plane(
     alloc: Global,
+    memory: Option<Vec<u8>>,
     shape: Shape,
     plane: u32,
     sample: u8,
@@ -69,16 +76,24 @@ fn plain_plane(
 {
     let height = shape.plane_height(plane) as usize;
     if shape.bits == 8 || sample == 0 {
-        return PlaneBuilder::new(alloc, shape.row_bytes(plane) as usize, height, sample);
+        return PlaneBuilder::new(
+            alloc,
+            memory,
+            shape.row_bytes(plane) as usize,
+            height,
+            sample,
+        );
     }
     let value = sample as u16 * shape.scale();
     let row = plain_row(alloc, shape.plane_width(plane) as usize, value)?;
-    repeated(alloc, height, row.as_slice())
+    repeated(alloc, memory, height, row.as_slice())
 }
 
 // The chroma planes of one colour.
 fn plain_chroma(
     alloc: Global,
+    memory_of_u: Option<Vec<u8>>,
+    memory_of_v: Option<Vec<u8>>,
     shape: Shape,
     colour: Colour,
 ) -> Result<Option<(PlaneBuilder, PlaneBuilder)>, AllocError>
@@ -89,8 +104,8 @@ fn plain_chroma(
     if shape.kind.planes() == 1 {
         return Ok(None);
     }
-    let u = plain_plane(alloc, shape, 1, colour.u)?;
-    let v = plain_plane(alloc, shape, 2, colour.v)?;
+    let u = plain_plane(alloc, memory_of_u, shape, 1, colour.u)?;
+    let v = plain_plane(alloc, memory_of_v, shape, 2, colour.v)?;
     Ok(Some((u, v)))
 }
 
@@ -156,11 +171,25 @@ impl FrameBuilder {
         ensures made { IfOk result (λ builder. builder ≡ blank shape (record { y = 0; u = 0; v = 0 })) }
         ensures sizes { IfOk result (λ builder. IsPicture builder) }
     {
-        FrameBuilder::filled(alloc, shape, Colour { y: 0, u: 0, v: 0 })
+        FrameBuilder::new_in(alloc, FrameMemory::none(), shape)
+    }
+
+    /// A picture whose samples are 0, in this memory as far as it has room. An `Err` is out of memory.
+    pub fn new_in(
+        alloc: Global,
+        memory: FrameMemory,
+        shape: Shape,
+    ) -> Result<FrameBuilder, AllocError>
+        requires { IsLegal shape }
+        ensures made { IfOk result (λ builder. builder ≡ blank shape (record { y = 0; u = 0; v = 0 })) }
+        ensures sizes { IfOk result (λ builder. IsPicture builder) }
+    {
+        FrameBuilder::filled(alloc, memory, shape, Colour { y: 0, u: 0, v: 0 })
     }
 
     pub(crate) fn filled(
         alloc: Global,
+        memory: FrameMemory,
         shape: Shape,
         colour: Colour,
     ) -> Result<FrameBuilder, AllocError>
@@ -168,11 +197,12 @@ impl FrameBuilder {
         ensures made { IfOk result (λ builder. builder ≡ blank shape colour) }
         ensures sizes { IfOk result (λ builder. IsPicture builder) }
     {
+        let FrameMemory { luma, u, v } = memory;
         Ok(FrameBuilder {
             alloc,
             shape,
-            luma: plain_plane(alloc, shape, 0, colour.y)?,
-            chroma: plain_chroma(alloc, shape, colour)?,
+            luma: plain_plane(alloc, luma, shape, 0, colour.y)?,
+            chroma: plain_chroma(alloc, u, v, shape, colour)?,
         })
     }
 

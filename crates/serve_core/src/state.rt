@@ -25,7 +25,7 @@ use crate::answers::{Admitted, Ask, Finished};
 use crate::claims::{claimant, close, newest_of};
 use clip_graph::Graph;
 use frame_cache::FrameCache;
-use fv_plane::{Frame, Key};
+use fv_plane::{Frame, Key, Shape};
 use fv_spares::Spares;
 use inst_table::{Entered, Held, InstTable, Lease};
 use serve_events::{Event, WindowStop};
@@ -439,6 +439,13 @@ impl<I: Held> Core<I> {
             stop,
             events,
         }
+    }
+
+    /// Hands out memory for a plane of a frame of this shape, if there is some. No contract sees that memory.
+    pub fn take_memory(&mut self, shape: Shape, plane: u32) -> Option<Vec<u8>>
+        ensures { self.new ≡ self.old }
+    {
+        self.spares.take_plane(shape, plane)
     }
 
     /// Keeps the memory of frames that are no longer needed for frames to come, where nothing else shares it. No contract

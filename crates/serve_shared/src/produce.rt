@@ -15,7 +15,7 @@ use crate::gate::{Gate, GatePoint};
 use crate::steps::{Entry, Found};
 use crate::turns::{ask_turn, enter_turn, fail_turn, give_back_turn, leave_turn, publish_turn};
 use flt_soft::Scratch;
-use fv_plane::{Frame, Key};
+use fv_plane::{Frame, FrameMemory, Key};
 use inst_table::{Held, Lease};
 use serve_core::Core;
 use serve_events::WindowStop;
@@ -24,14 +24,19 @@ use std::alloc::Global;
 use std::sync::Wait;
 use turn_lock::{LockSeat, TurnLock};
 
-// Asks for a frame until no other worker has the claim on it. `None` says that the worker has the claim now.
+// Asks for a frame until no other worker has the claim on it. `None` says that the worker has the claim now; then there
+// may be memory for the frame.
 fn claim<R: Wait, I: Held>(
     rt: &R,
     lock: &TurnLock<Core<I>>,
     seat: LockSeat<Core<I>>,
     worker: &Worker,
     key: Key,
-) -> (LockSeat<Core<I>>, Result<Option<Frame>, WindowStop>)
+) -> (
+    LockSeat<Core<I>>,
+    Result<Option<Frame>, WindowStop>,
+    FrameMemory,
+)
     requires lock { seat.lock ≡ lock.now }
     requires work { AtWork worker.now seat }
     requires key { IsKey worker.now.plan key }
@@ -40,13 +45,13 @@ fn claim<R: Wait, I: Held>(
 {
     let mut seat = seat;
     for _ in rt.forever() {
-        let (later, found) = ask_turn(rt, lock, seat, worker, key);
+        let (later, found, memory) = ask_turn(rt, lock, seat, worker, key);
         seat = later;
         match found {
-            Ok(Found::Hit(frame)) => return (seat, Ok(Some(frame))),
-            Ok(Found::Claimed) => return (seat, Ok(None)),
+            Ok(Found::Hit(frame)) => return (seat, Ok(Some(frame)), memory),
+            Ok(Found::Claimed) => return (seat, Ok(None), memory),
             Ok(Found::Taken { heard }) => lock.bell().wait(rt, heard),
-            Err(stop) => return (seat, Err(stop)),
+            Err(stop) => return (seat, Err(stop), memory),
         }
     }
     unreachable!()
@@ -84,6 +89,7 @@ fn acquire<R: Wait, I: Held>(
 fn lend<R: Wait, I: Works>(
     rt: &R,
     alloc: Global,
+    memory: FrameMemory,
     lock: &TurnLock<Core<I>>,
     seat: LockSeat<Core<I>>,
     worker: &Worker,
@@ -102,7 +108,10 @@ fn lend<R: Wait, I: Works>(
     ensures { Lends I.holds I.feed I.faults worker.now seat key result.1 result.0 }
 {
     let mut lease = lease;
-    match lease.value().make(alloc, worker.graph(), key, frames) {
+    match lease
+        .value()
+        .make(alloc, memory, worker.graph(), key, frames)
+    {
         Ok(frame) => (leave_turn(rt, lock, seat, worker, lease), Ok(frame)),
         Err(stop) => (
             give_back_turn(rt, lock, seat, worker, lease, stop),
@@ -115,6 +124,7 @@ fn lend<R: Wait, I: Works>(
 fn make_plain<R: Wait, I: Works>(
     rt: &R,
     alloc: Global,
+    memory: FrameMemory,
     lock: &TurnLock<Core<I>>,
     seat: LockSeat<Core<I>>,
     worker: &Worker,
@@ -132,7 +142,7 @@ fn make_plain<R: Wait, I: Works>(
         StopsWithin worker.now (CutMake worker.now.plan worker.now.number key.node) stop seat result.0) }
 {
     let mut scratch = Scratch::new(alloc);
-    match filtered(alloc, worker.graph(), key, frames, &mut scratch) {
+    match filtered(alloc, memory, worker.graph(), key, frames, &mut scratch) {
         Ok(frame) => (seat, Ok(frame)),
         Err(stop) => (fail_turn(rt, lock, seat, worker), Err(stop)),
     }
@@ -142,6 +152,7 @@ fn make_plain<R: Wait, I: Works>(
 fn make<R: Wait, I: Works>(
     rt: &R,
     alloc: Global,
+    memory: FrameMemory,
     lock: &TurnLock<Core<I>>,
     seat: LockSeat<Core<I>>,
     worker: &Worker,
@@ -159,11 +170,11 @@ fn make<R: Wait, I: Works>(
         StopsWithin worker.now (CutMake worker.now.plan worker.now.number key.node) stop seat result.0) }
 {
     if worker.graph().node(key.node).mode == 1 {
-        return make_plain(rt, alloc, lock, seat, worker, key, frames);
+        return make_plain(rt, alloc, memory, lock, seat, worker, key, frames);
     }
     let (seat, acquired) = acquire(rt, lock, seat, worker, key);
     match acquired {
-        Ok(lease) => lend(rt, alloc, lock, seat, worker, key, frames, lease),
+        Ok(lease) => lend(rt, alloc, memory, lock, seat, worker, key, frames, lease),
         Err(stop) => (seat, Err(stop)),
     }
 }
@@ -195,6 +206,7 @@ fn publish<R: Wait, I: Works>(
 fn finish<R: Wait, I: Works, G: Gate>(
     rt: &R,
     alloc: Global,
+    memory: FrameMemory,
     lock: &TurnLock<Core<I>>,
     seat: LockSeat<Core<I>>,
     worker: &Worker,
@@ -213,7 +225,7 @@ fn finish<R: Wait, I: Works, G: Gate>(
     ensures err { IfErr result.1 (λ stop.
         StopsWithin worker.now (CutMake worker.now.plan worker.now.number key.node) stop seat result.0) }
 {
-    let (seat, made) = make(rt, alloc, lock, seat, worker, key, frames);
+    let (seat, made) = make(rt, alloc, memory, lock, seat, worker, key, frames);
     let frame = match made {
         Ok(frame) => frame,
         Err(stop) => return (seat, Err(stop)),
@@ -246,7 +258,7 @@ pub(crate) fn produce<R: Wait, I: Works, G: Gate>(
     ensures err { IfErr result.1 (λ stop.
         StopsWithin worker.now (CutShort worker.now.plan worker.now.number key) stop seat result.0) }
 {
-    let (seat, claimed) = claim(rt, lock, seat, worker, key);
+    let (seat, claimed, memory) = claim(rt, lock, seat, worker, key);
     match claimed {
         Ok(Some(frame)) => return (seat, Ok(frame)),
         Ok(None) => {}
@@ -255,7 +267,7 @@ pub(crate) fn produce<R: Wait, I: Works, G: Gate>(
     gate.at(worker.number(), GatePoint::Claimed(key));
     let (seat, gathered) = gather(rt, alloc, lock, seat, worker, gate, key);
     match gathered {
-        Ok(frames) => finish(rt, alloc, lock, seat, worker, gate, key, &frames),
+        Ok(frames) => finish(rt, alloc, memory, lock, seat, worker, gate, key, &frames),
         Err(stop) => (seat, Err(stop)),
     }
 }

@@ -10,10 +10,12 @@ ghost use Rattle.serve_core.specs.Holds.{claims_at, holds_none, IsThere};
 ghost use Rattle.serve_core.specs.Sources.{shape_at};
 ghost use Rattle.serve_shared.specs.Steps.{IsRunning, closed, RunsOut, Refuses, Finds, Enters, Takes};
 
-use fv_plane::{Frame, Key};
+use clip_graph::Graph;
+use fv_plane::{Frame, FrameMemory, Key};
 use inst_table::{Held, Lease};
 use serve_core::{Admitted, Ask, Core};
 use serve_events::WindowStop;
+use serve_worker::memory_for;
 use turn_lock::Bell;
 
 /// What a worker learns that asks for a frame.
@@ -69,8 +71,8 @@ fn run_out<I: Held>(core: &mut Core<I>, bell: &Bell, number: u32) -> WindowStop
     WindowStop::Memory
 }
 
-/// Asks for a frame. A worker that gets no answer has closed its work.
-pub(crate) fn ask<I: Held>(
+// Asks for a frame. A worker that gets no answer has closed its work.
+fn find<I: Held>(
     core: &mut Core<I>,
     bell: &Bell,
     number: u32,
@@ -95,6 +97,44 @@ pub(crate) fn ask<I: Held>(
         }
         Err(_) => Err(run_out(core, bell, number)),
     }
+}
+
+// Memory for a frame that the worker has the claim on now.
+fn memory_found<I: Held>(
+    core: &mut Core<I>,
+    graph: &Graph,
+    key: Key,
+    found: &Result<Found, WindowStop>,
+) -> FrameMemory
+    requires { IsKey graph.now key }
+    ensures { core.new ≡ core.old }
+{
+    match found {
+        Ok(Found::Claimed) => memory_for(core, graph, key),
+        _ => FrameMemory::none(),
+    }
+}
+
+/// Asks for a frame, and takes memory for it where the worker has the claim on it now. A worker that gets no answer has
+/// closed its work.
+pub(crate) fn ask<I: Held>(
+    core: &mut Core<I>,
+    bell: &Bell,
+    number: u32,
+    graph: &Graph,
+    key: Key,
+) -> (Result<Found, WindowStop>, FrameMemory)
+    requires worker { IsRunning number core.old }
+    requires plan { graph.now ≡ core.old.fixed.plan }
+    requires key { IsKey core.old.fixed.plan key }
+    requires open { at_key key core.old.claims ≡ Some number → ⊥ }
+    ensures ok { IfOk result.0 (λ found. Finds core.old number key found core.new) }
+    ensures err { IfErr result.0 (λ stop. Refuses number stop core.old core.new) }
+    ensures stopped { core.old.stop ≡ first_stop core.old.journal }
+{
+    let found = find(core, bell, number, key);
+    let memory = memory_found(core, graph, key, &found);
+    (found, memory)
 }
 
 /// Asks for the worker's instance of a node. A worker that gets no answer has closed its work.

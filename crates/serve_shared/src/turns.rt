@@ -13,7 +13,7 @@ ghost use Rattle.serve_shared.specs.Shares.{StopsNow};
 ghost use Rattle.serve_shared.specs.Turns.{TurnAsks, TurnEnters, TurnTakes, TurnPublishes, IsLent, HasStopped};
 
 use crate::steps::{Entry, Found, ask, enter, fail, publish, take};
-use fv_plane::{Frame, Key};
+use fv_plane::{Frame, FrameMemory, Key};
 use inst_table::{Held, Lease};
 use serve_core::Core;
 use serve_events::WindowStop;
@@ -28,14 +28,14 @@ fn wake_stopped<T>(bell: &Bell, found: &Result<T, WindowStop>) {
     }
 }
 
-/// Asks for a frame.
+/// Asks for a frame, and takes memory for it where the worker has the claim on it now.
 pub(crate) fn ask_turn<R: Wait, I: Held>(
     rt: &R,
     lock: &TurnLock<Core<I>>,
     seat: LockSeat<Core<I>>,
     worker: &Worker,
     key: Key,
-) -> (LockSeat<Core<I>>, Result<Found, WindowStop>)
+) -> (LockSeat<Core<I>>, Result<Found, WindowStop>, FrameMemory)
     requires lock { seat.lock ≡ lock.now }
     requires work { AtWork worker.now seat }
     requires key { IsKey worker.now.plan key }
@@ -45,10 +45,10 @@ pub(crate) fn ask_turn<R: Wait, I: Held>(
     let (mut core, turn) = lock.enter(rt, seat);
     // Called for what its contract says.
     core.account();
-    let found = ask(&mut core, lock.bell(), worker.number(), key);
+    let (found, memory) = ask(&mut core, lock.bell(), worker.number(), worker.graph(), key);
     let seat = lock.leave(turn, core);
     wake_stopped(lock.bell(), &found);
-    (seat, found)
+    (seat, found, memory)
 }
 
 /// Asks for the worker's instance of a claim's node.

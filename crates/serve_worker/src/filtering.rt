@@ -10,13 +10,14 @@ ghost use Rattle.serve_worker.specs.Works.{IsMade};
 use clip_frames::make_frame;
 use clip_graph::Graph;
 use flt_soft::Scratch;
-use fv_plane::{Frame, Key};
+use fv_plane::{Frame, FrameMemory, Key};
 use serve_events::WindowStop;
 use std::alloc::{AllocError, Global};
 
-/// The frame that a filter makes of the frames of its inputs.
+/// The frame that a filter makes of the frames of its inputs, in `memory` as far as that has room.
 pub fn filtered(
     alloc: Global,
+    memory: FrameMemory,
     graph: &Graph,
     key: Key,
     inputs: &[Frame],
@@ -28,7 +29,7 @@ pub fn filtered(
     ensures made { IfOk result (λ frame. (own : Option (List Picture)) → IsMade graph.now key own inputs.now frame) }
     ensures stop { IfErr result (λ stop. stop ≡ WindowStop.Memory) }
 {
-    match make_frame(alloc, graph, key, inputs, scratch) {
+    match make_frame(alloc, memory, graph, key, inputs, scratch) {
         Ok(frame) => {
             // Called for what its contract says.
             frame.shape();

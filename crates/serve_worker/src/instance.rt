@@ -17,7 +17,7 @@ use crate::works::Works;
 use clip_graph::Graph;
 use flt_soft::Scratch;
 use fv_io::Source;
-use fv_plane::{Frame, Key};
+use fv_plane::{Frame, FrameMemory, Key};
 use fv_spares::Spares;
 use inst_table::Held;
 use seq_source::{SeqFault, SeqSource};
@@ -58,6 +58,7 @@ impl<S: Source> Works for Instance<S> {
     fn make(
         &mut self,
         alloc: Global,
+        memory: FrameMemory,
         graph: &Graph,
         key: Key,
         inputs: &[Frame],
@@ -66,9 +67,9 @@ impl<S: Source> Works for Instance<S> {
         match self {
             Instance::Plain => {
                 let mut scratch = Scratch::new(alloc);
-                filtered(alloc, graph, key, inputs, &mut scratch)
+                filtered(alloc, memory, graph, key, inputs, &mut scratch)
             }
-            Instance::Scratch(scratch) => filtered(alloc, graph, key, inputs, scratch),
+            Instance::Scratch(scratch) => filtered(alloc, memory, graph, key, inputs, scratch),
             Instance::Source(source) => read(source, key),
         }
     }

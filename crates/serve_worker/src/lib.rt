@@ -8,6 +8,7 @@ mod alone;
 mod filtering;
 mod furnishing;
 mod instance;
+mod memory;
 mod produce;
 mod works;
 
@@ -16,4 +17,5 @@ pub use clip_frames::input_at;
 pub use filtering::filtered;
 pub use furnishing::furnish;
 pub use instance::Instance;
+pub use memory::memory_for;
 pub use works::Works;

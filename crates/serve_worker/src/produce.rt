@@ -14,11 +14,12 @@ ghost use Rattle.serve_worker.specs.Alone.{Alone, AllFrom};
 ghost use Rattle.serve_worker.specs.Made.{Returned, Made, Unmade, Published, Produced, Gathered, Stopped};
 
 use crate::filtering::filtered;
+use crate::memory::memory_for;
 use crate::works::Works;
 use clip_frames::input_at;
 use clip_graph::Graph;
 use flt_soft::Scratch;
-use fv_plane::{Frame, Key};
+use fv_plane::{Frame, FrameMemory, Key};
 use inst_table::Lease;
 use serve_core::{Admitted, Ask, Core};
 use serve_events::WindowStop;
@@ -27,6 +28,7 @@ use std::alloc::Global;
 // Works with an instance that is out, and gives it back.
 fn lend<I: Works>(
     alloc: Global,
+    memory: FrameMemory,
     core: &mut Core<I>,
     lease: Lease<I>,
     graph: &Graph,
@@ -43,14 +45,15 @@ fn lend<I: Works>(
     ensures { Returned I.holds I.feed I.faults I.ends graph.now key frames.now lease core.old result core.new }
 {
     let mut lease = lease;
-    let made = lease.value().make(alloc, graph, key, frames);
+    let made = lease.value().make(alloc, memory, graph, key, frames);
     core.leave(0, lease);
     made
 }
 
-// The frame of a key, from those of its inputs.
-fn make<I: Works>(
+// The frame of a key, from those of its inputs, in `memory` as far as that has room.
+fn make_in<I: Works>(
     alloc: Global,
+    memory: FrameMemory,
     core: &mut Core<I>,
     graph: &Graph,
     key: Key,
@@ -66,14 +69,34 @@ fn make<I: Works>(
 {
     if graph.node(key.node).mode == 1 {
         let mut scratch = Scratch::new(alloc);
-        return filtered(alloc, graph, key, frames, &mut scratch);
+        return filtered(alloc, memory, graph, key, frames, &mut scratch);
     }
     match core.enter(0, key.node) {
-        Ok(Admitted::Leased(lease)) => lend(alloc, core, lease, graph, key, frames),
+        Ok(Admitted::Leased(lease)) => lend(alloc, memory, core, lease, graph, key, frames),
         Ok(Admitted::Busy { holder: _ }) => unreachable!(),
         Ok(Admitted::Stopped(_)) => unreachable!(),
         Err(_) => Err(WindowStop::Memory),
     }
+}
+
+// The frame of a key, from those of its inputs, in spare memory where there is some.
+fn make<I: Works>(
+    alloc: Global,
+    core: &mut Core<I>,
+    graph: &Graph,
+    key: Key,
+    frames: &[Frame],
+) -> Result<Frame, WindowStop>
+    requires alone { Alone graph.now core.old }
+    requires key { IsKey graph.now key }
+    requires claim { claims_at 0 key.node core.old.claims ≡ true }
+    requires shapes { AreOfKeys graph.now (input_keys graph.now key) frames.now }
+    ensures ok { IfOk result (λ frame.
+        Made I.holds I.feed I.faults I.ends graph.now core.old key frames.now frame core.new) }
+    ensures err { IfErr result (λ stop. Unmade I.holds I.feed I.faults I.ends graph.now core.old key stop core.new) }
+{
+    let memory = memory_for(core, graph, key);
+    make_in(alloc, memory, core, graph, key, frames)
 }
 
 // Makes and publishes a claimed key.

@@ -7,18 +7,20 @@ ghost use Rattle.serve_core.specs.Sources.{opened_at};
 ghost use Rattle.serve_worker.specs.Works.{IsMade, MakeStops};
 
 use clip_graph::Graph;
-use fv_plane::{Frame, Key};
+use fv_plane::{Frame, FrameMemory, Key};
 use inst_table::Held;
 use serve_events::WindowStop;
 use std::alloc::Global;
 
 /// An instance of a node at work.
 pub trait Works: Held {
-    /// The frame of a key, from the frames that it is made of. A source reads it. An `Err` says why there is none; the
-    /// instance can be asked again. No fault is counted but with `Read`.
+    /// The frame of a key, from the frames that it is made of. A filter makes it in `memory` as far as that has room, and a
+    /// source reads it into memory of its own. An `Err` says why there is none; the instance can be asked again. No fault
+    /// is counted but with `Read`.
     fn make(
         &mut self,
         alloc: Global,
+        memory: FrameMemory,
         graph: &Graph,
         key: Key,
         inputs: &[Frame],

@@ -23,14 +23,14 @@ pub fill_samples-requires-clause-whole : goal.fill_samples-requires-clause-whole
 fill_samples-requires-clause-whole g c =
     let op = g.F.RowFilter.op c.args.filter.now in
     let shape = c.args.input.now.shape in
-    c.requires.samples ∙ wide_row (space_shape op shape) c.args.plane (wide_kept (space_shape op shape) shape c.requires.bits (more_bits shape c.shape.result c.shape.ensures.shape c.if-shape-eq8.false))
+    c.requires.wide ∙ wide_row (space_shape op shape) c.args.plane (wide_kept (space_shape op shape) shape c.requires.bits (more_bits shape c.shape.result c.shape.ensures.shape c.if-shape-eq8.false))
 
 pub write_samples-requires : goal.write_samples-requires
 write_samples-requires g c =
     let op = g.F.RowFilter.op c.args.filter.now in
     let shape = c.args.input.now.shape in
     c.requires.whole ∙ wide_row_bytes (space_shape op shape) c.args.plane (wide_kept (space_shape op shape) shape c.requires.bits (more_bits shape c.shape.result c.shape.ensures.shape c.if-shape-eq8.false))
-    ∙ ap (λ n. n * 2) (sym (c.fill_samples.auto.out ∙ c.requires.samples))
+    ∙ ap (λ n. n * 2) (sym (c.fill_samples.auto.out ∙ c.requires.wide))
 
 pub returns-then-shape-eq8 : goal.returns-then-shape-eq8
 returns-then-shape-eq8 g c =

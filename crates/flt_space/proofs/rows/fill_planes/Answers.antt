@@ -40,24 +40,16 @@ loop-plane-preserved-then-keeps_plane g c =
     (omega (arith, there, ap (λ (s : Shape). planes s.kind) same)) (omega (arith, inside, ap (λ (s : Shape). plane_height s c.loop-plane.plane) same))
     (sym (ap (λ (s : Shape). plane_width s c.loop-plane.plane) same)) (λ x. sym (kept_samples filter input.shape c.loop-plane.plane keeps (look_in input) x z))) there
 
-pub put_row_of-requires-clause-bits : goal.put_row_of-requires-clause-bits
-put_row_of-requires-clause-bits g c = rw (← c.requires.shape) c.requires.bits
-
-pub put_row_of-requires-clause-plane : goal.put_row_of-requires-clause-plane
-put_row_of-requires-clause-plane g c =
+pub put_row_of-requires-clause-row : goal.put_row_of-requires-clause-row
+put_row_of-requires-clause-row g c =
     let there : c.loop-plane.plane < planes c.args.shape.kind = search rules in
-    rw (← c.requires.shape) there
-
-pub put_row_of-requires-clause-inside : goal.put_row_of-requires-clause-inside
-put_row_of-requires-clause-inside g c =
     let inside : c.loop-y.y < plane_height c.args.shape c.loop-plane.plane = search rules in
-    rw (← c.requires.shape) inside
-
-pub put_row_of-requires-clause-samples : goal.put_row_of-requires-clause-samples
-put_row_of-requires-clause-samples g c = rw (← c.requires.shape) c.loop-y.invariant.samples
-
-pub put_row_of-requires-clause-whole : goal.put_row_of-requires-clause-whole
-put_row_of-requires-clause-whole g c = rw (← c.requires.shape) c.loop-y.invariant.row
+    record {
+      row = record { accepted = c.requires.accepted; changed = search rules; plane = rw (← c.requires.shape) there; inside = rw (← c.requires.shape) inside };
+      bits = rw (← c.requires.shape) c.requires.bits;
+      wide = rw (← c.requires.shape) c.loop-y.invariant.samples;
+      whole = rw (← c.requires.shape) c.loop-y.invariant.row;
+    }
 
 pub put_row_of-requires-clause-made : goal.put_row_of-requires-clause-made
 put_row_of-requires-clause-made g c = c.loop-y.invariant.filled.same ∙ c.requires.shape

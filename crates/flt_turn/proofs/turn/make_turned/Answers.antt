@@ -40,11 +40,16 @@ loop-y-preserved g c =
           (search rules) (search rules),
     )
 
-pub turned_rows-requires-clause-plane : goal.turned_rows-requires-clause-plane
-turned_rows-requires-clause-plane g c =
+pub turned_rows-requires-clause-rows : goal.turned_rows-requires-clause-rows
+turned_rows-requires-clause-rows g c =
     let is : c.on_side-shape.result ≡ space_shape TurnLeft c.args.input.now.shape = c.on_side-shape.ensures ∙ ap (space_shape TurnLeft) c.shape.ensures.shape in
     let there : c.loop-plane.plane < planes c.on_side-shape.result.kind = search rules in
-    omega (arith, there, ap (λ (s : Shape). planes s.kind) is)
+    record {
+      plane = omega (arith, there, ap (λ (s : Shape). planes s.kind) is);
+      inside = search rules;
+      few = search rules;
+      high = search rules;
+    }
 
 pub put_rows-requires-clause-plane : goal.put_rows-requires-clause-plane
 put_rows-requires-clause-plane g c =

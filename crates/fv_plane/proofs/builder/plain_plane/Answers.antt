@@ -4,7 +4,7 @@ use Rattle.std.proofs.lemmas.List.{length-replicate}
 use Rattle.std.proofs.lemmas.Bool.{eqb-false}
 use Rattle.fv_plane.specs.Format.{plane_width, plane_height, row_bytes, scale}
 use Rattle.fv_plane.specs.Bytes.{bytes_of_row, row_of_bytes, decoded_rows, wide_bytes, AreWhole}
-use Rattle.fv_plane.proofs.PictureLemmas.{bounded_row}
+use Rattle.fv_plane.proofs.PictureLemmas.{bounded_row, scaled_small}
 use Rattle.fv_plane.proofs.CallerLemmas.{bytes_of_wide}
 use Rattle.fv_plane.proofs.FrameLemmas.{plane_small}
 use Rattle.fv_plane.proofs.BytesLemmas.{plain_row-bytes, decoded-replicate, whole-replicate, bytes-row_of_bytes, row-bytes_of_row, length-bytes_of_row}
@@ -13,6 +13,11 @@ use Rattle.fv_plane.proofs.builder.plain_plane.Goals.{After-drop-row}
 
 pub new-requires : goal.new-requires
 new-requires c = rw (c.plane_height-height.ensures, c.row_bytes.ensures) (omega (arith, plane_small c.args.shape c.args.plane c.requires))
+
+pub overflow_mul-value : goal.overflow_mul-value
+overflow_mul-value c = record {
+  fits = rw c.scale.ensures (omega (arith, scaled_small c.args.shape c.args.sample c.requires.depth (omega arith)));
+}
 
 pub returns-then-shape-eq8-clause-shown : goal.returns-then-shape-eq8-clause-shown
 returns-then-shape-eq8-clause-shown c =

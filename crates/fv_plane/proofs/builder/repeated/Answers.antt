@@ -1,8 +1,8 @@
 use Rattle.std.proofs.Common.{◌≡◌, ◌∙◌, ℕ, [], length, set, replicate, arith, sym, subst, inl, inr}
 use Rattle.std.proofs.lemmas.List.{ext_get_or, length-replicate, get_or-replicate, get_or-set_same, get_or-set_other}
 use Rattle.std.proofs.lemmas.Bool.{cases_eq}
-use Rattle.fv_plane.specs.Rows.{IsPlane}
-use Rattle.fv_plane.proofs.RowLemmas.{one_put, IsPlane-set, IsPlane-replicate}
+use Rattle.fv_rows.specs.Rows.{IsPlane}
+use Rattle.fv_rows.proofs.RowLemmas.{one_put, IsPlane-set, IsPlane-replicate}
 use Rattle.fv_plane.proofs.builder.repeated.Goals as goal
 
 pub loop-y-init : goal.loop-y-init

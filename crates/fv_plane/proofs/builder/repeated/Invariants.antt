@@ -1,5 +1,5 @@
 use Rattle.std.proofs.Common.{◌≡◌, ℕ, ◌<◌, [], length, get_or}
-use Rattle.fv_plane.specs.Rows.{IsPlane}
+use Rattle.fv_rows.specs.Rows.{IsPlane}
 use Rattle.fv_plane.proofs.builder.repeated.Given as goal
 
 abbrev pub invariant-loop-y : goal.invariant-loop-y

@@ -13,4 +13,4 @@ returns c =
     let input = c.args.input.now in
     let grey : c.fill.new.self ≡ replicate (length c.args.out.now) (128 * scale input.shape) = rw c.requires.narrow (search rules) in
     made_row Greyscale input c.args.plane c.args.y c.fill.new.self (search rules)
-    (λ x within. rw grey (get_or-replicate (length c.args.out.now) x (128 * scale input.shape) 0 (search rules)) ∙ sym (second_of (c.args.plane == 0) (look_in input c.args.plane x c.args.y) (128 * scale input.shape) c.requires.changed))
+    (λ x within. rw grey (get_or-replicate (length c.args.out.now) x (128 * scale input.shape) 0 (search rules)) ∙ sym (second_of (c.args.plane == 0) (look_in input c.args.plane x c.args.y) (128 * scale input.shape) c.requires.row.changed))

@@ -16,4 +16,4 @@ returns c =
     let grey : c.fill.new.self ≡ replicate (length c.args.out.now) (128 * c.scale.result) = search rules in
     made_row Greyscale input c.args.plane c.args.y c.fill.new.self (search rules)
     (λ x within. rw grey (get_or-replicate (length c.args.out.now) x (128 * c.scale.result) 0 (search rules)) ∙ value
-    ∙ sym (second_of (c.args.plane == 0) (look_in input c.args.plane x c.args.y) (128 * scale input.shape) c.requires.changed))
+    ∙ sym (second_of (c.args.plane == 0) (look_in input c.args.plane x c.args.y) (128 * scale input.shape) c.requires.row.changed))

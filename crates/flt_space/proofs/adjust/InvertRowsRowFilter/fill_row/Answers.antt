@@ -16,6 +16,6 @@ returns c =
     let channels = c.args.self.now.channels in
     let input = c.args.input.now in
     let row : c.row.result.now ≡ row_of input.planes c.args.plane c.args.y = c.row.ensures.row ∙ bytes_of_narrow input.shape (row_of input.planes c.args.plane c.args.y) c.requires.narrow in
-    let named : is_among channels c.args.plane ≡ true = negated (is_among channels c.args.plane) true c.requires.changed in
+    let named : is_among channels c.args.plane ≡ true = negated (is_among channels c.args.plane) true c.requires.row.changed in
     made_row (op.Invert channels) input c.args.plane c.args.y c.copy_inverted.new.out (search rules)
     (λ x within. c.copy_inverted.ensures x (search rules) ∙ rw (row, named, c.requires.narrow) refl)

@@ -34,7 +34,7 @@ returns-else-plane-eq0 c =
 pub scaled_bound-high-requires-else-plane-eq0-clause-value : goal.scaled_bound-high-requires-else-plane-eq0-clause-value
 scaled_bound-high-requires-else-plane-eq0-clause-value c =
     let bounds = c.args.self.now in
-    let told = accepted (space_refusals (Limiter bounds.min_luma bounds.max_luma bounds.min_chroma bounds.max_chroma) c.args.input.now.shape) c.requires.accepted in
+    let told = accepted (space_refusals (Limiter bounds.min_luma bounds.max_luma bounds.min_chroma bounds.max_chroma) c.args.input.now.shape) c.requires.row.accepted in
     let both = or_false (bad_bounds bounds.min_luma bounds.max_luma) (bad_bounds bounds.min_chroma bounds.max_chroma) told.0 in
     let back : to_z w32 (of_z w32 bounds.max_chroma) ≡ bounds.max_chroma = omega (arith, ints) in
     rw back (high_inside bounds.min_chroma bounds.max_chroma both.1)
@@ -42,7 +42,7 @@ scaled_bound-high-requires-else-plane-eq0-clause-value c =
 pub scaled_bound-low-requires-else-plane-eq0-clause-value : goal.scaled_bound-low-requires-else-plane-eq0-clause-value
 scaled_bound-low-requires-else-plane-eq0-clause-value c =
     let bounds = c.args.self.now in
-    let told = accepted (space_refusals (Limiter bounds.min_luma bounds.max_luma bounds.min_chroma bounds.max_chroma) c.args.input.now.shape) c.requires.accepted in
+    let told = accepted (space_refusals (Limiter bounds.min_luma bounds.max_luma bounds.min_chroma bounds.max_chroma) c.args.input.now.shape) c.requires.row.accepted in
     let both = or_false (bad_bounds bounds.min_luma bounds.max_luma) (bad_bounds bounds.min_chroma bounds.max_chroma) told.0 in
     let back : to_z w32 (of_z w32 bounds.min_chroma) ≡ bounds.min_chroma = omega (arith, ints) in
     rw back (low_inside bounds.min_chroma bounds.max_chroma both.1)

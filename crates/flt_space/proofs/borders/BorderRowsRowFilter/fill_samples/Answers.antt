@@ -1,12 +1,9 @@
 use Rattle.std.proofs.Common.{rules, ◌≡◌, ◌+◌, ◌∙◌, true, false, sym, length, replicate, arith}
-use Rattle.std.proofs.lemmas.List.{get_or-replicate}
-use Rattle.fv_plane.specs.Format.{plane_width, plane_height}
+use Rattle.fv_plane.specs.Format.{plane_height}
 use Rattle.fv_plane.specs.Look.{across, down}
-use Rattle.clip_term.specs.declared.op.SpaceOp.TheVariants.{AddBorders}
 use Rattle.clip_term.specs.Refusals.{nat_of, paint}
 use Rattle.clip_term.specs.Space.{is_within}
-use Rattle.flt_space.proofs.BorderLemmas.{fits_between, inside_of, bordered_row, out_of_row}
-use Rattle.flt_space.proofs.RowLemmas.{made_row}
+use Rattle.flt_space.proofs.BorderLemmas.{fits_between, below_start, border_row, bordered_row}
 use Rattle.flt_space.proofs.borders.BorderRowsRowFilter.fill_samples.Goals as goal
 
 pub wide_row-requires-clause-inside : goal.wide_row-requires-clause-inside
@@ -14,8 +11,7 @@ wide_row-requires-clause-inside c =
     let shape = c.args.input.now.shape in
     let high : c.plane_height.result ≡ plane_height shape c.args.plane = search rules in
     let told : is_within c.down-top.result (c.down-top.result + c.plane_height.result) c.args.y ≡ true = sym c.is_within.ensures ∙ c.if-is_within.true in
-    let places = inside_of c.down-top.result (c.down-top.result + c.plane_height.result) c.args.y told in
-    omega (arith, places.0, places.1, high)
+    below_start c.down-top.result c.plane_height.result _ c.args.y high told
 
 pub pad_row-requires-clause-inside : goal.pad_row-requires-clause-inside
 pad_row-requires-clause-inside c =
@@ -50,6 +46,4 @@ returns-else-is_within c =
     let high : c.plane_height.result ≡ plane_height input.shape p = search rules in
     let told : is_within c.down-top.result (c.down-top.result + c.plane_height.result) c.args.y ≡ false = sym c.is_within.ensures ∙ c.if-is_within.false in
     let plain : c.fill.new.self ≡ replicate (length c.args.out.now) c.wide_paint-colour.result = search rules in
-    made_row (AddBorders borders.left borders.top borders.right borders.bottom borders.color_yuv) input p c.args.y c.fill.new.self (search rules)
-    (λ x within. rw plain (get_or-replicate (length c.args.out.now) x c.wide_paint-colour.result 0 (search rules)) ∙ value
-    ∙ out_of_row (is_within (across input.shape p (nat_of borders.left)) (across input.shape p (nat_of borders.left) + plane_width input.shape p) x) _ _ (paint borders.color_yuv input.shape p) (rw (top, high) at told))
+    rw (value, c.requires.whole) at plain ∙ border_row input borders.left borders.top borders.right borders.bottom borders.color_yuv p c.args.y _ (rw (top, high) at told)

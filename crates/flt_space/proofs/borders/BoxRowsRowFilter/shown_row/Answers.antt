@@ -1,10 +1,9 @@
-use Rattle.std.proofs.Common.{rules, ◌≡◌, ◌-◌, ◌∙◌, true, ap, sym, w32, to_z}
-use Rattle.std.proofs.lemmas.Int.{to_z-of_z}
+use Rattle.std.proofs.Common.{rules, ◌≡◌, ◌-◌, ◌∙◌, true, sym}
 use Rattle.fv_plane.specs.Format.{plane_height}
 use Rattle.fv_plane.specs.Look.{down}
 use Rattle.clip_term.specs.Refusals.{nat_of}
 use Rattle.clip_term.specs.Space.{is_within}
-use Rattle.flt_space.proofs.BorderLemmas.{shown_boxed}
+use Rattle.flt_space.proofs.BorderLemmas.{no_columns, shown_boxed}
 use Rattle.flt_space.proofs.borders.BoxRowsRowFilter.shown_row.Goals as goal
 
 pub returns-then-is_within-clause-row : goal.returns-then-is_within-clause-row
@@ -15,6 +14,6 @@ returns-then-is_within-clause-row c =
     let top : c.down-top.result ≡ down input.shape p (nat_of box.top) = search rules in
     let end : c.saturating_sub-end.result ≡ plane_height input.shape p - down input.shape p (nat_of box.bottom) = search rules in
     let told : is_within c.down-top.result c.saturating_sub-end.result c.args.y ≡ true = sym c.is_within.ensures ∙ c.if-is_within.true in
-    let left : nat_of box.x1 ≡ 0 = ap nat_of (sym (to_z-of_z w32 box.x1 (search rules)) ∙ ap (to_z w32) c.if-self-eq0.true) in
-    let right : nat_of box.x2 ≡ 0 = ap nat_of (sym (to_z-of_z w32 box.x2 (search rules)) ∙ ap (to_z w32) c.if-self-eq0-2.true) in
+    let left : nat_of box.x1 ≡ 0 = no_columns box.x1 (search rules) c.if-self-eq0.true in
+    let right : nat_of box.x2 ≡ 0 = no_columns box.x2 (search rules) c.if-self-eq0-2.true in
     shown_boxed input box.top box.bottom box.x1 box.x2 box.color_yuv p c.args.y c.shape-shape.ensures.sizes c.requires.plane left right (rw (top, end) at told)

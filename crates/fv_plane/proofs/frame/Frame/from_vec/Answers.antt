@@ -2,7 +2,7 @@ use Rattle.std.proofs.Common.{◌∙◌, ◌+◌, List, ℕ, take, drop, arith}
 use Rattle.std.proofs.lemmas.List.{get_or-drop}
 use Rattle.std.proofs.lemmas.Result.{IfOk-weaker}
 use Rattle.fv_plane.specs.Format.{frame_bytes}
-use Rattle.fv_plane.proofs.RowLemmas.{bounded_all, bounded_take}
+use Rattle.fv_rows.proofs.RowLemmas.{bounded_all, bounded_take}
 use Rattle.fv_plane.proofs.CutLemmas.{cut-limited}
 use Rattle.fv_plane.proofs.BytesLemmas.{in_range-fits}
 use Rattle.fv_plane.proofs.frame.Frame.from_vec.Goals as goal

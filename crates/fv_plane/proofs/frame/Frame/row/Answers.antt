@@ -1,6 +1,6 @@
 use Rattle.std.proofs.Common.{◌∙◌, ap, length, get_or, [], arith}
 use Rattle.fv_plane.specs.Format.{row_bytes, plane_height}
-use Rattle.fv_plane.specs.Rows.{IsPlane}
+use Rattle.fv_rows.specs.Rows.{IsPlane}
 use Rattle.fv_plane.proofs.FrameLemmas.{stored_plane, stored_row}
 use Rattle.fv_plane.proofs.frame.Frame.row.Goals as goal
 use Rattle.fv_plane.proofs.frame.Frame.row.Goals.{After-plane}

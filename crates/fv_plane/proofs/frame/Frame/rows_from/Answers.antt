@@ -1,6 +1,6 @@
 use Rattle.std.proofs.Common.{◌∙◌, get_or, [], arith}
 use Rattle.fv_plane.specs.Format.{row_bytes, plane_height}
-use Rattle.fv_plane.specs.Rows.{IsPlane}
+use Rattle.fv_rows.specs.Rows.{IsPlane}
 use Rattle.fv_plane.proofs.FrameLemmas.{stored_plane, stored_rows, plane_height_le}
 use Rattle.fv_plane.proofs.frame.Frame.rows_from.Goals as goal
 use Rattle.fv_plane.proofs.frame.Frame.rows_from.Goals.{After-plane}

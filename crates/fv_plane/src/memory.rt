@@ -1,0 +1,20 @@
+// The memory of a frame that is no longer needed.
+
+/// Memory for the planes of a frame to come. What it holds has no meaning.
+#[derive(Drop)]
+pub struct FrameMemory {
+    pub luma: Option<Vec<u8>>,
+    pub u: Option<Vec<u8>>,
+    pub v: Option<Vec<u8>>,
+}
+
+impl FrameMemory {
+    /// No memory.
+    pub fn none() -> FrameMemory {
+        FrameMemory {
+            luma: None,
+            u: None,
+            v: None,
+        }
+    }
+}

@@ -1,0 +1,3 @@
+pub mod RowLemmas
+pub mod PartLemmas
+pub mod SeenLemmas
