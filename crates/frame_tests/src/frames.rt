@@ -1,5 +1,5 @@
 // Frames share their bytes, and give them back.
-use fv_plane::{Colour, Frame, PixelType, Shape};
+use fv_plane::{Colour, Frame, FrameBuilder, FrameMemory, PixelType, Shape};
 use std::test::Fail;
 
 // More shares and windows than memory would hold as copies.
@@ -57,5 +57,31 @@ fn shows_its_bytes_upside_down(rt: HostRuntime) -> Result<(), Fail> {
     assert!(rt; frame.into_memory().luma.is_none());
     let kept = turned.into_memory().luma;
     assert_eq!(rt; kept.map_or(0, |bytes| bytes.len()), 13);
+    Ok(())
+}
+
+// A builder writes into the memory that it is given, where that has room.
+#[test]
+fn makes_a_frame_in_memory(rt: HostRuntime) -> Result<(), Fail> {
+    let alloc = rt.alloc();
+    let shape = Shape {
+        kind: PixelType::Y8,
+        bits: 8,
+        width: 4,
+        height: 4,
+    };
+    for (size, is_used) in [(15, false), (16, true), (100, true)] {
+        let bytes = vec![in alloc; 255u8; size]?;
+        let room = bytes.capacity();
+        let memory = FrameMemory {
+            luma: Some(bytes),
+            u: None,
+            v: None,
+        };
+        let frame = FrameBuilder::new_in(alloc, memory, shape)?.finish()?;
+        let kept = frame.into_memory().luma;
+        let kept_room = kept.map_or(0, |bytes| bytes.capacity());
+        assert_eq!(rt; kept_room == room, is_used, "for {size}");
+    }
     Ok(())
 }

@@ -10,23 +10,28 @@ const GREY: Colour = Colour {
     v: 128,
 };
 
-fn shape_of(kind: PixelType) -> Shape {
-    Shape {
-        kind,
-        bits: 8,
-        width: 4,
-        height: 4,
-    }
-}
+const GREY_SHAPE: Shape = Shape {
+    kind: PixelType::Y8,
+    bits: 8,
+    width: 4,
+    height: 4,
+};
+
+const COLOURED_SHAPE: Shape = Shape {
+    kind: PixelType::YV12,
+    bits: 8,
+    width: 4,
+    height: 4,
+};
 
 // A frame of 16 bytes in one piece.
 fn grey(alloc: Global) -> Result<Frame, AllocError> {
-    Frame::blank(alloc, shape_of(PixelType::Y8), GREY)
+    Frame::blank(alloc, GREY_SHAPE, GREY)
 }
 
 // A frame with a piece of memory for each plane, of 16, 4 and 4 bytes.
 fn coloured(alloc: Global) -> Result<Frame, AllocError> {
-    Frame::blank(alloc, shape_of(PixelType::YV12), GREY)
+    Frame::blank(alloc, COLOURED_SHAPE, GREY)
 }
 
 #[test]
@@ -77,16 +82,20 @@ fn hands_out_planes(rt: HostRuntime) -> Result<(), Fail> {
     let mut spares = Spares::new(alloc);
     spares.keep(coloured(alloc)?);
     let planes = [
-        (PixelType::YV12, 3, None),
-        (PixelType::Y8, 1, None),
-        (PixelType::YV12, 2, Some(4)),
-        (PixelType::YV24, 0, Some(16)),
-        (PixelType::YV12, 1, Some(4)),
-        (PixelType::YV12, 1, None),
+        (COLOURED_SHAPE, 3, None),
+        (GREY_SHAPE, 1, None),
+        (COLOURED_SHAPE, 2, Some(4)),
+        (GREY_SHAPE, 0, Some(16)),
+        (COLOURED_SHAPE, 1, Some(4)),
+        (COLOURED_SHAPE, 1, None),
     ];
-    for (kind, plane, size) in planes {
-        let memory = spares.take_plane(shape_of(kind), plane);
-        assert_eq!(rt; memory.map(|bytes| bytes.len()), size, "for plane {plane}");
+    for (shape, plane, size) in planes {
+        let memory = spares.take_plane(shape, plane);
+        assert_eq!(rt;
+            memory.map(|bytes| bytes.len()),
+            size,
+            "for plane {plane} of {shape:?}"
+        );
     }
     assert_eq!(rt; spares.len(), 0);
     Ok(())
