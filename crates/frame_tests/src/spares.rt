@@ -13,8 +13,8 @@ const GREY: Colour = Colour {
 const GREY_SHAPE: Shape = Shape {
     kind: PixelType::Y8,
     bits: 8,
-    width: 4,
-    height: 4,
+    width: 128,
+    height: 128,
 };
 
 const COLOURED_SHAPE: Shape = Shape {
@@ -24,7 +24,7 @@ const COLOURED_SHAPE: Shape = Shape {
     height: 4,
 };
 
-// A frame of 16 bytes in one piece.
+// A frame of 16,384 bytes in one piece.
 fn grey(alloc: Global) -> Result<Frame, AllocError> {
     Frame::blank(alloc, GREY_SHAPE, GREY)
 }
@@ -67,7 +67,7 @@ fn keeps_forty_eight_at_most(rt: HostRuntime) -> Result<(), Fail> {
 fn hands_out_what_serves(rt: HostRuntime) -> Result<(), Fail> {
     let alloc = rt.alloc();
     let mut spares = Spares::new(alloc);
-    for (size, serves) in [(17, false), (16, true), (12, true), (11, false)] {
+    for (size, serves) in [(16385, false), (16384, true), (8192, true), (8191, false)] {
         spares.keep(grey(alloc)?);
         let kept = spares.len();
         assert_eq!(rt; spares.take(size).is_some(), serves, "for {size}");
@@ -85,7 +85,8 @@ fn hands_out_planes(rt: HostRuntime) -> Result<(), Fail> {
         (COLOURED_SHAPE, 3, None),
         (GREY_SHAPE, 1, None),
         (COLOURED_SHAPE, 2, Some(4)),
-        (GREY_SHAPE, 0, Some(16)),
+        (GREY_SHAPE, 0, None),
+        (COLOURED_SHAPE, 0, Some(16)),
         (COLOURED_SHAPE, 1, Some(4)),
         (COLOURED_SHAPE, 1, None),
     ];

@@ -1,37 +1,79 @@
 // Spare memory.
-ghost use Rattle.std.specs.Prelude.{◌≡◌, ◌+◌, ◌*◌, ◌≤◌, length, IfSome, IfNone, IsTrue};
+ghost use Rattle.std.specs.Prelude.{◌≡◌, ◌+◌, ◌≤◌, length, IfSome, IfNone, IsTrue};
 
 use fv_plane::{Frame, FrameMemory, Shape};
 use std::alloc::Global;
 use std::marker::Model;
 
-/// At most so many pieces of memory are kept: those of 16 frames with a piece for each plane.
-const MOST: usize = 48;
+/// At most so many pieces are kept of frames that were read, or of luma.
+const MOST: usize = 16;
 
-/// The memory of frames that are no longer needed, at most 48 pieces. What it holds has no meaning.
+/// At most so many pieces are kept of chroma.
+const MOST_CHROMA: usize = 32;
+
+/// A piece may have so many bytes more than it is to serve for, as one has that holds what lies before a frame, too.
+const MORE: usize = 1 << 13;
+
+/// The memory of frames that are no longer needed, at most that of 16 frames. What it holds has no meaning. A frame that was
+/// read is one piece, and one that was made a piece for each plane.
 ///
 /// New memory costs more: the system gives it page by page, and it is zeroed before a frame can be read into it.
 #[derive(Drop)]
 pub struct Spares {
     pieces: Vec<Vec<u8>>,
+    chroma: Vec<Vec<u8>>,
 }
 
 impl Model for Spares {
-    ghost use Rattle.std.specs.Prelude.{ℕ, ◌≤◌, length};
+    ghost use Rattle.std.specs.Prelude.{ℕ, ◌+◌, ◌≤◌, length};
 
     ghost Value = { ℕ };
 
-    ghost view = { λ s. length s.pieces.items };
+    ghost view = { λ s. length s.pieces.items + length s.chroma.items };
 
-    ghost invariant = { λ s. length s.pieces.items ≤ 48 };
+    ghost invariant = { λ s. (length s.pieces.items ≤ 16) × (length s.chroma.items ≤ 32) };
 }
 
-// Whether a piece serves for `size` bytes. A much larger one would be held for as long as the small frame is.
+// Whether a piece serves for `size` bytes. A larger one may serve for another frame.
 fn serves(piece: &[u8], size: usize) -> bool
     ensures enough { IsTrue result → size ≤ length piece.now }
-    ensures close { IsTrue result → 3 * length piece.now ≤ 4 * size }
+    ensures close { IsTrue result → length piece.now ≤ size + 8192 }
 {
-    size <= piece.len() && piece.len() - size <= size / 3
+    size <= piece.len() && piece.len() - size <= MORE
+}
+
+// Takes the piece out that serves for `size` bytes and was kept last.
+fn take_from(pieces: &mut Vec<Vec<u8>>, size: usize) -> Option<Vec<u8>>
+    ensures enough { IfSome result (λ memory. size ≤ length memory.items) }
+    ensures close { IfSome result (λ memory. length memory.items ≤ size + 8192) }
+    ensures one { IfSome result (λ _. length pieces.new.items + 1 ≡ length pieces.old.items) }
+    ensures none { IfNone result (length pieces.new.items ≡ length pieces.old.items) }
+{
+    let mut at = pieces.len();
+    while at > 0 {
+        at -= 1;
+        if serves(&pieces[at], size) {
+            return Some(pieces.remove(at));
+        }
+    }
+    None
+}
+
+// Keeps a piece, if there is one. Where there are `most` pieces, the one that was kept first is let go.
+fn keep_in(pieces: &mut Vec<Vec<u8>>, most: usize, piece: Option<Vec<u8>>)
+    requires some { 1 ≤ most }
+    requires bounded { length pieces.old.items ≤ most }
+    ensures bounded { length pieces.new.items ≤ most }
+    ensures one { length pieces.new.items ≤ length pieces.old.items + 1 }
+{
+    let Some(piece) = piece else {
+        return;
+    };
+    if pieces.len() == most {
+        pieces.remove(0);
+    }
+    // Where there is no memory for the list itself, the piece is let go.
+    let _ = pieces.push(piece);
 }
 
 impl Spares {
@@ -41,6 +83,7 @@ impl Spares {
     {
         Spares {
             pieces: Vec::new(alloc),
+            chroma: Vec::new(alloc),
         }
     }
 
@@ -51,35 +94,19 @@ impl Spares {
         // What is true of all spare memory.
         ensures bounded { self.now ≤ 48 }
     {
-        self.pieces.len()
+        self.pieces.len() + self.chroma.len()
     }
 
-    /// Keeps the memory of those planes of a frame that no other frame shares. Where there are 48 pieces, the one that was
+    /// Keeps the memory of those planes of a frame that no other frame shares. Where there is memory of 16 frames, what was
     /// kept first is let go.
     pub fn keep(&mut self, frame: Frame)
         ensures bounded { self.new ≤ 48 }
         ensures few { self.new ≤ self.old + 3 }
     {
         let FrameMemory { luma, u, v } = frame.into_memory();
-        self.keep_piece(luma);
-        self.keep_piece(u);
-        self.keep_piece(v);
-    }
-
-    // Keeps a piece of memory, where there is one.
-    fn keep_piece(&mut self, piece: Option<Vec<u8>>)
-        ensures bounded { self.new ≤ 48 }
-        ensures one { self.new ≤ self.old + 1 }
-    {
-        let full = self.pieces.len() == MOST;
-        let Some(piece) = piece else {
-            return;
-        };
-        if full {
-            self.pieces.remove(0);
-        }
-        // Where there is no memory for the list itself, the piece is let go.
-        let _ = self.pieces.push(piece);
+        keep_in(&mut self.pieces, MOST, luma);
+        keep_in(&mut self.chroma, MOST_CHROMA, u);
+        keep_in(&mut self.chroma, MOST_CHROMA, v);
     }
 
     /// Keeps the memory of each of these frames, as `keep` does.
@@ -94,21 +121,14 @@ impl Spares {
         self.len();
     }
 
-    /// Hands out memory that has at least `size` bytes, and at most a third more. `None` comes where there is none.
+    /// Hands out memory that has at least `size` bytes, and at most 8 KiB more. `None` comes where there is none.
     pub fn take(&mut self, size: usize) -> Option<Vec<u8>>
         ensures enough { IfSome result (λ memory. size ≤ length memory.items) }
-        ensures close { IfSome result (λ memory. 3 * length memory.items ≤ 4 * size) }
+        ensures close { IfSome result (λ memory. length memory.items ≤ size + 8192) }
         ensures handed_out { IfSome result (λ _. self.new + 1 ≡ self.old) }
         ensures kept { IfNone result (self.new ≡ self.old) }
     {
-        let mut at = self.pieces.len();
-        while at > 0 {
-            at -= 1;
-            if serves(&self.pieces[at], size) {
-                return Some(self.pieces.remove(at));
-            }
-        }
-        None
+        take_from(&mut self.pieces, size)
     }
 
     /// Hands out memory for a plane of a frame, as `take` does. A plane or a shape that no frame has gets none.
@@ -118,6 +138,11 @@ impl Spares {
         if !shape.is_legal() || plane >= shape.kind.planes() {
             return None;
         }
-        self.take(shape.plane_bytes(plane) as usize)
+        let size = shape.plane_bytes(plane) as usize;
+        if plane == 0 {
+            take_from(&mut self.pieces, size)
+        } else {
+            take_from(&mut self.chroma, size)
+        }
     }
 }
