@@ -32,6 +32,14 @@ SCRIPTS = {
                     ["-vf", "convolution=" + ":".join(["1 2 1 2 4 2 1 2 1"] * 4 + ["1/16"] * 4)]),
     "stack": ('a = Y4MSource("%s")\nStackVertical(a, a.FlipVertical)\n',
               ["-filter_complex", "[0]split[x][y];[y]vflip[z];[x][z]vstack"]),
+    "separate": ('Y4MSource("%s").SeparateFields\n', ["-vf", "separatefields"]),
+    "weave": ('Y4MSource("%s").Weave\n', ["-vf", "weave"]),
+    "swap": ('Y4MSource("%s").SwapFields\n', ["-vf", "il=ls=1:cs=1"]),
+    # ffmpeg's signalstats makes more statistics than one.
+    "greatest": ('a = Y4MSource("%s")\nConditionalSelect(a, "YPlaneMax", a)\n',
+                 ["-vf", "signalstats,metadata=select:key=lavfi.signalstats.YMAX:value=0:function=greater"]),
+    "median": ('a = Y4MSource("%s")\nConditionalSelect(a, "YPlaneMedian", a)\n',
+               ["-vf", "signalstats,metadata=select:key=lavfi.signalstats.YAVG:value=0:function=greater"]),
     "script": ('SetFilterMTMode("DEFAULT_MT_MODE", 2)\nY4MSource("%s")\nCrop(0, 132, 0, -132)\nAddBorders(0, 132, 0, 132)\n'
                'Limiter()\na = last\nMerge(a, a.FlipHorizontal)\nTemporalSoften(1, 8, 8)\nGreyscale\n',
                ["-filter_complex", "[0]crop=1920:816:0:132,pad=1920:1080:0:132,limiter=16:235,split[x][y];[y]hflip[z];"

@@ -38,6 +38,10 @@ BLOCKS = [("Y8", 131, 70), ("Y8", 16, 33), ("Y8", 80, 16), ("YV12", 160, 98), ("
 # Formats and sizes of more than 8 bits, as many as go through each filter in a few seconds.
 DEEP = [("Y8", 10, 7, 5), ("YV12", 10, 6, 4), ("YV16", 12, 6, 3), ("YV24", 14, 5, 3), ("Y8", 16, 5, 3), ("YV12", 16, 2, 6)]
 DEEP_BLOCKS = [("Y8", 10, 131, 70), ("YV12", 12, 160, 98), ("YV24", 16, 65, 17)]
+# Frames of two fields, and some that are none: an odd row is left in a plane.
+FIELDS = [("Y8", 8, 1, 2), ("Y8", 8, 5, 6), ("Y8", 8, 5, 3), ("Y8", 16, 5, 6), ("YV12", 8, 2, 4), ("YV12", 8, 6, 12), ("YV12", 8, 6, 6)]
+FIELDS += [("YV12", 10, 6, 8), ("YV16", 8, 6, 4), ("YV16", 12, 2, 2), ("YV24", 8, 5, 6), ("YV24", 14, 5, 3), ("YV411", 8, 12, 6)]
+FIELDS += [("Y8", 8, 131, 70), ("YV12", 8, 160, 100)]
 BLACK = 0x108080
 
 
@@ -49,11 +53,12 @@ def row_bytes(row, bits):
 class Clip:
     """Frames are lists of planes, planes are lists of rows, rows are lists of samples."""
 
-    def __init__(self, kind, width, height, frames, rate=Fraction(25), bits=8):
+    def __init__(self, kind, width, height, frames, rate=Fraction(25), bits=8, field="p"):
         self.kind, self.width, self.height, self.frames, self.rate, self.bits = kind, width, height, frames, rate, bits
+        self.field = field
 
     def also(self, **changes):
-        made = Clip(self.kind, self.width, self.height, self.frames, self.rate, self.bits)
+        made = Clip(self.kind, self.width, self.height, self.frames, self.rate, self.bits, self.field)
         made.__dict__.update(changes)
         return made
 
@@ -80,7 +85,8 @@ class Clip:
         name = FORMATS[self.kind][0]
         if self.bits > 8:
             name = f"mono{self.bits}" if self.kind == "Y8" else f"{name[:3]}p{self.bits}"
-        head = f"YUV4MPEG2 W{self.width} H{self.height} F{self.rate.numerator}:{self.rate.denominator} Ip A1:1 C{name}\n"
+        rate = f"{self.rate.numerator}:{self.rate.denominator}"
+        head = f"YUV4MPEG2 W{self.width} H{self.height} F{rate} I{self.field} A1:1 C{name}\n"
         parts = [head.encode()]
         for frame in self.frames:
             parts.append(b"FRAME\n")
@@ -258,6 +264,37 @@ def convolved(clip, bias, matrix):
     return clip.of(each(change))
 
 
+def top_comes_first(clip):
+    """Everywhere but in a clip whose bottom field is said to come first."""
+    return clip.field != "b"
+
+
+def has_fields(clip):
+    """Whether each plane has as many even rows as odd ones."""
+    return clip.height % (2 * (FORMATS[clip.kind][1] or (1, 1))[1]) == 0
+
+
+def separated(clip):
+    first, second = (0, 1) if top_comes_first(clip) else (1, 0)
+    frames = [[plane[start::2] for plane in frame] for frame in clip.frames for start in (first, second)]
+    return clip.also(frames=frames, height=clip.height // 2, rate=clip.rate * 2)
+
+
+def woven(clip):
+    frames = []
+    for first, second in zip(clip.frames[::2], clip.frames[1::2]):
+        top, bottom = (first, second) if top_comes_first(clip) else (second, first)
+        frames.append([[row for two in zip(*planes) for row in two] for planes in zip(top, bottom)])
+    return clip.also(frames=frames, height=clip.height * 2, rate=clip.rate / 2)
+
+
+def swapped(clip):
+    def change(p, plane):
+        return [row for y in range(0, len(plane), 2) for row in (plane[y + 1], plane[y])]
+
+    return clip.of(each(change))
+
+
 def ranged(clip, other, first, last):
     return clip.also(frames=[other.at(n) if first <= n <= last else frame for n, frame in enumerate(clip.frames)])
 
@@ -374,6 +411,28 @@ def converted(clip, bits):
     return clip.of(each(lambda p, plane: [[sample(x) for x in row] for row in plane]), bits=bits)
 
 
+def field_rows(c):
+    other = {"t": "b", "b": "t"}
+    yield "c.AssumeTFF", c.also(field="t")
+    yield "c.AssumeBFF", c.also(field="b")
+    yield "c.ComplementParity", c.also(field=other.get(c.field, c.field))
+    yield "c.AssumeTFF.ComplementParity", c.also(field="b")
+    yield "c.AssumeBFF.ComplementParity", c.also(field="t")
+    for call, clip in (("c", c), ("c.AssumeTFF", c.also(field="t")), ("c.AssumeBFF", c.also(field="b"))):
+        yield f"{call}.Weave", woven(clip)
+        yield f"{call}.Weave.SeparateFields", separated(woven(clip))
+        if has_fields(clip):
+            yield f"{call}.SeparateFields", separated(clip)
+            yield f"{call}.SeparateFields.Weave", clip
+            yield f"{call}.SeparateFields.ComplementParity.Weave", woven(separated(clip).also(field=other.get(clip.field, clip.field)))
+            yield f"{call}.SeparateFields.SelectOdd", separated(clip).shown(range(1, 2 * len(clip.frames), 2), rate=clip.rate)
+            yield f"{call}.SwapFields", swapped(clip)
+            yield f"{call}.SwapFields.SwapFields", clip
+            yield f"{call}.FlipVertical.SeparateFields", separated(clip.of(each(lambda p, plane: plane[::-1])))
+            yield f"{call}.Weave.SwapFields.SeparateFields", separated(swapped(woven(clip)))
+            yield f'{call}.ApplyRange(1, 1, "SwapFields")', ranged(clip, swapped(clip), 1, 1)
+
+
 def depth_rows(c):
     for bits in (8, 10, 12, 14, 16) if c.kind != "YV411" else (8,):
         yield f"c.ConvertBits({bits})", converted(c, bits)
@@ -418,6 +477,25 @@ REFUSALS = [
     ("c.FreezeFrame(-1, 1, 0)", "BadRange"),
     ("c.FreezeFrame(0, 1, 5)", "BadRange"),
     ("g.SelectOdd", "EmptyClip"),
+    ("g.SeparateFields", "NotWholeChroma"),
+    ("c.CropBottom(2).SeparateFields", "NotWholeChroma"),
+    ("c.SeparateFields.SeparateFields", "NotWholeChroma"),
+    ("c.Loop(100001).SeparateFields", "LengthLimit"),
+    ("c.AssumeFPS(2147483647).SeparateFields", "RateLimit"),
+    ("c.SeparateFields(1)", "NoMatch"),
+    ("g.SwapFields", "NotWholeChroma"),
+    ("c.CropBottom(2).SwapFields", "NotWholeChroma"),
+    ("c.SwapFields(1)", "NoMatch"),
+    ("g.Weave", "EmptyClip"),
+    ("c.AssumeFPS(1, 2147483647).Weave", "RateLimit"),
+    ('BlankClip(width=1, height=32768, pixel_type="Y8").Weave', "TooLarge"),
+    ('BlankClip(width=4096, height=4096, pixel_type="Y8").Weave', "TooLarge"),
+    ("Weave(c, c)", "NoMatch"),
+    ("c.AssumeTFF(1)", "NoMatch"),
+    ("c.AssumeBFF(true)", "NoMatch"),
+    ("c.ComplementParity(c)", "NoMatch"),
+    ('c.ApplyRange(0, 1, "SeparateFields")', "SizeDiffers"),
+    ('c.ApplyRange(0, 1, "Weave")', "SizeDiffers"),
     ("c.SelectEvery(0, 1)", "BadRange"),
     ("c.SelectEvery(2, -1)", "BadRange"),
     ("c.SelectEvery(2, 5)", "EmptyClip"),
@@ -592,6 +670,13 @@ def main():
                 for call, want in rows:
                     done = run(folder, f"{before}{call}\n")
                     report.compare(f"{kind} {width}x{height} {call}", done, 0, want.stream(), "")
+        for kind, bits, width, height in FIELDS:
+            c = at_random(dice, kind, width, height, 5, bits)
+            for field in "ptb?" if width < 3 else "p":
+                before = put(folder, c=c.also(field=field))
+                for call, want in field_rows(c.also(field=field)):
+                    done = run(folder, f"{before}{call}\n")
+                    report.compare(f"{kind} of {bits} bits {width}x{height} I{field} {call}", done, 0, want.stream(), "")
         for kind, width, height in BLOCKS:
             c = at_random(dice, kind, width, height, 2)
             before = put(folder, c=c)

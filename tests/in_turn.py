@@ -64,6 +64,9 @@ d = YToUV(b.UToY8.StackHorizontal(b.VToY8).Crop(0, 0, 4, 2), b.VToY8.StackVertic
 Merge(last, b).MergeLuma(c).MergeChroma(d).TemporalSoften(1, 255, 255).GeneralConvolution(1, "1 2 1 2 4 2 1 2 1")
 SelectEvery(2, 0, 1).Interleave(b.Reverse).SelectEven.DuplicateFrame(0, 1).DeleteFrame(1).FreezeFrame(0, 1, 2).Loop(2, 1, 2)
 AssumeFPS(25).ChangeFPS(50).SelectOdd.ApplyRange(1, 2, "Invert", "Y").ApplyRange(0, 1, "Twice")
+f = a.AssumeTFF.SeparateFields.ComplementParity.Weave.SwapFields.AssumeBFF
+ConditionalSelect(last, "current_frame % 3 - YPlaneMin() / 300", f, b)
+ConditionalFilter(f, last, b, "Abs(UPlaneMax - 9) / (current_frame - 1)", "GreaterThan", "Max(VPlaneMedian, 2) % $10")
 e = BlankClip(last, length=2, color_yuv=$808080)
 w = Merge(b.ConvertBits(10).TemporalSoften(1, 255, 255).FlipHorizontal, c.ConvertBits(10).Invert("Y").Limiter.SwapUV)
 w = StackVertical(w.TurnLeft.TurnRight, w.Greyscale).Crop(0, 0, 0, 4).AddBorders(2, 0, 0, 0, $102030).LetterBox(0, 0, 2, 0)

@@ -297,6 +297,9 @@ FAULTS = [
     ('SetFilterMTMode("x", 4)', 1, "ModeRefused"),
     ("BlankClip.Prefetch(17)", 1, "PrefetchRange"),
     ('BlankClip(length=4)\nApplyRange(1, 2, "Foo")', 2, "UnknownName"),
+    ('BlankClip(length=4)\nConditionalSelect("YPlaneMax > 16", last)', 2, "BadExpression"),
+    ('BlankClip(length=4)\n\nConditionalFilter(last, last, "1", "no",\n"true")', 3, "BadExpression"),
+    ('BlankClip(pixel_type="Y10")\nApplyRange(1, 2, "ConditionalSelect", "UPlaneMin", last)', 2, "BadExpression"),
     ('s = "ä"\nfor (i = 1, 19) { s = s + s }\ns = s + "b"', 3, "TextLimit"),
     ("BlankClip\n" * 4_097, 4_097, "NodeLimit"),
     ("BlankClip" + ".Reverse" * 512, 1, "DepthLimit"),
@@ -357,6 +360,12 @@ INFOS = [
         'SetFilterMTMode("Crop", 2)\nSetFilterMTMode("TRIM", 2, true)\nSetFilterMTMode("Default_MT_Mode", 1)\n'
         'BlankClip(4, 8, 4).Crop(2, 0, 0, 0).Trim(1, 0).TemporalSoften(1, 2, 3)',
         "clip 6x4 YV12 24:1 frames 3\n0 BlankClip 1\n1 Crop 1 0\n2 Trim 2 1\n3 TemporalSoften 2 2\nroot 3\nprefetch 1 1\n",
+    ),
+    (
+        'SetFilterMTMode("ConditionalSelect", 2, true)\na = BlankClip(2, 2, 2)\nb = a.Reverse\nc = ConditionalSelect(b, "7", b, a, b)\n'
+        'ConditionalFilter(c, a, b, "1", "==", "1")',
+        "clip 2x2 YV12 24:1 frames 2\n0 BlankClip 1\n1 Reverse 1 0\n2 ConditionalSelect 2 1 1 0 1\n3 ConditionalFilter 1 2 0 1\nroot 3\n"
+        "prefetch 1 1\n",
     ),
 ]
 

@@ -28,12 +28,19 @@ SAME_SIZE = [
     ("Crop(2, 2, -2, -2).AddBorders(2, 2, 2, 2)", "Crop"), ("SelectEvery(3, 0, 2)", "SelectEvery"), ("SelectOdd", "SelectOdd"),
     ("DuplicateFrame(0)", "DuplicateFrame"), ("FreezeFrame(0, 1, 0)", "FreezeFrame"), ("Loop(2)", "Loop"),
     ("ChangeFPS(30, 1)", "ChangeFPS"), ("DeleteFrame(0)", "DeleteFrame"),
+    ("SeparateFields.Weave", "SeparateFields"), ("AssumeBFF.SeparateFields.Reverse.Weave", "Weave"),
+    ("AssumeTFF.FlipVertical.SeparateFields.ComplementParity.Weave", "ComplementParity"), ("SwapFields", "SwapFields"),
+    ("AssumeTFF.SeparateFields.Weave", "AssumeTFF"), ("AssumeBFF.Weave.SeparateFields", "AssumeBFF"),
+    ('ConditionalSelect(last, "(YPlaneMin + current_frame) % 4", last.Reverse, last.Invert)', "ConditionalSelect"),
+    ('ConditionalFilter(last.Reverse, last, last.FlipVertical, "UPlaneMedian", "<", "VPlaneMedian")', "ConditionalFilter"),
 ]
 # What joins a clip with another.
 JOINS = [
     ("Merge(last, {0})", "Merge"), ("Interleave(last, {0})", "Interleave"), ("MergeChroma(last, {0})", "MergeChroma"),
     ("last.Merge({0}.Reverse)", "Merge"), ("Interleave({0}, last, {0})", "Interleave"),
     ("last + {0}.AssumeFPS(25, 1)", "UnalignedSplice"),
+    ('ConditionalSelect(last, "YPlaneMedian % 3 - current_frame / 8", {0}, {0}.Reverse)', "ConditionalSelect"),
+    ('ConditionalFilter({0}, last, {0}, "10 / (current_frame % 5) + YPlaneMax", ">", "VPlaneMedian()")', "ConditionalFilter"),
 ]
 
 

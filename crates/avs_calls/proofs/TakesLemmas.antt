@@ -1,6 +1,6 @@
 -- What takes clips is no source.
 use Rattle.std.proofs.Common.{◌≡◌, refl, ℕ, [], true, rules}
-use Rattle.clip_term.specs.ClipTerm.{Act, source, plain, time, space, joined, soft}
+use Rattle.clip_term.specs.ClipTerm.{Act, source, plain, time, space, joined, soft, fields, choice}
 use Rattle.avs_meaning.specs.Arguments.{takes}
 use Rattle.avs_state.specs.Sources.{source_of}
 
@@ -11,3 +11,5 @@ takes_none (time op) n h = refl
 takes_none (space op) n h = refl
 takes_none (joined op) n h = refl
 takes_none (soft op) n h = refl
+takes_none (fields op) n h = refl
+takes_none (choice op) n h = refl

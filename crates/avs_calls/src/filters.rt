@@ -4,6 +4,7 @@ ghost use Rattle.avs_values.specs.Views.{bound_view};
 ghost use Rattle.avs_meaning.specs.Arguments as a;
 ghost use Rattle.avs_meaning.specs.Filters as f;
 ghost use Rattle.avs_meaning.specs.Outside.{Outside};
+ghost use Rattle.avs_parse.specs.Load.{script_of};
 ghost use Rattle.avs_state.specs.Answers.{Gives};
 ghost use Rattle.avs_state.specs.Sources.{sources_of};
 ghost use Rattle.avs_state.specs.States.{state_of, AsksNothing};
@@ -16,9 +17,10 @@ use avs_state::{Machine, fault_at};
 use avs_values::{Bound, Value};
 use clip_term::{Filter, FilterFault, Op, TimeOp};
 use fv_io::Text;
+use fv_plane::Info;
 use std::alloc::Global;
 
-// Applies a filter to clips, of which the first has so many frames.
+// Applies a filter to clips, of which the first has this info.
 #[tactic(auto, using(crate::proofs::TakesLemmas::takes_none))]
 fn apply_to(
     alloc: Global,
@@ -26,17 +28,17 @@ fn apply_to(
     filter: Filter,
     given: &Bound,
     inputs: &[u32],
-    frames: u32,
+    clip: &Info,
     script_name: &Text,
     line: u32,
 ) -> Result<Value, ScriptStop>
-    requires { frames ≤ 1000000 }
-    ensures gives { Gives (λ x. x) (f.applied_by script_name.now (a.reading (bound_view given.now) frames filter) filter
-        inputs.now line (state_of machine.old)) result (state_of machine.new) }
+    requires { clip.now.frames ≤ 1000000 }
+    ensures gives { Gives (λ x. x) (f.applied_by script_name.now (a.reading script_of (bound_view given.now) clip.now filter)
+        filter inputs.now line (state_of machine.old)) result (state_of machine.new) }
     ensures asks { AsksNothing machine.old machine.new }
     ensures sources { OnOk result (sources_of (state_of machine.new).plan ≡ sources_of (state_of machine.old).plan) }
 {
-    let op = match read(alloc, given, frames, filter) {
+    let op = match read(alloc, given, clip, filter) {
         Ok(op) => op,
         Err(Unread::Refused(kind)) => return Err(fault_at(alloc, kind, script_name, line)),
         Err(Unread::Memory) => return Err(ScriptStop::Memory),
@@ -57,7 +59,7 @@ fn apply(
     line: u32,
 ) -> Result<Value, ScriptStop>
     ensures gives { Gives (λ x. x)
-        (f.applied script_name.now filter (bound_view given.now)
+        (f.applied script_name.now script_of filter (bound_view given.now)
         (a.clips_among given.now.values.items ++ a.clips_among given.now.rest.items) line (state_of machine.old)) result
         (state_of machine.new) }
     ensures asks { AsksNothing machine.old machine.new }
@@ -76,7 +78,7 @@ fn apply(
         filter,
         given,
         &inputs,
-        info.frames,
+        &info,
         script_name,
         line,
     )
@@ -93,7 +95,7 @@ pub fn filter(
     line: u32,
 ) -> Result<Value, ScriptStop>
     requires { filter ≡ Filter.Y4MSource → ⊥ }
-    ensures gives { (outside : Outside) → Gives (λ x. x)
+    ensures gives { (outside : Outside) → outside.trees ≡ script_of → Gives (λ x. x)
         (f.filtered script_name.now outside filter signature (bound_view given.now) line (state_of machine.old)) result
         (state_of machine.new) }
     ensures asks { AsksNothing machine.old machine.new }

@@ -13,7 +13,7 @@ use Rattle.avs_values.specs.Values.{Text}
 use Rattle.avs_values.specs.declared.value.Value.{Value}
 use Rattle.avs_values.specs.declared.value.Value.TheVariants as v
 use Rattle.clip_term.specs.Blank.{BlankArgs, blank_refusals, blank_info, colour_of, colour_given}
-use Rattle.clip_term.specs.ClipTerm.{Act, source, plain, time, space, soft}
+use Rattle.clip_term.specs.ClipTerm.{Act, source, plain, time, space, soft, fields, choice}
 use Rattle.clip_term.specs.ClipTerm as act
 use Rattle.clip_term.specs.Refusals.{nat_of}
 use Rattle.clip_term.specs.Terms.{check}
@@ -173,18 +173,22 @@ module _ (outside : Outside) where
       if_runs (arguments.takes (act.joined o) (length inputs)) (filters.made here filter (act.joined o) inputs line) (fails k.NoMatch here line) s (made_keeps here filter (act.joined o) inputs line s tt are) tt
   applied_by_keeps here (Ok (soft o)) filter inputs line s are =
       if_runs (arguments.takes (soft o) (length inputs)) (filters.made here filter (soft o) inputs line) (fails k.NoMatch here line) s (made_keeps here filter (soft o) inputs line s tt are) tt
+  applied_by_keeps here (Ok (fields o)) filter inputs line s are =
+      if_runs (arguments.takes (fields o) (length inputs)) (filters.made here filter (fields o) inputs line) (fails k.NoMatch here line) s (made_keeps here filter (fields o) inputs line s tt are) tt
+  applied_by_keeps here (Ok (choice o)) filter inputs line s are =
+      if_runs (arguments.takes (choice o) (length inputs)) (filters.made here filter (choice o) inputs line) (fails k.NoMatch here line) s (made_keeps here filter (choice o) inputs line s tt are) tt
   applied_by_keeps here (Err kind) filter inputs line s are = tt
 
-  filter_applied_keeps : (here : Text) (filter : Filter) (bound : Bound) (inputs : List ℕ) (line : ℕ) (s : State) → AreFiles s.plan → Has (filters.applied here filter bound inputs line s)
-  filter_applied_keeps here filter bound [] line s are = tt
-  filter_applied_keeps here filter bound (i ∷ rest) line s are =
+  filter_applied_keeps : (here : Text) (trees : Text → Result Loaded NoTree) (filter : Filter) (bound : Bound) (inputs : List ℕ) (line : ℕ) (s : State) → AreFiles s.plan → Has (filters.applied here trees filter bound inputs line s)
+  filter_applied_keeps here trees filter bound [] line s are = tt
+  filter_applied_keeps here trees filter bound (i ∷ rest) line s are =
       then_keeps (info_of here i line s) _ (info_of_keeps here i line s are) (λ info t kept. applied_by_keeps here _ filter (i ∷ rest) line t kept)
 
   filtered_keeps : (here : Text) (filter : Filter) (sig : ℕ) (bound : Bound) (line : ℕ) (s : State) → AreFiles s.plan → Has (filtered here outside filter sig bound line s)
   filtered_keeps here f.Y4MSource sig bound line s are = open_source_keeps here bound.values line s are
   filtered_keeps here f.BlankClip sig bound line s are =
       if_runs (arguments.all_fit_filters bound.values) (filters.blank here sig bound.values line) (fails arguments.out_of_range here line) s (blank_keeps here sig bound.values line s are) tt
-  filtered_keeps here filter sig bound line s are = filter_applied_keeps here filter bound _ line s are
+  filtered_keeps here filter sig bound line s are = filter_applied_keeps here outside.trees filter bound _ line s are
 
   told_keeps : (here : Text) (function : ClipFn) (values : List Value) (line : ℕ) (s : State) → AreFiles s.plan → Has (told here function values line s)
   told_keeps here function (v.Clip i ∷ []) line s are =

@@ -143,16 +143,16 @@ applied_by_leaves here (Ok act) filter inputs line n s few =
     if_runs n (takes act (length inputs)) (filters.made here filter act inputs line) (fails k.NoMatch here line) s (made_leaves here filter act inputs line n s few) tt
 applied_by_leaves here (Err kind) filter inputs line n s few = tt
 
-filter_applied_leaves : (here : Text) (filter : Filter) (bound : Bound) (inputs : List ℕ) (line n : ℕ) (s : State) → s.units ≤ n → Leaves n (filters.applied here filter bound inputs line s)
-filter_applied_leaves here filter bound [] line n s few = tt
-filter_applied_leaves here filter bound (i ∷ rest) line n s few =
+filter_applied_leaves : (here : Text) (trees : Text → Result Loaded NoTree) (filter : Filter) (bound : Bound) (inputs : List ℕ) (line n : ℕ) (s : State) → s.units ≤ n → Leaves n (filters.applied here trees filter bound inputs line s)
+filter_applied_leaves here trees filter bound [] line n s few = tt
+filter_applied_leaves here trees filter bound (i ∷ rest) line n s few =
     then_leaves n (info_of here i line s) _ (info_of_leaves here i line n s few) (λ info t less. applied_by_leaves here _ filter (i ∷ rest) line n t less)
 
 pub filtered_leaves : (here : Text) (outside : Outside) (filter : Filter) (sig : ℕ) (bound : Bound) (line n : ℕ) (s : State) → s.units ≤ n → Leaves n (filtered here outside filter sig bound line s)
 filtered_leaves here outside f.Y4MSource sig bound line n s few = open_source_leaves here outside bound.values line n s few
 filtered_leaves here outside f.BlankClip sig bound line n s few =
     if_runs n (all_fit_filters bound.values) (filters.blank here sig bound.values line) (fails out_of_range here line) s (blank_leaves here sig bound.values line n s few) tt
-filtered_leaves here outside filter sig bound line n s few = filter_applied_leaves here filter bound _ line n s few
+filtered_leaves here outside filter sig bound line n s few = filter_applied_leaves here outside.trees filter bound _ line n s few
 
 pub told_leaves : (here : Text) (function : ClipFn) (values : List Value) (line n : ℕ) (s : State) → s.units ≤ n → Leaves n (told here function values line s)
 told_leaves here function (v.Clip i ∷ []) line n s few =

@@ -1,18 +1,26 @@
 -- What a filter does with its arguments (AviSynth+ wiki, "Internal filters").
-use Rattle.std.specs.Prelude.{ℕ, ◌^◌, ◌==◌, nat_lt, ℤ, pos, negsuc, ◌-ℤ◌, List, [], ◌∷◌, slice_get, codes, Bool, true, false, ◌&&◌, Option, Some, None, is_some, Result, Ok, Err, if◌then◌else◌}
+use Rattle.std.specs.Prelude.{ℕ, ◌^◌, ◌==◌, nat_lt, not, ℤ, pos, negsuc, ◌-ℤ◌, List, [], ◌∷◌, slice_get, codes, Bool, true, false, ◌&&◌, Option, Some, None, is_some, Result, Ok, Err, if◌then◌else◌}
 use Rattle.std.specs.List.{list_all}
 use Rattle.std.specs.Option.{unwrap_or}
+use Rattle.fv_plane.specs.declared.format.Info.{Info}
+use Rattle.fv_plane.specs.Format.{planes}
+use Rattle.avs_tree.specs.Loaded.{Loaded, NoTree}
+use Rattle.avs_tree.specs.Words.{meaning_in}
 use Rattle.avs_values.specs.Binding.{Bound}
 use Rattle.avs_values.specs.Values.{Text}
 use Rattle.avs_values.specs.declared.value.Value.{Value}
 use Rattle.avs_values.specs.declared.value.Value.TheVariants as v
-use Rattle.clip_term.specs.ClipTerm.{Act, time, space, joined, soft}
+use Rattle.clip_term.specs.Choice.{choose, decide, run_inputs}
+use Rattle.clip_term.specs.ClipTerm.{Act, time, space, joined, soft, fields, choice}
+use Rattle.clip_term.specs.Expression.{Expr}
+use Rattle.clip_term.specs.Words.{words}
 use Rattle.clip_term.specs.Arguments.{is_no_bias}
 use Rattle.clip_term.specs.Blank.{default_colour}
 use Rattle.clip_term.specs.Terms.{time_inputs, time_lists, join_inputs, soft_lists}
 use Rattle.clip_term.specs.Texts.{channels_named, matrix_named}
 use Rattle.clip_term.specs.declared.fault.FilterFault.{FilterFault}
 use Rattle.clip_term.specs.declared.fault.FilterFault.TheVariants as fault
+use Rattle.clip_term.specs.declared.field.FieldOp.TheVariants as fo
 use Rattle.clip_term.specs.declared.filter.Filter.{Filter}
 use Rattle.clip_term.specs.declared.filter.Filter.TheVariants as f
 use Rattle.clip_term.specs.declared.op.Channels.{Channels}
@@ -22,6 +30,9 @@ use Rattle.clip_term.specs.declared.op.SpaceOp.TheVariants as s
 use Rattle.clip_term.specs.declared.op.TimeOp.TheVariants as t
 use Rattle.clip_term.specs.declared.op.TrimBound.{TrimBound}
 use Rattle.clip_term.specs.declared.op.TrimBound.TheVariants as bound
+use Rattle.clip_term.specs.declared.run.RunCompare.{RunCompare}
+use Rattle.clip_term.specs.declared.run.RunCompare.TheVariants.{Equals, Greater, Less}
+use Rattle.avs_meaning.specs.Compiled.{expression_in}
 use Rattle.avs_meaning.specs.declared.fault.ScriptKind.{ScriptKind}
 use Rattle.avs_meaning.specs.declared.fault.ScriptKind.TheVariants as k
 
@@ -105,6 +116,37 @@ convolves bias matrix =
 abbrev pub middle_alone : Text
 middle_alone = codes "0 0 0 0 1 0 0 0 0"
 
+-- ConditionalSelect: its expression is refused before anything else.
+abbrev pub chooses : Option Expr → Reading
+chooses (Some e) = Ok (choice (choose (words e [])))
+chooses None = Err k.BadExpression
+
+-- the comparisons of ConditionalFilter, in any case of letters
+abbrev pub comparisons : List (Text × RunCompare)
+comparisons =
+    (codes "equals", Equals)
+    ∷ (codes "==", Equals)
+    ∷ (codes "greaterthan", Greater)
+    ∷ (codes ">", Greater)
+    ∷ (codes "lessthan", Less)
+    ∷ (codes "<", Less)
+    ∷ []
+
+-- ConditionalFilter: both expressions are refused before the comparison between them.
+abbrev pub decides : Option Expr → Option Expr → Option RunCompare → Reading
+decides (Some e) (Some f) (Some by) = Ok (choice (decide (words e []) by (words f [])))
+decides (Some e) (Some f) None = Err (k.Filter fault.BadText)
+decides _ _ _ = Err k.BadExpression
+
+abbrev pub read_field : Filter → Reading
+read_field f.SeparateFields = Ok (fields fo.SeparateFields)
+read_field f.Weave = Ok (fields fo.Weave)
+read_field f.SwapFields = Ok (fields fo.SwapFields)
+read_field f.AssumeTFF = Ok (fields fo.AssumeTFF)
+read_field f.AssumeBFF = Ok (fields fo.AssumeBFF)
+read_field f.ComplementParity = Ok (fields fo.ComplementParity)
+read_field _ = Err k.NoMatch
+
 abbrev pub read_join : Filter → Reading
 read_join f.StackHorizontal = Ok (joined j.StackHorizontal)
 read_join f.StackVertical = Ok (joined j.StackVertical)
@@ -112,7 +154,7 @@ read_join f.Merge = Ok (joined j.Merge)
 read_join f.MergeLuma = Ok (joined j.MergeLuma)
 read_join f.MergeChroma = Ok (joined j.MergeChroma)
 read_join f.YToUV = Ok (joined j.YToUV)
-read_join _ = Err k.NoMatch
+read_join filter = read_field filter
 
 module _ (values : List Value) where
   -- the number at a place, or what counts where none is given
@@ -148,23 +190,35 @@ module _ (values : List Value) where
   read_space f.ConvertBits = Ok (space (s.ConvertBits (number 1)))
   read_space filter = read_soft filter
 
-  -- by the numbers after the others, and how many frames the first clip has
-  abbrev pub read : List ℤ → ℕ → Filter → Reading
-  read rest frames f.Trim = trims (number 1) (trim_bound (number_at values 2) (number_at values 3) (number_at values 4))
-  read rest frames f.Reverse = Ok (time t.Reverse)
-  read rest frames f.FreezeFrame = Ok (time (t.FreezeFrame (number 1) (number 2) (number 3)))
-  read rest frames f.SelectEven = Ok (time t.SelectEven)
-  read rest frames f.SelectOdd = Ok (time t.SelectOdd)
-  read rest frames f.SelectEvery = Ok (time (t.SelectEvery (number 1) rest))
-  read rest frames f.Interleave = Ok (time t.Interleave)
-  read rest frames f.UnalignedSplice = Ok (time t.UnalignedSplice)
-  read rest frames f.AlignedSplice = Ok (time t.AlignedSplice)
-  read rest frames f.Loop = Ok (time (t.Loop (number 1) (number 2) (or_number 3 (pos frames -ℤ pos 1))))
-  read rest frames f.DuplicateFrame = Ok (time (t.DuplicateFrame rest))
-  read rest frames f.DeleteFrame = Ok (time (t.DeleteFrame rest))
-  read rest frames f.AssumeFPS = Ok (time (t.AssumeFPS (number 1) (or_number 2 (pos 1))))
-  read rest frames f.ChangeFPS = Ok (time (t.ChangeFPS (number 1) (or_number 2 (pos 1))))
-  read rest frames filter = read_space filter
+  -- where texts have these trees, and the first clip has this info
+  module _ (trees : Text → Result Loaded NoTree) (c : Info) where
+    -- the expression that the text at a place is, over the planes of the clip
+    abbrev pub expression_at : ℕ → Option Expr
+    expression_at i = expression_in trees (not (planes c.shape.kind == 1)) (unwrap_or (text_at values i) [])
+
+    abbrev pub read_choice : Filter → Reading
+    read_choice f.ConditionalSelect = chooses (expression_at 1)
+    read_choice f.ConditionalFilter =
+        decides (expression_at 3) (expression_at 5) (meaning_in comparisons (unwrap_or (text_at values 4) []))
+    read_choice filter = read_space filter
+
+    -- by the numbers after the others
+    abbrev pub read : List ℤ → Filter → Reading
+    read rest f.Trim = trims (number 1) (trim_bound (number_at values 2) (number_at values 3) (number_at values 4))
+    read rest f.Reverse = Ok (time t.Reverse)
+    read rest f.FreezeFrame = Ok (time (t.FreezeFrame (number 1) (number 2) (number 3)))
+    read rest f.SelectEven = Ok (time t.SelectEven)
+    read rest f.SelectOdd = Ok (time t.SelectOdd)
+    read rest f.SelectEvery = Ok (time (t.SelectEvery (number 1) rest))
+    read rest f.Interleave = Ok (time t.Interleave)
+    read rest f.UnalignedSplice = Ok (time t.UnalignedSplice)
+    read rest f.AlignedSplice = Ok (time t.AlignedSplice)
+    read rest f.Loop = Ok (time (t.Loop (number 1) (number 2) (or_number 3 (pos c.frames -ℤ pos 1))))
+    read rest f.DuplicateFrame = Ok (time (t.DuplicateFrame rest))
+    read rest f.DeleteFrame = Ok (time (t.DeleteFrame rest))
+    read rest f.AssumeFPS = Ok (time (t.AssumeFPS (number 1) (or_number 2 (pos 1))))
+    read rest f.ChangeFPS = Ok (time (t.ChangeFPS (number 1) (or_number 2 (pos 1))))
+    read rest filter = read_choice filter
 
 -- Trim's arguments fit where exactly one of the last three is given.
 abbrev pub suits : Filter → List Value → Bool
@@ -172,10 +226,10 @@ suits f.Trim values = is_some (trim_bound (number_at values 2) (number_at values
 suits filter values = true
 
 -- Of arguments that fit, a number that no filter takes is refused before anything else.
-abbrev pub reading : Bound → ℕ → Filter → Reading
-reading given frames filter =
+abbrev pub reading : (Text → Result Loaded NoTree) → Bound → Info → Filter → Reading
+reading trees given c filter =
     if suits filter given.values then
-    (if all_fit_filters given.values && all_fit_filters given.rest then read given.values (numbers_among given.rest) frames filter else Err out_of_range)
+    (if all_fit_filters given.values && all_fit_filters given.rest then read given.values trees c (numbers_among given.rest) filter else Err out_of_range)
     else Err k.NoMatch
 
 -- as many inputs, and such lists, as a filter takes
@@ -184,4 +238,6 @@ takes (time op) k = time_inputs op k && time_lists op
 takes (space op) k = k == 1
 takes (joined op) k = join_inputs op k
 takes (soft op) k = k == 1 && soft_lists op
+takes (fields op) k = k == 1
+takes (choice op) k = run_inputs op k
 takes _ k = false

@@ -4,6 +4,7 @@ use Rattle.std.specs.Prelude.{ℕ, zero, suc, ◌+◌, nat_lt, nat_le, List, [],
 use Rattle.std.specs.List.{list_all}
 use Rattle.fv_plane.specs.declared.format.Info.{Info}
 use Rattle.fv_plane.specs.Refusals.{first_fault}
+use Rattle.avs_tree.specs.Loaded.{Loaded, NoTree}
 use Rattle.avs_values.specs.Binding.{Bound}
 use Rattle.avs_values.specs.Values.{Text}
 use Rattle.avs_values.specs.declared.value.Value.{Value}
@@ -111,18 +112,20 @@ module _ (here : Text) where
   applied_by (Ok act) filter inputs line =
       if takes act (length inputs) then made filter act inputs line else fails k.NoMatch here line
 
-  abbrev pub applied : Filter → Bound → List ℕ → ℕ → Run Value
-  applied filter given [] line = fails k.NoMatch here line
-  applied filter given (i ∷ rest) line =
+  -- where texts have these trees
+  abbrev pub applied : (Text → Result Loaded NoTree) → Filter → Bound → List ℕ → ℕ → Run Value
+  applied trees filter given [] line = fails k.NoMatch here line
+  applied trees filter given (i ∷ rest) line =
       info_of i line >>= (λ info.
-      applied_by (reading given info.frames filter) filter (i ∷ rest) line)
+      applied_by (reading trees given info filter) filter (i ∷ rest) line)
 
   -- a filter with its arguments, which are bound by the signature of this number
   abbrev pub filtered : Outside → Filter → ℕ → Bound → ℕ → Run Value
   filtered outside f.Y4MSource n given line = open_source outside given.values line
   filtered outside f.BlankClip n given line =
       if all_fit_filters given.values then blank n given.values line else fails out_of_range here line
-  filtered outside filter n given line = applied filter given (clips_among given.values ++ clips_among given.rest) line
+  filtered outside filter n given line =
+      applied outside.trees filter given (clips_among given.values ++ clips_among given.rest) line
 
   -- ApplyRange shows what its function gave in a range of frames of the clip, and the clip elsewhere.
   abbrev pub ranged : ℕ → ℤ → ℤ → ℕ → Value → Run Value

@@ -8,6 +8,7 @@ pub mod Outside
 pub mod Context
 pub mod Calls
 pub mod ClipFunctions
+pub mod Compiled
 pub mod Arguments
 pub mod Settings
 pub mod Filters

@@ -74,6 +74,15 @@ abbrev pub convolution : Signature
 convolution =
     only (required k.Clip ∷ optional k.Int (codes "bias") ∷ optional k.Text (codes "matrix") ∷ [])
 
+-- a clip, an expression, and one clip or more
+abbrev pub select : Signature
+select = record { params = required k.Clip ∷ required k.Text ∷ required k.Clip ∷ []; rest = Some k.Clip; least = 0 }
+
+-- three clips, an expression, a comparison, and another expression
+abbrev pub decide : Signature
+decide =
+    only (required k.Clip ∷ required k.Clip ∷ required k.Clip ∷ required k.Text ∷ required k.Text ∷ required k.Text ∷ [])
+
 abbrev pub filter_signatures : Filter → List Signature
 filter_signatures f.Y4MSource = one k.Text ∷ []
 filter_signatures f.BlankClip = blank ∷ blank_like ∷ []
@@ -117,6 +126,14 @@ filter_signatures f.MergeChroma = two_clips ∷ []
 filter_signatures f.YToUV = three_clips ∷ []
 filter_signatures f.TemporalSoften = only (numbered 3 []) ∷ []
 filter_signatures f.GeneralConvolution = convolution ∷ []
+filter_signatures f.SeparateFields = one k.Clip ∷ []
+filter_signatures f.Weave = one k.Clip ∷ []
+filter_signatures f.SwapFields = one k.Clip ∷ []
+filter_signatures f.AssumeTFF = one k.Clip ∷ []
+filter_signatures f.AssumeBFF = one k.Clip ∷ []
+filter_signatures f.ComplementParity = one k.Clip ∷ []
+filter_signatures f.ConditionalSelect = select ∷ []
+filter_signatures f.ConditionalFilter = decide ∷ []
 
 -- ---- other functions
 

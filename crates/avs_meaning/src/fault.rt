@@ -59,6 +59,8 @@ pub enum ScriptKind {
     BadText,
     /// A number is outside its range.
     BadRange,
+    /// A text is no expression that is evaluated for each frame, or it names planes that the clip hasn't.
+    BadExpression,
     /// A text has more than 1,048,576 bytes.
     TextLimit,
     /// The message of an `Assert` whose condition is false.
@@ -107,6 +109,7 @@ impl ScriptKind {
             ScriptKind::DivZero => "DivZero",
             ScriptKind::BadText => "BadText",
             ScriptKind::BadRange => "BadRange",
+            ScriptKind::BadExpression => "BadExpression",
             ScriptKind::TextLimit => "TextLimit",
             ScriptKind::Syntax => "Syntax",
             ScriptKind::NestLimit => "NestLimit",

@@ -150,6 +150,32 @@ fn invert(alloc: Global) -> Result<Signature, AllocError>
     Ok(taken)
 }
 
+// What `ConditionalSelect` takes.
+fn select(alloc: Global) -> Result<Signature, AllocError>
+    ensures { IfOk result (λ made. signature_view made ≡ d.select) }
+{
+    let mut params = Vec::new(alloc);
+    params.push(Param::required(alloc, Kind::Clip)?)?;
+    params.push(Param::required(alloc, Kind::Text)?)?;
+    params.push(Param::required(alloc, Kind::Clip)?)?;
+    Ok(Signature {
+        params,
+        rest: Some(Kind::Clip),
+        least: 0,
+    })
+}
+
+// What `ConditionalFilter` takes.
+fn decide(alloc: Global) -> Result<Signature, AllocError>
+    ensures { IfOk result (λ made. signature_view made ≡ d.decide) }
+{
+    let mut taken = three_clips(alloc)?;
+    taken.params.push(Param::required(alloc, Kind::Text)?)?;
+    taken.params.push(Param::required(alloc, Kind::Text)?)?;
+    taken.params.push(Param::required(alloc, Kind::Text)?)?;
+    Ok(taken)
+}
+
 fn convolution(alloc: Global) -> Result<Signature, AllocError>
     ensures { IfOk result (λ made. signature_view made ≡ d.convolution) }
 {
@@ -246,6 +272,8 @@ fn of_filter(alloc: Global, filter: Filter) -> Result<Vec<Signature>, AllocError
         | Filter::StackVertical => alone(alloc, clips(alloc)?),
         Filter::Merge | Filter::MergeLuma | Filter::MergeChroma => alone(alloc, two_clips(alloc)?),
         Filter::YToUV => alone(alloc, three_clips(alloc)?),
+        Filter::ConditionalSelect => alone(alloc, select(alloc)?),
+        Filter::ConditionalFilter => alone(alloc, decide(alloc)?),
         _ => alone(alloc, one(alloc, Kind::Clip)?),
     }
 }

@@ -13,4 +13,4 @@ pub use symbol::{Punctuation, Symbol, content, is_name, symbol_of};
 pub use tree::{
     Arg, Arm, DotCall, Expr, Function, Operator, Parameter, Script, Statement, StatementKind, Step,
 };
-pub use words::{Keyword, TypeWord, type_word};
+pub use words::{Keyword, TypeWord, meaning, type_word};

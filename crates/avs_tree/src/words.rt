@@ -59,8 +59,8 @@ fn same_word(a: &str, b: &str) -> bool
     a.eq_ignore_ascii_case(b)
 }
 
-// What a word means by a table, without regard to case.
-fn meaning<A: Copy>(mut table: &[(&str, A)], word: &str) -> Option<A>
+/// What a word means by a table, without regard to case: what stands in the first row of this word.
+pub fn meaning<A: Copy>(mut table: &[(&str, A)], word: &str) -> Option<A>
     ensures { result ≡ meaning_in (map (λ row. (row.0.now, row.1)) table.entry.now) word.now }
 {
     while let [row, rest @ ..] = table {

@@ -5,8 +5,10 @@
 #![tactic(auto)]
 
 mod blank;
+mod field;
 mod join;
 mod limits;
+mod run;
 mod shared;
 mod soft;
 mod space;
@@ -16,7 +18,9 @@ mod time;
 mod time_rows;
 
 pub use blank::check_blank_info;
+pub use field::check_field;
 pub use join::check_join;
+pub use run::check_choice;
 pub use soft::check_soft;
 pub use space::check_space;
 pub use term::{check, info};

@@ -7,7 +7,9 @@ ghost use Rattle.clip_term.specs.Terms.{check, info_of, IsSound, IsSoundTerm, Ar
 ghost use Rattle.clip_check.specs.Summaries.{TellsAll};
 
 use crate::blank::check_blank_info;
+use crate::field::field_info;
 use crate::join::join_info;
+use crate::run::run_info;
 use crate::soft::soft_info;
 use crate::space::space_info;
 use crate::summary::Summary;
@@ -26,6 +28,8 @@ fn op_info(op: &Op, summary: &Summary) -> Result<Info, FilterFault>
         Op::Space(inner) => space_info(inner, summary),
         Op::Join(inner) => join_info(inner, summary),
         Op::Soft(inner) => soft_info(inner, summary),
+        Op::Field(inner) => field_info(inner, summary),
+        Op::Run(inner) => run_info(inner, summary),
     }
 }
 

@@ -1,5 +1,5 @@
 -- Frames of the inputs, one by one.
-use Rattle.std.proofs.Common.{◌≡◌, ℕ, ◌+◌, ◌-◌, ◌*◌, ◌<◌, ◌≤◌, List, [], ◌∷◌, length, map, Some, None, sym, ap, ◌∙◌, arith}
+use Rattle.std.proofs.Common.{◌≡◌, ℕ, zero, suc, ◌+◌, ◌-◌, ◌*◌, ◌<◌, ◌≤◌, List, [], ◌∷◌, length, map, Some, None, option_map, refl, sym, ap, ◌∙◌, arith}
 use Rattle.std.specs.List.{range_with_len, slice_get}
 use Rattle.std.proofs.lemmas.Option.{slice_get-get_or, slice_get_past}
 use Rattle.std.proofs.lemmas.List.{length-map}
@@ -34,6 +34,14 @@ pub around_keys : (plan : List Application) (inputs : List ℕ) (radius n : ℕ)
     → map (λ k. key_in_range plan inputs 0 (n + k - radius)) (range_with_len 0 (2 * radius + 1))
     ≡ map (key_among inputs) (map (λ k. in_range (infos_among plan inputs) (from_input 0 (n + k - radius))) (range_with_len 0 (2 * radius + 1)))
 around_keys plan inputs radius n = sym (map-map (key_among inputs) (λ k. in_range (infos_among plan inputs) (from_input 0 (n + k - radius))) (range_with_len 0 (2 * radius + 1)))
+
+-- frames of the first input, by their numbers
+pub field_keys : (plan : List Application) (inputs ks : List ℕ) (i : ℕ)
+    → slice_get (map (key_among inputs) (map (λ k. in_range (infos_among plan inputs) (from_input 0 k)) ks)) i ≡ option_map (key_in_range plan inputs 0) (slice_get ks i)
+field_keys plan inputs [] zero = refl
+field_keys plan inputs [] (suc i) = refl
+field_keys plan inputs (k ∷ ks) zero = refl
+field_keys plan inputs (k ∷ ks) (suc i) = field_keys plan inputs ks i
 
 -- THE INFOS OF ONE INPUT OR TWO
 

@@ -2,7 +2,7 @@
 use Rattle.std.proofs.Common.{◌≡◌, ℕ, ◌+◌, ◌-◌, ◌*◌, ◌<◌, List, [], ◌∷◌, length, map, get_or, None, Ok, Err, sym, ap, ◌∙◌, subst, arith}
 use Rattle.std.specs.Prelude.{IsTrue, Result}
 use Rattle.std.specs.Result.{IfOk}
-use Rattle.std.specs.List.{range_with_len}
+use Rattle.std.specs.List.{range_with_len, All}
 use Rattle.std.proofs.lemmas.List.{length-map, get_or-map}
 use Rattle.std.proofs.lemmas.List.Elements.{All-nil, All-cons}
 use Rattle.std.proofs.lemmas.List.FromFn.{fill_by_all}
@@ -26,7 +26,7 @@ use Rattle.clip_term.specs.Blank.{colour_at, plain_refusals}
 use Rattle.clip_term.specs.Time.{time_refusals, time_length, time_rate, source_number, from_input, in_range}
 use Rattle.clip_term.specs.Space.{space_refusals, space_shape, space_at, space_picture}
 use Rattle.clip_term.specs.Soft.{soft_at}
-use Rattle.clip_term.specs.ClipTerm.{Act, plain, time, space, joined, soft}
+use Rattle.clip_term.specs.ClipTerm.{Act, plain, time, space, joined, soft, fields, choice}
 use Rattle.clip_term.specs.Terms.{AreLawful, IsSound, asked, check, make, join_inputs, no_picture}
 use Rattle.clip_term.proofs.AskedLemmas.{asks_in_range}
 use Rattle.clip_term.proofs.LawfulLemmas.{checks_lawful}
@@ -38,6 +38,12 @@ use Rattle.clip_term.proofs.ListedLemmas.{listed, blank_listed}
 use Rattle.flt_space.proofs.CallerLemmas.{not_refused, shape_made}
 use Rattle.flt_merge.specs.Joined.{CanJoin, join_picture}
 use Rattle.flt_merge.proofs.CallerLemmas.{can_join, joined_is}
+use Rattle.clip_term.specs.declared.field.FieldOp.{FieldOp}
+use Rattle.clip_term.specs.Choice.{RunAct, run_inputs}
+use Rattle.flt_field.specs.Made as of_field
+use Rattle.flt_field.proofs.CallerLemmas.{can_make_field, field_is}
+use Rattle.flt_choice.specs.Shown.{picture_shown}
+use Rattle.flt_choice.proofs.CallerLemmas.{asked_shapes as each_shape, run_ready, run_made}
 use Rattle.flt_soft.specs.Pictures.{CanSoften, HaveShape, soft_picture}
 use Rattle.flt_soft.proofs.CallerLemmas as of_soft
 use Rattle.flt_soft.proofs.PictureLemmas.{some_asked}
@@ -126,13 +132,6 @@ space_made op infos info n (p ∷ rest) picture told shapes is book =
 
 -- JOIN
 
-each_shape : (infos : List Info) (n : ℕ)
-    → map (λ (o : Origin). (info_at infos o.input).shape) (map (λ i. in_range infos (from_input i n)) (range_with_len 0 (length infos))) ≡ map (λ (d : Info). d.shape) infos
-each_shape infos n =
-    map-map (λ (o : Origin). (info_at infos o.input).shape) (λ i. in_range infos (from_input i n)) (range_with_len 0 (length infos))
-    ∙ sym (fill_by_all (λ i. (info_at infos i).shape) (map (λ (d : Info). d.shape) infos) (length infos) no_info.shape (length-map infos (λ (d : Info). d.shape))
-    (λ k there. get_or-map (λ (d : Info). d.shape) infos k no_info no_info.shape there))
-
 pub join_ready : (op : JoinOp) (infos : List Info) (info : Info) (n : ℕ) (pictures : List Picture) → IsSound (joined op) (length infos) → AreLawful infos → check (joined op) infos ≡ Ok info
     → AreOfShapes (joined op) infos n pictures → CanJoin op pictures
 join_ready op infos info n pictures sound lawful told shapes =
@@ -179,6 +178,26 @@ pub soft_made : (op : SoftOp) (infos : List Info) (info : Info) (n : ℕ) (pictu
 soft_made op infos info n pictures told shapes book =
     ap (λ s. picture_from s (soft_at op s (map look_in pictures))) (soft_alike op infos n pictures shapes 0 no_picture (some_pictures op infos n pictures shapes))
     ∙ ap (λ s. picture_from s (soft_at op (info_at infos 0).shape (map look_in pictures))) (of_soft.shape_made op infos info told)
+
+-- FIELDS
+
+pub field_ready : (op : FieldOp) (infos : List Info) (info : Info) (n : ℕ) (pictures : List Picture) → IsSound (fields op) (length infos) → AreLawful infos → check (fields op) infos ≡ Ok info
+    → AreOfShapes (fields op) infos n pictures → of_field.CanMake op pictures
+field_ready op infos info n pictures sound lawful told shapes = can_make_field op infos info n pictures told shapes (is_legal (fields op) infos info sound lawful told)
+
+pub field_made : (op : FieldOp) (infos : List Info) (info c : Info) (n : ℕ) (pictures : List Picture) → c ≡ info_at infos 0 → check (fields op) infos ≡ Ok info → AreOfShapes (fields op) infos n pictures
+    → (book : List (List Picture)) → of_field.field_picture op c.field n pictures ≡ make book (fields op) infos info n pictures
+field_made op infos info c n pictures first told shapes book =
+    ap (λ (d : Info). of_field.field_picture op d.field n pictures) first ∙ field_is op infos info n pictures told shapes book
+
+-- CHOICE
+
+pub choice_ready : (op : RunAct) (infos : List Info) (n : ℕ) (pictures : List Picture) → IsSound (choice op) (length infos) → AreOfShapes (choice op) infos n pictures → IsTrue (run_inputs op (length pictures))
+choice_ready op infos n pictures sound shapes = run_ready op infos pictures sound (shapes ∙ each_shape infos n)
+
+pub choice_made : (op : RunAct) (infos : List Info) (info : Info) (n : ℕ) (pictures : List Picture) → IsSound (choice op) (length infos) → check (choice op) infos ≡ Ok info
+    → AreOfShapes (choice op) infos n pictures → All IsPicture pictures → (book : List (List Picture)) → picture_shown op n pictures ≡ make book (choice op) infos info n pictures
+choice_made op infos info n pictures sound told shapes whole book = run_made op infos info n pictures sound told (shapes ∙ each_shape infos n) whole book
 
 -- ONE COLOUR
 

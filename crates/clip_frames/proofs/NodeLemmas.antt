@@ -1,8 +1,8 @@
 -- A node and its inputs.
-use Rattle.std.proofs.Common.{◌≡◌, ℕ, zero, suc, ◌<◌, List, [], ◌∷◌, length, map, Ok, refl, sym, ap, ◌∙◌, subst, arith}
+use Rattle.std.proofs.Common.{◌≡◌, ℕ, zero, suc, ◌<◌, List, [], ◌∷◌, length, map, get_or, Ok, refl, sym, ap, ◌∙◌, subst, arith}
 use Rattle.std.specs.Prelude.{slice_index_or}
 use Rattle.std.specs.List.{All}
-use Rattle.std.proofs.lemmas.List.{length-map}
+use Rattle.std.proofs.lemmas.List.{length-map, get_or_read_under}
 use Rattle.std.proofs.lemmas.List.Elements.{All-head, All-tail}
 use Rattle.fv_plane.specs.declared.format.Info.{Info}
 use Rattle.fv_plane.specs.declared.format.Shape.{Shape}
@@ -66,3 +66,12 @@ pub asked_shapes : (plan : List Application) (i n : ℕ) → IsPlan plan → i <
 asked_shapes plan i n is within =
     let at = is_node plan i is within in
     key_shapes plan i at.count (asked (application_at plan i).act (infos_at plan i) n) (asks_in_range (application_at plan i).act (infos_at plan i) n at.sound at.lawful)
+
+-- the info of its first input, as the code reads it
+pub first_info : (plan : List Application) (i : ℕ) → IsPlan plan → i < length plan → 0 < length (infos_at plan i) → (inputs : List ℕ) (first : ℕ) (info : Info) → inputs ≡ (application_at plan i).inputs
+    → first ≡ get_or inputs 0 first → info ≡ (application_at plan first).info → info ≡ info_at (infos_at plan i) 0
+first_info plan i is within some inputs first info are first_is info_is =
+    let all = (application_at plan i).inputs in
+    let there : 0 < length all = omega (arith, some, (is_node plan i is within).count) in
+    let at : first ≡ slice_index_or all 0 0 = get_or_read_under all 0 (length all) first 0 (first_is ∙ ap (λ (l : List ℕ). get_or l 0 first) are) there refl in
+    info_is ∙ ap (λ k. (application_at plan k).info) at ∙ sym (input_info plan all 0 there)

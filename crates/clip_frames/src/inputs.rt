@@ -5,13 +5,15 @@ ghost use Rattle.clip_term.specs.ClipTerm.{act_of, time};
 ghost use Rattle.clip_term.specs.Refusals.{info_at};
 ghost use Rattle.clip_term.specs.Time.{from_input, source_number, spliced};
 ghost use Rattle.clip_term.specs.Soft.{soft_asked};
+ghost use Rattle.clip_term.specs.Field.{field_asked};
 ghost use Rattle.clip_term.specs.Terms.{asked};
 ghost use Rattle.clip_graph.specs.Plan.{infos_among};
 ghost use Rattle.clip_graph.specs.Unfolding.{IsKeyBelow, input_keys};
 ghost use Rattle.clip_frames.specs.Asked.{IsShown, key_among, key_in_range};
 
 use clip_graph::Graph;
-use clip_term::{Op, Origin, SoftOp, TimeOp};
+use clip_term::{FieldOp, Op, Origin, SoftOp, TimeOp};
+use flt_field::field_input;
 use flt_time::source_number;
 use fv_plane::{Info, Key};
 
@@ -170,6 +172,21 @@ fn soft_at(graph: &Graph, op: &SoftOp, inputs: &[u32], n: u32, i: u32) -> Option
     }
 }
 
+// The frames of the first input that a filter on fields asks.
+#[tactic(auto, using(crate::proofs::InputLemmas::field_keys))]
+fn fields_at(graph: &Graph, op: &FieldOp, inputs: &[u32], n: u32, i: u32) -> Option<Key>
+    requires nodes { All (λ j. j < length graph.now) inputs.now }
+    requires some { 0 < length inputs.now }
+    requires few { n < 1000000 }
+    ensures { result ≡ slice_get
+        (map (key_among inputs.now) (field_asked op.now (infos_among graph.now inputs.now) n)) i }
+{
+    match field_input(op, n, i) {
+        Some(number) => Some(key_in_range(graph, inputs, 0, number as u64)),
+        None => None,
+    }
+}
+
 // The frames that an op over these inputs asks.
 fn asked_at(graph: &Graph, op: &Op, inputs: &[u32], n: u32, i: u32) -> Option<Key>
     requires nodes { All (λ j. j < length graph.now) inputs.now }
@@ -183,6 +200,8 @@ fn asked_at(graph: &Graph, op: &Op, inputs: &[u32], n: u32, i: u32) -> Option<Ke
         Op::Space(_) => first_at(graph, inputs, n, i),
         Op::Join(_) => each_at(graph, inputs, n, i),
         Op::Soft(op) => soft_at(graph, op, inputs, n, i),
+        Op::Field(op) => fields_at(graph, op, inputs, n, i),
+        Op::Run(_) => each_at(graph, inputs, n, i),
     }
 }
 

@@ -7,6 +7,8 @@ ghost use Rattle.clip_frames.specs.Asked.{AreOfKeys};
 
 use clip_graph::Graph;
 use clip_term::Op;
+use flt_choice::make_run;
+use flt_field::make_field;
 use flt_merge::make_join;
 use flt_soft::{Scratch, make_soft};
 use flt_space::make_space;
@@ -27,10 +29,11 @@ fn shown(frame: &Frame) -> Result<Frame, AllocError>
 /// source reads them.
 pub fn takes_memory(op: &Op, plane: u32) -> bool {
     match op {
-        Op::Source { .. } | Op::Blank { .. } | Op::Time(_) => false,
+        Op::Source { .. } | Op::Blank { .. } | Op::Time(_) | Op::Run(_) => false,
         Op::Space(op) => flt_space::takes_memory(op, plane),
         Op::Join(op) => flt_merge::takes_memory(op),
         Op::Soft(op) => flt_soft::takes_memory(op, plane),
+        Op::Field(op) => flt_field::takes_memory(op),
     }
 }
 
@@ -52,12 +55,18 @@ pub fn make_frame(
     ensures shape { IfOk result (λ frame. frame.shape ≡ (application_at graph.now key.node).info.shape) }
 {
     prove!(key.node < graph.len());
-    match &graph.node(key.node).op {
+    let node = graph.node(key.node);
+    match &node.op {
         Op::Source { .. } => unreachable!(),
         Op::Blank { info, colour } => Frame::blank(alloc, info.shape, *colour),
         Op::Time(_) => shown(&frames[0]),
         Op::Space(op) => make_space(alloc, memory, op, &frames[0]),
         Op::Join(op) => make_join(alloc, memory, op, frames),
         Op::Soft(op) => make_soft(alloc, memory, op, frames, scratch),
+        Op::Field(op) => {
+            let clip = &graph.node(node.inputs[0]).info;
+            make_field(alloc, memory, op, clip, key.n, frames)
+        }
+        Op::Run(op) => make_run(alloc, op, key.n, frames),
     }
 }

@@ -7,3 +7,4 @@ pub mod AskedLemmas
 pub mod InfoLemmas
 pub mod TermLemmas
 pub mod SizeLemmas
+mod ChoiceLemmas

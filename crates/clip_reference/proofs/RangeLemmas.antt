@@ -12,6 +12,8 @@ use Rattle.fv_plane.specs.Format.{largest_sample}
 use Rattle.fv_plane.specs.Picture.{Picture, IsPicture}
 use Rattle.fv_plane.specs.Look.{Look, look_at, look_in, picture_from}
 use Rattle.clip_term.specs.declared.op.Origin.{Origin}
+use Rattle.clip_term.specs.declared.field.FieldOp.{FieldOp}
+use Rattle.clip_term.specs.declared.field.FieldOp.TheVariants as field_op
 use Rattle.clip_term.specs.declared.op.JoinOp.{JoinOp}
 use Rattle.clip_term.specs.declared.op.JoinOp.TheVariants as join_op
 use Rattle.clip_term.specs.declared.op.SoftOp.TheVariants as soft_op
@@ -20,16 +22,17 @@ use Rattle.clip_term.specs.Time.{source_number, from_input, in_range, time_refus
 use Rattle.clip_term.specs.Space.{space_refusals, space_shape, space_at}
 use Rattle.clip_term.specs.Join.{join_refusals, join_length, join_shape}
 use Rattle.clip_term.specs.Soft.{soft_refusals, soft_at}
-use Rattle.clip_term.specs.ClipTerm.{Act, source, plain, time, space, joined, soft, ClipTerms, no_terms, and_term}
+use Rattle.clip_term.specs.Field.{field_refusals, field_length, field_rate, field_shape, field_order, field_at, woven_from}
+use Rattle.clip_term.specs.ClipTerm.{Act, source, plain, time, space, joined, soft, fields, choice, ClipTerms, no_terms, and_term}
 use Rattle.clip_term.specs.Terms.{IsSound, AreLawful, IsAsked, check, asked, info_of, infos_of, ok_or, term_pictures, asked_picture, no_picture}
 use Rattle.clip_term.proofs.AskedLemmas.{asks_in_range}
 use Rattle.clip_term.proofs.BoundedLemmas as bounds
 use Rattle.clip_term.proofs.PassedLemmas.{Passed, passed, limits_shape, both_ok, agreed, not_false, same_format_is, same_number}
 use Rattle.clip_term.proofs.TimeLocal.{time_local}
-use Rattle.clip_reference.specs.Ready.{IsFilter, IsInRange}
+use Rattle.clip_reference.specs.Ready.{IsMade, IsInRange}
 
 -- the frame that shows what is asked has the shape of the input
-abbrev ShowsInputs : List Info → (Origin → Picture) → Type 0
+abbrev pub ShowsInputs : List Info → (Origin → Picture) → Type 0
 ShowsInputs infos shown = (o : Origin) → (shown o).shape ≡ (info_at infos o.input).shape
 
 shape_asked : (book : List (List Picture)) (row : ClipTerms) (infos : List Info) → infos_of row ≡ Ok infos → (i n : ℕ)
@@ -44,7 +47,7 @@ shape_asked book (and_term term rest) infos e (suc i) n =
     rw (← both.whole) (shape_asked book rest both.others both.others_are i n)
 
 -- the frames of the inputs' terms do
-shows_inputs : (book : List (List Picture)) (row : ClipTerms) (infos : List Info) → infos_of row ≡ Ok infos → ShowsInputs infos (asked_picture (term_pictures book row))
+pub shows_inputs : (book : List (List Picture)) (row : ClipTerms) (infos : List Info) → infos_of row ≡ Ok infos → ShowsInputs infos (asked_picture (term_pictures book row))
 shows_inputs book row infos e o = shape_asked book row infos e o.input o.number
 
 -- the inputs that are asked have samples of so many bits
@@ -95,10 +98,29 @@ join_bits join_op.StackVertical c infos = refl
 join_bits join_op.YToUV c infos = refl
 join_bits _ c infos = refl
 
+-- FIELDS
+
+same_bits : (inner : FieldOp) (shape : Shape) → shape.bits ≡ (field_shape inner shape).bits
+same_bits field_op.SeparateFields shape = refl
+same_bits field_op.Weave shape = refl
+same_bits field_op.SwapFields shape = refl
+same_bits field_op.AssumeTFF shape = refl
+same_bits field_op.AssumeBFF shape = refl
+same_bits field_op.ComplementParity shape = refl
+
+-- each sample is one of a frame
+field_bounded : (inner : FieldOp) (c : Info) (n : ℕ) (looks : List Look) → bounds.AllBounded c.shape looks → (p x y : ℕ) → field_at inner c n looks p x y ≤ largest_sample c.shape
+field_bounded field_op.SeparateFields c n looks few p x y = (bounds.bounded_at few 0).at p x _
+field_bounded field_op.Weave c n looks few p x y = (bounds.bounded_at few (woven_from c.field y)).at p x _
+field_bounded field_op.SwapFields c n looks few p x y = (bounds.bounded_at few 0).at p x _
+field_bounded field_op.AssumeTFF c n looks few p x y = (bounds.bounded_at few 0).at p x y
+field_bounded field_op.AssumeBFF c n looks few p x y = (bounds.bounded_at few 0).at p x y
+field_bounded field_op.ComplementParity c n looks few p x y = (bounds.bounded_at few 0).at p x y
+
 -- ANY FILTER
 
-in_range_made : (op : Act) (infos : List Info) (info : Info) (n : ℕ) (shown : Origin → Picture) → ShowsInputs infos shown → IsFilter op → IsSound op (length infos) → AreLawful infos → check op infos ≡ Ok info
-    → All IsPicture (map shown (asked op infos n)) → IsInRange op infos (map shown (asked op infos n)) info.shape
+in_range_made : (op : Act) (infos : List Info) (info : Info) (n : ℕ) (shown : Origin → Picture) → ShowsInputs infos shown → IsMade op → IsSound op (length infos) → AreLawful infos → check op infos ≡ Ok info
+    → All IsPicture (map shown (asked op infos n)) → IsInRange op infos n (map shown (asked op infos n)) info.shape
 in_range_made (source name number told) infos info n shown shows filter sound lawful e are = absurd filter
 in_range_made (plain told colour) infos info n shown shows filter sound lawful e are = absurd filter
 in_range_made (time inner) infos info n shown shows filter sound lawful e are =
@@ -149,10 +171,22 @@ in_range_made (soft (soft_op.GeneralConvolution bias matrix)) infos info n shown
     let looks : List Look = map look_in (map shown (asked (soft inner) infos n)) in
     let few = bounds.convolve_bounded c.shape bias matrix looks in
     λ p x y. subst (λ (s : Shape). soft_at inner c.shape looks p x y ≤ largest_sample s) (limits_shape c c.frames (rate_of c) c.shape info told.1) (few.at p x y)
+in_range_made (fields inner) infos info n shown shows filter sound lawful e are =
+    let c = info_at infos 0 in
+    let shape = field_shape inner c.shape in
+    let to = record c { field = field_order inner c.field } in
+    let told = passed (field_refusals inner c.shape) (limits to (field_length inner c.frames) (field_rate inner c) shape) info e in
+    let os = asked (fields inner) infos n in
+    let bits = all_have infos c.shape.bits os (asks_in_range (fields inner) infos n sound lawful)
+    (λ i h. let first : i ≡ 0 = omega arith in ap (λ k. (info_at infos k).shape.bits) first) in
+    let few = all_bounded infos shown shows c.shape os bits are in
+    let same = same_bits inner c.shape ∙ ap (λ (s : Shape). s.bits) (limits_shape to (field_length inner c.frames) (field_rate inner c) shape info told.1) in
+    λ p x y. subst (λ (b : ℕ). field_at inner c n (map look_in (map shown os)) p x y ≤ 2 ^ b - 1) same (field_bounded inner c n (map look_in (map shown os)) few p x y)
+in_range_made (choice inner) infos info n shown shows filter sound lawful e are = absurd filter
 
 -- so what a term's filter makes of its inputs' frames is in range
-pub made_in_range : (book : List (List Picture)) (row : ClipTerms) (op : Act) (infos : List Info) (info : Info) (n : ℕ) (pictures : List Picture) → infos_of row ≡ Ok infos → IsFilter op → IsSound op (length infos)
-    → AreLawful infos → check op infos ≡ Ok info → pictures ≡ map (asked_picture (term_pictures book row)) (asked op infos n) → All IsPicture pictures → IsInRange op infos pictures info.shape
+pub made_in_range : (book : List (List Picture)) (row : ClipTerms) (op : Act) (infos : List Info) (info : Info) (n : ℕ) (pictures : List Picture) → infos_of row ≡ Ok infos → IsMade op → IsSound op (length infos)
+    → AreLawful infos → check op infos ≡ Ok info → pictures ≡ map (asked_picture (term_pictures book row)) (asked op infos n) → All IsPicture pictures → IsInRange op infos n pictures info.shape
 made_in_range book row op infos info n pictures told filter sound lawful e same are =
     let shown = asked_picture (term_pictures book row) in
     rw same (in_range_made op infos info n shown (shows_inputs book row infos told) filter sound lawful e (rw same at are))

@@ -12,24 +12,27 @@ use Rattle.fv_io.specs.declared.text.Text.{Text}
 use Rattle.clip_term.specs.declared.op.Op.{Op}
 use Rattle.clip_term.specs.declared.op.Op.TheVariants as code_op
 use Rattle.clip_term.specs.declared.op.SoftOp.TheVariants as op
+use Rattle.clip_term.specs.declared.run.RunOp.{RunOp}
 use Rattle.fv_plane.specs.Refusals.{first_fault}
 use Rattle.clip_term.specs.Refusals.{info_at, rate_of, nat_of, unless, limits}
 use Rattle.clip_term.specs.Time.{from_input, in_range}
 use Rattle.clip_term.specs.Space.{space_refusals, space_shape}
-use Rattle.clip_term.specs.ClipTerm.{Act, source, plain, time, space, joined, soft, act_of}
+use Rattle.clip_term.specs.ClipTerm.{Act, source, plain, time, space, joined, soft, fields, choice, act_of}
 use Rattle.clip_term.specs.Terms.{sample, make, check, asked, IsSound, AreLawful}
 use Rattle.clip_term.proofs.PassedLemmas.{both}
-use Rattle.clip_reference.specs.Ready.{IsReady, IsFilter}
+use Rattle.clip_reference.specs.Ready.{IsReady, IsFilter, IsMade}
 
--- what a filter makes is the same in each book, at each number
-pub made_same : (op : Act) (infos : List Info) (info : Info) (pictures : List Picture) (k : ℕ) → IsReady op infos k → (book : List (List Picture)) (n : ℕ)
-    → picture_from info.shape (sample [] op infos 0 (map look_in pictures)) ≡ make book op infos info n pictures
-made_same (source name number told) infos info pictures k ready book n = absurd ready
-made_same (plain told colour) infos info pictures k ready book n = absurd ready
-made_same (time op) infos info pictures k ready book n = refl
-made_same (space op) infos info pictures k ready book n = refl
-made_same (joined op) infos info pictures k ready book n = refl
-made_same (soft op) infos info pictures k ready book n = refl
+-- what a filter makes is the same in each book
+pub made_same : (op : Act) (infos : List Info) (info : Info) (n : ℕ) (pictures : List Picture) (k : ℕ) → IsReady op infos k → (book : List (List Picture))
+    → picture_from info.shape (sample [] op infos n (map look_in pictures)) ≡ make book op infos info n pictures
+made_same (source name number told) infos info n pictures k ready book = absurd ready
+made_same (plain told colour) infos info n pictures k ready book = absurd ready
+made_same (time op) infos info n pictures k ready book = refl
+made_same (space op) infos info n pictures k ready book = refl
+made_same (joined op) infos info n pictures k ready book = refl
+made_same (soft op) infos info n pictures k ready book = refl
+made_same (fields op) infos info n pictures k ready book = refl
+made_same (choice op) infos info n pictures k ready book = absurd ready
 
 no_fault : (o : Option FilterFault) (rest : Result Info FilterFault) (info : Info) → unless o rest ≡ Ok info → o ≡ None
 no_fault (Some fault) rest info e = cc
@@ -39,7 +42,7 @@ small_matrix : (k : ℕ) → k == 9 || k == 25 ≡ true → k ≤ 25
 small_matrix k e = grind (arith, nat_tests)
 
 -- a filter that is accepted is ready for the frames that it asks
-pub ready : (inner : Act) (infos : List Info) (info : Info) (n k : ℕ) → IsFilter inner → IsSound inner (length infos) → AreLawful infos → check inner infos ≡ Ok info → k ≡ length (asked inner infos n)
+pub ready : (inner : Act) (infos : List Info) (info : Info) (n k : ℕ) → IsMade inner → IsSound inner (length infos) → AreLawful infos → check inner infos ≡ Ok info → k ≡ length (asked inner infos n)
     → IsReady inner infos k
 ready (source name number told) infos info n k filter sound lawful e long = absurd filter
 ready (plain told colour) infos info n k filter sound lawful e long = absurd filter
@@ -57,6 +60,8 @@ ready (soft (op.GeneralConvolution bias matrix)) infos info n k filter sound law
     let one = sound.0 in
     let tests = both (length matrix.entries == 9 || length matrix.entries == 25) _ sound.1 in
     (omega arith, (omega arith, small_matrix (length matrix.entries) tests.0), (lawful 0 (omega arith)).shape)
+ready (fields inner) infos info n k filter sound lawful e long = omega arith
+ready (choice inner) infos info n k filter sound lawful e long = absurd filter
 
 -- an op that is neither a source nor a clip of one colour
 pub filter_is : (code : Op) → ((name : Text) (number : ℕ) (told : Info) → code ≡ code_op.Source name number told → ⊥)
@@ -67,3 +72,16 @@ filter_is (code_op.Time inner) no_source no_blank = tt
 filter_is (code_op.Space inner) no_source no_blank = tt
 filter_is (code_op.Join inner) no_source no_blank = tt
 filter_is (code_op.Soft inner) no_source no_blank = tt
+filter_is (code_op.Field inner) no_source no_blank = tt
+filter_is (code_op.Run inner) no_source no_blank = tt
+
+-- nor a choice
+pub made_is : (code : Op) → IsFilter (act_of code) → ((inner : RunOp) → code ≡ code_op.Run inner → ⊥) → IsMade (act_of code)
+made_is (code_op.Source name number told) filter no_choice = filter
+made_is (code_op.Blank told colour) filter no_choice = filter
+made_is (code_op.Time inner) filter no_choice = tt
+made_is (code_op.Space inner) filter no_choice = tt
+made_is (code_op.Join inner) filter no_choice = tt
+made_is (code_op.Soft inner) filter no_choice = tt
+made_is (code_op.Field inner) filter no_choice = tt
+made_is (code_op.Run inner) filter no_choice = no_choice inner refl

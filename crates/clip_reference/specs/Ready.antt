@@ -10,7 +10,7 @@ use Rattle.clip_term.specs.declared.op.SoftOp.{SoftOp}
 use Rattle.clip_term.specs.declared.op.SoftOp.TheVariants as op
 use Rattle.clip_term.specs.Refusals.{nat_of, info_at}
 use Rattle.clip_term.specs.Space.{space_refusals}
-use Rattle.clip_term.specs.ClipTerm.{Act, source, plain, time, space, joined, soft}
+use Rattle.clip_term.specs.ClipTerm.{Act, source, plain, time, space, joined, soft, fields, choice}
 use Rattle.clip_term.specs.Terms.{sample}
 
 -- as many frames as the op asks, and a matrix of at most 25 entries
@@ -24,6 +24,11 @@ IsFilter (source name number info) = ⊥
 IsFilter (plain info colour) = ⊥
 IsFilter _ = Unit {0}
 
+-- one whose frames are made sample by sample: a choice shows a frame as it is
+abbrev pub IsMade : Act → Type 0
+IsMade (choice op) = ⊥
+IsMade act = IsFilter act
+
 -- a filter that refuses nothing, with its clips and as many frames as it asks
 abbrev pub IsReady : Act → List Info → ℕ → Type 0
 IsReady (source name number info) infos k = ⊥
@@ -34,8 +39,10 @@ IsReady (space op) infos k =
     × IsLegal (info_at infos 0).shape
 IsReady (joined op) infos k = k ≡ length infos
 IsReady (soft op) infos k = (0 < length infos) × HasNeighbours op k × IsLegal (info_at infos 0).shape
+IsReady (fields op) infos k = 0 < length infos
+IsReady (choice op) infos k = ⊥
 
--- no sample that an op makes of these pictures is over the largest one of a shape
-abbrev pub IsInRange : Act → List Info → List Picture → Shape → Type 0
-IsInRange op infos pictures shape =
-    (p x y : ℕ) → sample [] op infos 0 (map look_in pictures) p x y ≤ largest_sample shape
+-- no sample that an op makes of these pictures for frame n is over the largest one of a shape
+abbrev pub IsInRange : Act → List Info → ℕ → List Picture → Shape → Type 0
+IsInRange op infos n pictures shape =
+    (p x y : ℕ) → sample [] op infos n (map look_in pictures) p x y ≤ largest_sample shape

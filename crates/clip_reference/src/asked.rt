@@ -1,18 +1,19 @@
 // The frames that an op asks.
-ghost use Rattle.std.specs.Prelude.{◌≡◌, ◌<◌, ◌+◌, ◌-◌, ◌*◌, ◌^◌, [], ◌∷◌, length, map, IfOk, IsOkAnd};
+ghost use Rattle.std.specs.Prelude.{◌≡◌, ◌<◌, ◌+◌, ◌-◌, ◌*◌, [], ◌∷◌, length, map, IfOk, IsOkAnd};
 ghost use Rattle.std.specs.List.{range_with_len};
 ghost use Rattle.fv_plane.specs.declared.format.Info.{Info};
 ghost use Rattle.clip_term.specs.ClipTerm.{act_of};
 ghost use Rattle.clip_term.specs.Time.{from_input, in_range};
 ghost use Rattle.clip_term.specs.Soft.{soft_asked};
+ghost use Rattle.clip_term.specs.Field.{field_asked};
 ghost use Rattle.clip_term.specs.Terms.{AreLawful, IsSound, asked, check};
 
-use clip_term::{Op, Origin, SoftOp};
+use clip_term::{FieldOp, Op, Origin, SoftOp};
 use flt_time::source_number;
 use fv_plane::Info;
 use std::alloc::{AllocError, Global};
 
-/// The frames that the op asks for frame `n`, in order. An `Err` is out of memory.
+/// The frames that the op asks for frame `n`, in order. An `Err` is out of memory, or more clips than can be numbered.
 pub fn asked(alloc: Global, op: &Op, infos: &[Info], n: u32) -> Result<Vec<Origin>, AllocError>
     requires sound { IsSound (act_of op.now) (length infos.now) }
     requires lawful { AreLawful infos.now }
@@ -23,8 +24,9 @@ pub fn asked(alloc: Global, op: &Op, infos: &[Info], n: u32) -> Result<Vec<Origi
         Op::Source { .. } | Op::Blank { .. } => Ok(Vec::new(alloc)),
         Op::Time(op) => one(alloc, source_number(op, infos, n)),
         Op::Space(_) => one(alloc, in_range(infos, 0, n as u64)),
-        Op::Join(_) => one_of_each(alloc, infos, n),
+        Op::Join(_) | Op::Run(_) => one_of_each(alloc, infos, n),
         Op::Soft(op) => neighbours(alloc, op, infos, n),
+        Op::Field(op) => fields(alloc, op, infos, n),
     }
 }
 
@@ -49,15 +51,34 @@ fn in_range(infos: &[Info], input: u32, number: u64) -> Origin
 }
 
 fn one_of_each(alloc: Global, infos: &[Info], n: u32) -> Result<Vec<Origin>, AllocError>
-    requires few { length infos.now < 2 ^ 32 }
     ensures { IfOk result (λ origins. origins.items
         ≡ map (λ i. in_range infos.now (from_input i n)) (range_with_len 0 (length infos.now))) }
 {
+    let Ok(count) = u32::try_from(infos.len()) else {
+        return Err(AllocError);
+    };
     let mut origins = Vec::new(alloc);
-    for i in 0..infos.len() {
-        origins.push(in_range(infos, i as u32, n as u64))?;
+    for i in 0..count {
+        origins.push(in_range(infos, i, n as u64))?;
     }
     Ok(origins)
+}
+
+// The frames of the clip that a filter on fields takes apart or puts together.
+fn fields(alloc: Global, op: &FieldOp, infos: &[Info], n: u32) -> Result<Vec<Origin>, AllocError>
+    requires { 0 < length infos.now }
+    ensures { IfOk result (λ origins. origins.items ≡ field_asked op.now infos.now n) }
+{
+    match op {
+        FieldOp::SeparateFields => one(alloc, in_range(infos, 0, n as u64 / 2)),
+        FieldOp::Weave => {
+            let mut origins = one(alloc, in_range(infos, 0, 2 * n as u64))?;
+            origins.push(in_range(infos, 0, 2 * n as u64 + 1))?;
+            Ok(origins)
+        }
+        FieldOp::SwapFields | FieldOp::AssumeTFF | FieldOp::AssumeBFF | FieldOp::ComplementParity =>
+            one(alloc, in_range(infos, 0, n as u64)),
+    }
 }
 
 fn neighbours(alloc: Global, op: &SoftOp, infos: &[Info], n: u32) -> Result<Vec<Origin>, AllocError>

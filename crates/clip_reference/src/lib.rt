@@ -6,6 +6,7 @@
 
 pub mod asked;
 mod book;
+mod field;
 mod join;
 pub mod make;
 mod place;

@@ -8,6 +8,7 @@ ghost use Rattle.clip_term.specs.ClipTerm.{act_of};
 ghost use Rattle.clip_term.specs.Terms.{sample, make};
 ghost use Rattle.clip_reference.specs.Ready.{IsReady, IsInRange};
 
+use crate::field::field_sample;
 use crate::join::join_sample;
 use crate::place::look;
 use crate::soft::soft_sample;
@@ -16,18 +17,19 @@ use clip_term::Op;
 use fv_plane::{Frame, FrameBuilder, Info, Shape, write_samples};
 use std::alloc::{AllocError, Global};
 
-/// The frame that a filter makes of the frames that it asks. An `Err` is out of memory.
+/// The frame `n` that a filter makes of the frames that it asks, sample by sample. An `Err` is out of memory.
 pub fn made(
     alloc: Global,
     op: &Op,
     infos: &[Info],
     info: Info,
+    n: u32,
     frames: &[Frame],
 ) -> Result<Frame, AllocError>
     requires legal { IsLegal info.shape }
     requires ready { IsReady (act_of op.now) infos.now (length frames.now) }
-    requires fits { IsInRange (act_of op.now) infos.now frames.now info.shape }
-    ensures { IfOk result (λ frame. (book : List (List Picture)) (n : ℕ)
+    requires fits { IsInRange (act_of op.now) infos.now n frames.now info.shape }
+    ensures { IfOk result (λ frame. (book : List (List Picture))
         → frame ≡ make book (act_of op.now) infos.now info n frames.now) }
 {
     let shape = info.shape;
@@ -38,7 +40,7 @@ pub fn made(
         let samples = samples.as_mut_slice();
         let row = bytes.as_mut_slice();
         for y in 0..shape.plane_height(plane) {
-            fill_row(op, infos, frames, plane, y, samples);
+            fill_row(op, infos, n, frames, plane, y, samples);
             write_row(shape, samples, row);
             made.put_row(plane, y, row);
         }
@@ -70,29 +72,30 @@ fn narrow_samples(samples: &[u16], bytes: &mut [u8])
     }
 }
 
-fn fill_row(op: &Op, infos: &[Info], frames: &[Frame], plane: u32, y: u32, row: &mut [u16])
+fn fill_row(op: &Op, infos: &[Info], n: u32, frames: &[Frame], plane: u32, y: u32, row: &mut [u16])
     requires ready { IsReady (act_of op.now) infos.now (length frames.now) }
     requires narrow { length row.old < 2 ^ 32 }
     requires fits { (x : ℕ)
-        → sample [] (act_of op.now) infos.now 0 (map look_in frames.now) plane x y ≤ 65535 }
+        → sample [] (act_of op.now) infos.now n (map look_in frames.now) plane x y ≤ 65535 }
     ensures { row.new
-        ≡ row_from (sample [] (act_of op.now) infos.now 0 (map look_in frames.now)) plane (length row.old) y }
+        ≡ row_from (sample [] (act_of op.now) infos.now n (map look_in frames.now)) plane (length row.old) y }
 {
     for x in 0..row.len() {
-        row[x] = sample(op, infos, frames, plane, x as u32, y);
+        row[x] = sample(op, infos, n, frames, plane, x as u32, y);
     }
 }
 
-fn sample(op: &Op, infos: &[Info], frames: &[Frame], plane: u32, x: u32, y: u32) -> u16
+fn sample(op: &Op, infos: &[Info], n: u32, frames: &[Frame], plane: u32, x: u32, y: u32) -> u16
     requires ready { IsReady (act_of op.now) infos.now (length frames.now) }
-    requires fits { sample [] (act_of op.now) infos.now 0 (map look_in frames.now) plane x y ≤ 65535 }
-    ensures { result ≡ sample [] (act_of op.now) infos.now 0 (map look_in frames.now) plane x y }
+    requires fits { sample [] (act_of op.now) infos.now n (map look_in frames.now) plane x y ≤ 65535 }
+    ensures { result ≡ sample [] (act_of op.now) infos.now n (map look_in frames.now) plane x y }
 {
     match op {
-        Op::Source { .. } | Op::Blank { .. } => unreachable!(),
+        Op::Source { .. } | Op::Blank { .. } | Op::Run(_) => unreachable!(),
         Op::Time(_) => look(&frames[0], plane, x as u64, y as u64),
         Op::Space(op) => space_sample(op, infos[0].shape, &frames[0], plane, x, y),
         Op::Join(op) => join_sample(op, infos, frames, plane, x, y),
         Op::Soft(op) => soft_sample(op, infos[0].shape, frames, plane, x, y),
+        Op::Field(op) => field_sample(op, infos[0].field, n, frames, plane, x, y),
     }
 }

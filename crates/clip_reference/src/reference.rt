@@ -10,6 +10,7 @@ use crate::asked::asked;
 use crate::make::made;
 use clip_check::{check, info};
 use clip_term::{Op, Term};
+use flt_choice::make_run;
 use fv_plane::{Frame, Info};
 use std::alloc::{AllocError, Global};
 
@@ -36,8 +37,11 @@ pub fn reference_frame(alloc: Global, term: &Term, n: u32, book: &Book) -> Resul
         let _ = frame.shape();
         frames.push(frame)?;
     }
+    if let Op::Run(op) = &term.op {
+        return make_run(alloc, op, n, &frames);
+    }
     match check(&term.op, &infos) {
-        Ok(info) => made(alloc, &term.op, &infos, info, &frames),
+        Ok(info) => made(alloc, &term.op, &infos, info, n, &frames),
         Err(_) => unreachable!(),
     }
 }

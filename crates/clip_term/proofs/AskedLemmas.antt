@@ -1,5 +1,5 @@
 -- The frames that a filter asks are frames of its inputs.
-use Rattle.std.proofs.Common.{◌≡◌, ℕ, zero, suc, ◌+◌, ◌-◌, ◌*◌, ◌%◌, ◌<◌, ◌≤◌, List, [], ◌∷◌, length, map, arith, Bool, true, false}
+use Rattle.std.proofs.Common.{◌/◌, ◌≡◌, ℕ, zero, suc, ◌+◌, ◌-◌, ◌*◌, ◌%◌, ◌<◌, ◌≤◌, List, [], ◌∷◌, length, map, arith, Bool, true, false}
 use Rattle.std.specs.Prelude.{◌==◌, nat_lt, nat_le, if◌then◌else◌}
 use Rattle.std.specs.List.{range_with_len, All}
 use Rattle.std.proofs.lemmas.List.Elements.{All-nil, All-cons}
@@ -11,7 +11,9 @@ use Rattle.clip_term.specs.declared.op.TimeOp.TheVariants as time_op
 use Rattle.clip_term.specs.declared.op.SoftOp.TheVariants as soft_op
 use Rattle.clip_term.specs.Refusals.{info_at, nat_of}
 use Rattle.clip_term.specs.Time.{frame_at, from_input, in_range, spliced, is_between}
-use Rattle.clip_term.specs.ClipTerm.{source, plain, time, space, joined, soft}
+use Rattle.clip_term.specs.declared.field.FieldOp.{FieldOp}
+use Rattle.clip_term.specs.Field.{field_numbers, field_asked}
+use Rattle.clip_term.specs.ClipTerm.{source, plain, time, space, joined, soft, fields, choice}
 use Rattle.clip_term.specs.Terms.{AreLawful, time_inputs, time_lists, IsAsked, AsksInRange}
 use Rattle.clip_term.proofs.PassedLemmas.{both}
 
@@ -57,6 +59,11 @@ all_asked infos f a (suc k) each =
 one_asked : (infos : List Info) (o : Origin) → IsAsked infos o → All (IsAsked infos) (o ∷ [])
 one_asked infos o is = All-cons (IsAsked infos) o [] is (All-nil (IsAsked infos))
 
+each_number : (infos : List Info) (ks : List ℕ) → AreLawful infos → 0 < length infos → All (IsAsked infos) (map (λ k. in_range infos (from_input 0 k)) ks)
+each_number infos [] lawful h = All-nil (IsAsked infos)
+each_number infos (k ∷ ks) lawful h =
+    All-cons (IsAsked infos) (in_range infos (from_input 0 k)) (map (λ j. in_range infos (from_input 0 j)) ks) (ranged infos lawful (from_input 0 k) h) (each_number infos ks lawful h)
+
 pub asks_in_range : AsksInRange
 asks_in_range (source name number info) infos n sound lawful = All-nil (IsAsked infos)
 asks_in_range (plain info colour) infos n sound lawful = All-nil (IsAsked infos)
@@ -74,3 +81,6 @@ asks_in_range (soft (soft_op.TemporalSoften radius luma chroma)) infos n sound l
 asks_in_range (soft (soft_op.GeneralConvolution bias matrix)) infos n sound lawful =
     let one = sound.0 in
     one_asked infos (in_range infos (from_input 0 n)) (ranged infos lawful (from_input 0 n) (omega arith))
+asks_in_range (fields op) infos n sound lawful = each_number infos (field_numbers op n) lawful (omega arith)
+asks_in_range (choice op) infos n sound lawful =
+    all_asked infos (λ i. in_range infos (from_input i n)) 0 (length infos) (λ i h. ranged infos lawful (from_input i n) (omega arith))

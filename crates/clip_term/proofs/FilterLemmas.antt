@@ -50,6 +50,14 @@ by_number filter.YToUV = refl
 by_number filter.TemporalSoften = refl
 by_number filter.GeneralConvolution = refl
 by_number filter.ConvertBits = refl
+by_number filter.SeparateFields = refl
+by_number filter.Weave = refl
+by_number filter.SwapFields = refl
+by_number filter.AssumeTFF = refl
+by_number filter.AssumeBFF = refl
+by_number filter.ComplementParity = refl
+by_number filter.ConditionalSelect = refl
+by_number filter.ConditionalFilter = refl
 
 some_same : {A : Type 0} (a b : A) → Some a ≡ Some b → a ≡ b
 some_same a b e = cc

@@ -26,7 +26,11 @@ use Rattle.clip_term.specs.Space.{space_refusals, space_shape, size_from, is_no_
 use Rattle.clip_term.specs.Join.{join_refusals, join_length, join_shape, has_sizes, kind_of}
 use Rattle.clip_term.specs.Soft.{soft_refusals}
 use Rattle.clip_term.specs.Blank.{plain_refusals}
-use Rattle.clip_term.specs.ClipTerm.{source, plain, time, space, joined, soft}
+use Rattle.clip_term.specs.declared.field.FieldOp.{FieldOp}
+use Rattle.clip_term.specs.declared.field.FieldOp.TheVariants as field_op
+use Rattle.clip_term.specs.Field.{field_refusals, field_length, field_rate, field_shape, field_order, has_fields}
+use Rattle.clip_term.specs.Choice.{RunAct, choose, decide, run_refusals, run_base, run_inputs}
+use Rattle.clip_term.specs.ClipTerm.{source, plain, time, space, joined, soft, fields, choice}
 use Rattle.clip_term.specs.Terms.{time_inputs, time_lists, join_inputs, AreLawful, ChecksLawful}
 use Rattle.clip_term.proofs.PassedLemmas.{Passed, passed, or_false, both, not_false, all_at, same_format_is, same_number}
 use Rattle.clip_term.proofs.JoinLocal.{found, some_kind}
@@ -373,6 +377,42 @@ join_sized join_op.Merge infos lawful sound told = sized_of (info_at infos 0).sh
 join_sized join_op.MergeLuma infos lawful sound told = sized_of (info_at infos 0).shape (lawful 0 (join_some join_op.MergeLuma (length infos) sound)).shape
 join_sized join_op.MergeChroma infos lawful sound told = sized_of (info_at infos 0).shape (lawful 0 (join_some join_op.MergeChroma (length infos) sound)).shape
 
+-- GROUP FIELD
+
+half_whole : (k : PixelType) (h : ℕ) → 0 < h → h % (2 * sub_h k) ≡ 0 → (0 < h / 2) × (h / 2 % sub_h k ≡ 0)
+half_whole Y8 h g e = (omega arith, omega arith)
+half_whole YV12 h g e = (omega arith, omega arith)
+half_whole YV16 h g e = (omega arith, omega arith)
+half_whole YV24 h g e = (omega arith, omega arith)
+half_whole YV411 h g e = (omega arith, omega arith)
+
+twice_whole : (k : PixelType) (h : ℕ) → h % sub_h k ≡ 0 → 2 * h % sub_h k ≡ 0
+twice_whole Y8 h e = omega arith
+twice_whole YV12 h e = omega arith
+twice_whole YV16 h e = omega arith
+twice_whole YV24 h e = omega arith
+twice_whole YV411 h e = omega arith
+
+field_sized : (op : FieldOp) (shape : Shape) → IsSized shape → Passed (field_refusals op shape) → IsSized (field_shape op shape)
+field_sized field_op.SeparateFields shape fits told =
+    let whole = same_number (shape.height % (2 * sub_h shape.kind)) 0 (not_false (has_fields shape) told.0) in
+    let half = half_whole shape.kind shape.height fits.some_height whole in
+    record { depth = fits.depth; some_width = fits.some_width; some_height = half.0; whole_width = fits.whole_width; whole_height = half.1 }
+field_sized field_op.Weave shape fits told =
+    record { depth = fits.depth; some_width = fits.some_width; some_height = (let h = fits.some_height in omega arith); whole_width = fits.whole_width; whole_height = twice_whole shape.kind shape.height fits.whole_height }
+field_sized _ shape fits told = fits
+
+field_some : (op : FieldOp) (c : Info) → IsLawful c → IsSome (field_rate op c)
+field_some field_op.SeparateFields c lawful = record { num = let h = lawful.rate.some_num in omega arith; den = lawful.rate.some_den }
+field_some field_op.Weave c lawful = halved c lawful
+field_some _ c lawful = own c lawful
+
+-- GROUP RUN
+
+run_lawful : (op : RunAct) (infos : List Info) → AreLawful infos → run_inputs op (length infos) ≡ true → IsLawful (run_base op infos)
+run_lawful (choose e) infos lawful sound = lawful 0 (two_listed (length infos) sound)
+run_lawful (decide e op f) infos lawful sound = lawful 1 (let three = same_number (length infos) 3 sound in omega arith)
+
 -- EVERY OP
 
 time_some_input : (op : TimeOp) (k : ℕ) → time_inputs op k ≡ true → 0 < k
@@ -419,4 +459,17 @@ checks_lawful (soft op) infos info sound lawful e =
     let one = sound.0 in
     let first = lawful 0 (omega arith) in
     let told = passed (soft_refusals op) (limits c c.frames (rate_of c) c.shape) info e in
+    limits_lawful c c.frames (rate_of c) c.shape info told.1 first.par first.rate.some_num first.rate.some_den (sized_of c.shape first.shape)
+checks_lawful (fields op) infos info sound lawful e =
+    let c = info_at infos 0 in
+    let first = lawful 0 (omega arith) in
+    let base : Info = record c { field = field_order op c.field } in
+    let told = passed (field_refusals op c.shape) (limits base (field_length op c.frames) (field_rate op c) (field_shape op c.shape)) info e in
+    let some = field_some op c first in
+    limits_lawful base (field_length op c.frames) (field_rate op c) (field_shape op c.shape) info told.1 first.par some.num some.den
+    (field_sized op c.shape (sized_of c.shape first.shape) told.0)
+checks_lawful (choice op) infos info sound lawful e =
+    let c = run_base op infos in
+    let first = run_lawful op infos lawful sound in
+    let told = passed (run_refusals op infos) (limits c c.frames (rate_of c) c.shape) info e in
     limits_lawful c c.frames (rate_of c) c.shape info told.1 first.par first.rate.some_num first.rate.some_den (sized_of c.shape first.shape)

@@ -11,6 +11,10 @@ pub mod TimeLocal
 pub mod SpaceLocal
 pub mod JoinLocal
 pub mod SoftLocal
+pub mod WordLemmas
+pub mod ChoiceLocal
+pub mod FieldLocal
+pub mod WeaveLemmas
 pub mod PictureLemmas
 pub mod LawfulLemmas
 pub mod LimitLemmas

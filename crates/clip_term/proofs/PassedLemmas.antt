@@ -70,7 +70,7 @@ same_format_is a b e =
     let two = both (same_kind a.kind b.kind) (a.bits == b.bits) e in
     (same_kind_is a.kind b.kind two.0, same_number a.bits b.bits two.1)
 
-same_shape : (a b : Shape) → a.kind ≡ b.kind → a.bits ≡ b.bits → a.width ≡ b.width → a.height ≡ b.height → a ≡ b
+pub same_shape : (a b : Shape) → a.kind ≡ b.kind → a.bits ≡ b.bits → a.width ≡ b.width → a.height ≡ b.height → a ≡ b
 same_shape a b e d f g =
     let one : PixelType → Shape = λ k. record { kind = k; bits = a.bits; width = a.width; height = a.height } in
     let two : ℕ → Shape = λ n. record { kind = b.kind; bits = n; width = a.width; height = a.height } in

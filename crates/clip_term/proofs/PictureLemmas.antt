@@ -14,8 +14,12 @@ use Rattle.clip_term.specs.Time.{time_refusals, time_length, time_rate}
 use Rattle.clip_term.specs.Space.{space_refusals, space_shape, space_at}
 use Rattle.clip_term.specs.Join.{join_refusals, join_length, join_shape, join_at}
 use Rattle.clip_term.specs.Soft.{soft_refusals, soft_at}
+use Rattle.clip_term.specs.Field.{field_refusals, field_length, field_rate, field_shape, field_order, field_at}
+use Rattle.clip_term.specs.Choice.{run_refusals, run_base, run_at}
+use Rattle.clip_term.proofs.ChoiceLocal.{run_local}
+use Rattle.clip_term.proofs.FieldLocal.{field_local}
 use Rattle.clip_term.proofs.SoundLemmas.{counted, sounds_lawful}
-use Rattle.clip_term.specs.ClipTerm.{Act, source, plain, time, space, joined, soft, ClipTerm, applied, ClipTerms, no_terms, and_term}
+use Rattle.clip_term.specs.ClipTerm.{Act, source, plain, time, space, joined, soft, fields, choice, ClipTerm, applied, ClipTerms, no_terms, and_term}
 use Rattle.clip_term.specs.Terms.{IsSound, IsSoundTerm, AreSoundTerms, inputs_of, AreLawful, check, asked, sample, then_check, info_of, infos_of, term_sample, term_samples, looks_of, term_picture, term_pictures, asked_picture, no_picture, MakesPictures}
 use Rattle.fv_plane.proofs.LookLemmas.{Agree, picture_same, agree_look}
 use Rattle.clip_term.proofs.PassedLemmas.{passed, limits_shape, both_ok}
@@ -66,6 +70,19 @@ local book (soft (soft_op.GeneralConvolution bias matrix)) infos info n fit lawf
     let told = passed (soft_refusals op) (limits c c.frames (rate_of c) c.shape) info e in
     on_shape c.shape info.shape (soft_at op c.shape ls) (soft_at op c.shape ms) (limits_shape c c.frames (rate_of c) c.shape info told.1)
     (record { same = λ p x y i. convolve_local bias matrix.entries c.shape (look_at ls 0) (look_at ms 0) ((first_seen seen).on c.shape (λ h. refl)) p x y i })
+local book (fields op) infos info n fit lawful e ls ms seen =
+    let c = info_at infos 0 in
+    let shape = field_shape op c.shape in
+    let base : Info = record c { field = field_order op c.field } in
+    let told = passed (field_refusals op c.shape) (limits base (field_length op c.frames) (field_rate op c) shape) info e in
+    let first = (lawful 0 (omega arith)).shape in
+    on_shape shape info.shape (field_at op c n ls) (field_at op c n ms) (limits_shape base (field_length op c.frames) (field_rate op c) shape info told.1)
+    (field_local op infos n ls ms told.0 first.whole_height seen)
+local book (choice op) infos info n fit lawful e ls ms seen =
+    let c = run_base op infos in
+    let told = passed (run_refusals op infos) (limits c c.frames (rate_of c) c.shape) info e in
+    on_shape c.shape info.shape (run_at op infos n ls) (run_at op infos n ms) (limits_shape c c.frames (rate_of c) c.shape info told.1)
+    (run_local op infos n told.0 fit (seen_each infos n seen))
 
 -- THE TREE: each input's picture looks as its samples, inside
 

@@ -6,6 +6,8 @@ use Rattle.clip_term.specs.declared.op.TimeOp.{TimeOp}
 use Rattle.clip_term.specs.declared.op.SpaceOp.{SpaceOp}
 use Rattle.clip_term.specs.declared.op.JoinOp.{JoinOp}
 use Rattle.clip_term.specs.declared.op.SoftOp.{SoftOp}
+use Rattle.clip_term.specs.declared.field.FieldOp.{FieldOp}
+use Rattle.clip_term.specs.Choice.{RunAct, run_act}
 use Rattle.clip_term.specs.declared.op.Op.{Op}
 use Rattle.clip_term.specs.declared.op.Op.TheVariants as op
 use Rattle.clip_term.specs.declared.term.Term.{Term}
@@ -20,6 +22,8 @@ pub data Act : Type 0 where
   space : SpaceOp → Act
   joined : JoinOp → Act
   soft : SoftOp → Act
+  fields : FieldOp → Act
+  choice : RunAct → Act
 
 abbrev pub act_of : Op → Act
 act_of (op.Source name number info) = source name number info
@@ -28,6 +32,8 @@ act_of (op.Time inner) = time inner
 act_of (op.Space inner) = space inner
 act_of (op.Join inner) = joined inner
 act_of (op.Soft inner) = soft inner
+act_of (op.Field inner) = fields inner
+act_of (op.Run inner) = choice (run_act inner)
 
 mutual
   pub data ClipTerm : Type 0 where

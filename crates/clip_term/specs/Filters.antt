@@ -67,6 +67,14 @@ row_of filter.YToUV = row 38 (codes "YToUV") (Some 1)
 row_of filter.TemporalSoften = row 39 (codes "TemporalSoften") (Some 2)
 row_of filter.GeneralConvolution = row 40 (codes "GeneralConvolution") None
 row_of filter.ConvertBits = row 41 (codes "ConvertBits") (Some 1)
+row_of filter.SeparateFields = row 42 (codes "SeparateFields") (Some 1)
+row_of filter.Weave = row 43 (codes "Weave") (Some 1)
+row_of filter.SwapFields = row 44 (codes "SwapFields") (Some 1)
+row_of filter.AssumeTFF = row 45 (codes "AssumeTFF") (Some 1)
+row_of filter.AssumeBFF = row 46 (codes "AssumeBFF") (Some 1)
+row_of filter.ComplementParity = row 47 (codes "ComplementParity") (Some 1)
+row_of filter.ConditionalSelect = row 48 (codes "ConditionalSelect") (Some 1)
+row_of filter.ConditionalFilter = row 49 (codes "ConditionalFilter") (Some 1)
 
 abbrev pub number_of : Filter → ℕ
 number_of one = (row_of one).number

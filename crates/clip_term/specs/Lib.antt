@@ -1,6 +1,11 @@
 pub mod Refusals
 pub mod Arguments
 pub mod Time
+pub mod Expression
+pub mod Values
+pub mod Words
+pub mod Choice
+pub mod Field
 pub mod Space
 pub mod Join
 pub mod Soft

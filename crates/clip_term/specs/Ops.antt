@@ -12,7 +12,10 @@ use Rattle.clip_term.specs.declared.op.JoinOp.{JoinOp}
 use Rattle.clip_term.specs.declared.op.JoinOp.TheVariants as j
 use Rattle.clip_term.specs.declared.op.SoftOp.{SoftOp}
 use Rattle.clip_term.specs.declared.op.SoftOp.TheVariants as k
-use Rattle.clip_term.specs.ClipTerm.{Act, source, plain, time, space, joined, soft}
+use Rattle.clip_term.specs.declared.field.FieldOp.{FieldOp}
+use Rattle.clip_term.specs.declared.field.FieldOp.TheVariants as d
+use Rattle.clip_term.specs.Choice.{RunAct, choose, decide}
+use Rattle.clip_term.specs.ClipTerm.{Act, source, plain, time, space, joined, soft, fields, choice}
 
 abbrev pub time_filter : TimeOp → Filter
 time_filter (t.Trim first bound) = filter.Trim
@@ -62,6 +65,18 @@ abbrev pub soft_filter : SoftOp → Filter
 soft_filter (k.TemporalSoften radius luma chroma) = filter.TemporalSoften
 soft_filter (k.GeneralConvolution bias matrix) = filter.GeneralConvolution
 
+abbrev pub field_filter : FieldOp → Filter
+field_filter d.SeparateFields = filter.SeparateFields
+field_filter d.Weave = filter.Weave
+field_filter d.SwapFields = filter.SwapFields
+field_filter d.AssumeTFF = filter.AssumeTFF
+field_filter d.AssumeBFF = filter.AssumeBFF
+field_filter d.ComplementParity = filter.ComplementParity
+
+abbrev pub run_filter : RunAct → Filter
+run_filter (choose e) = filter.ConditionalSelect
+run_filter (decide e by f) = filter.ConditionalFilter
+
 abbrev pub filter_of : Act → Filter
 filter_of (source name number info) = filter.Y4MSource
 filter_of (plain info colour) = filter.BlankClip
@@ -69,6 +84,8 @@ filter_of (time op) = time_filter op
 filter_of (space op) = space_filter op
 filter_of (joined op) = join_filter op
 filter_of (soft op) = soft_filter op
+filter_of (fields op) = field_filter op
+filter_of (choice op) = run_filter op
 
 -- a source: the name of its file, how many sources were opened before, and what is known of its clip
 pub record SourcePart : Type 0 where
@@ -84,6 +101,8 @@ source_part (time op) = None
 source_part (space op) = None
 source_part (joined op) = None
 source_part (soft op) = None
+source_part (fields op) = None
+source_part (choice op) = None
 
 -- what is known of the clip of a source
 abbrev pub source_info : Act → Option Info

@@ -21,8 +21,10 @@ use Rattle.clip_term.specs.Time.{check_time, source_number, from_input, in_range
 use Rattle.clip_term.specs.Space.{check_space, space_at}
 use Rattle.clip_term.specs.Join.{check_join, join_at}
 use Rattle.clip_term.specs.Soft.{check_soft, soft_asked, soft_at}
+use Rattle.clip_term.specs.Field.{check_field, field_asked, field_at}
+use Rattle.clip_term.specs.Choice.{check_run, run_asked, run_at, run_inputs}
 use Rattle.clip_term.specs.Blank.{check_plain, colour_at}
-use Rattle.clip_term.specs.ClipTerm.{Act, source, plain, time, space, joined, soft, ClipTerm, applied, ClipTerms, no_terms, and_term}
+use Rattle.clip_term.specs.ClipTerm.{Act, source, plain, time, space, joined, soft, fields, choice, ClipTerm, applied, ClipTerms, no_terms, and_term}
 
 -- One op over its inputs.
 
@@ -33,6 +35,8 @@ check (time op) infos = check_time op infos
 check (space op) infos = check_space op infos
 check (joined op) infos = check_join op infos
 check (soft op) infos = check_soft op infos
+check (fields op) infos = check_field op infos
+check (choice op) infos = check_run op infos
 
 -- the frames that are asked for frame n, in order
 abbrev pub asked : Act → List Info → ℕ → List Origin
@@ -42,6 +46,8 @@ asked (time op) infos n = source_number op infos n ∷ []
 asked (space op) infos n = in_range infos (from_input 0 n) ∷ []
 asked (joined op) infos n = map (λ i. in_range infos (from_input i n)) (range_with_len 0 (length infos))
 asked (soft op) infos n = soft_asked op infos n
+asked (fields op) infos n = field_asked op infos n
+asked (choice op) infos n = run_asked op infos n
 
 -- a book is the list of each source's frames
 abbrev pub frame_in : List (List Picture) → ℕ → ℕ → Shape → Picture
@@ -55,6 +61,8 @@ sample book (time op) infos n looks p x y = look_at looks 0 p x y
 sample book (space op) infos n looks p x y = space_at op (info_at infos 0).shape (look_at looks 0) p x y
 sample book (joined op) infos n looks p x y = join_at op infos looks p x y
 sample book (soft op) infos n looks p x y = soft_at op (info_at infos 0).shape looks p x y
+sample book (fields op) infos n looks p x y = field_at op (info_at infos 0) n looks p x y
+sample book (choice op) infos n looks p x y = run_at op infos n looks p x y
 
 -- The whole tree.
 
@@ -155,6 +163,8 @@ IsSound (time op) k = IsTrue (time_inputs op k && time_lists op)
 IsSound (space op) k = k ≡ 1
 IsSound (joined op) k = IsTrue (join_inputs op k)
 IsSound (soft op) k = (k ≡ 1) × IsTrue (soft_lists op)
+IsSound (fields op) k = k ≡ 1
+IsSound (choice op) k = IsTrue (run_inputs op k)
 
 abbrev pub inputs_of : ClipTerms → ℕ
 inputs_of no_terms = 0

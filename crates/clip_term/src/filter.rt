@@ -45,6 +45,14 @@ pub enum Filter {
     TemporalSoften,
     GeneralConvolution,
     ConvertBits,
+    SeparateFields,
+    Weave,
+    SwapFields,
+    AssumeTFF,
+    AssumeBFF,
+    ComplementParity,
+    ConditionalSelect,
+    ConditionalFilter,
 }
 
 impl Filter {
@@ -52,7 +60,7 @@ impl Filter {
     ghost use Rattle.clip_term.specs.Filters.{IsMode, declared_mode, filter_named, has_name, name_of, number_of};
 
     /// Each filter once. The number of a filter is its place here.
-    pub const ALL: [Filter; 42] = [
+    pub const ALL: [Filter; 50] = [
         Filter::Y4MSource,
         Filter::BlankClip,
         Filter::Trim,
@@ -95,6 +103,14 @@ impl Filter {
         Filter::TemporalSoften,
         Filter::GeneralConvolution,
         Filter::ConvertBits,
+        Filter::SeparateFields,
+        Filter::Weave,
+        Filter::SwapFields,
+        Filter::AssumeTFF,
+        Filter::AssumeBFF,
+        Filter::ComplementParity,
+        Filter::ConditionalSelect,
+        Filter::ConditionalFilter,
     ];
 
     /// The place of the filter in `ALL`.
@@ -153,6 +169,14 @@ impl Filter {
             Filter::TemporalSoften => "TemporalSoften",
             Filter::GeneralConvolution => "GeneralConvolution",
             Filter::ConvertBits => "ConvertBits",
+            Filter::SeparateFields => "SeparateFields",
+            Filter::Weave => "Weave",
+            Filter::SwapFields => "SwapFields",
+            Filter::AssumeTFF => "AssumeTFF",
+            Filter::AssumeBFF => "AssumeBFF",
+            Filter::ComplementParity => "ComplementParity",
+            Filter::ConditionalSelect => "ConditionalSelect",
+            Filter::ConditionalFilter => "ConditionalFilter",
         }
     }
 
@@ -202,7 +226,15 @@ impl Filter {
             | Filter::MergeLuma
             | Filter::MergeChroma
             | Filter::YToUV
-            | Filter::ConvertBits => Some(1),
+            | Filter::ConvertBits
+            | Filter::SeparateFields
+            | Filter::Weave
+            | Filter::SwapFields
+            | Filter::AssumeTFF
+            | Filter::AssumeBFF
+            | Filter::ComplementParity
+            | Filter::ConditionalSelect
+            | Filter::ConditionalFilter => Some(1),
         }
     }
 

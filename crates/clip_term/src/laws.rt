@@ -1,5 +1,6 @@
 // Laws of the definitions, each the contract of a function with an empty body.
 ghost use Rattle.clip_term.specs.BlankExamples.{BlankRows};
+ghost use Rattle.clip_term.specs.Field.{WeavesAgain};
 ghost use Rattle.clip_term.specs.Filters.{FiltersAreListed};
 ghost use Rattle.clip_term.specs.JoinExamples.{JoinRows};
 ghost use Rattle.clip_term.specs.RowExamples.{OtherRows};
@@ -27,6 +28,11 @@ pub fn asks_in_range()
 /// The info of a sound clip is lawful.
 pub fn sound_lawful()
     ensures { SoundLawful }
+{}
+
+/// Fields that are separated and woven again are the clip.
+pub fn weaves_again()
+    ensures { WeavesAgain }
 {}
 
 /// Each filter is found by its number and by its names.

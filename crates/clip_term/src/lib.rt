@@ -6,10 +6,12 @@
 
 mod arguments;
 mod fault;
+mod field;
 mod filter;
 pub mod laws;
 mod numbers;
 mod op;
+mod run;
 mod term;
 
 pub use arguments::{
@@ -17,9 +19,11 @@ pub use arguments::{
     no_depth, part_of, read_channels,
 };
 pub use fault::FilterFault;
+pub use field::FieldOp;
 pub use filter::Filter;
 pub use numbers::Numbers;
 pub use op::{
     Channels, JoinOp, Matrix, Op, Origin, SoftOp, SourcePart, SpaceOp, TimeOp, TrimBound,
 };
+pub use run::{PlaneStat, RunCompare, RunExpr, RunOp, RunOper, RunStep};
 pub use term::Term;

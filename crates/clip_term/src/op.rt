@@ -1,5 +1,5 @@
 // The filters with their arguments, as they stand after the defaults were put in.
-use crate::{Filter, Numbers};
+use crate::{FieldOp, Filter, Numbers, RunOp};
 use fv_io::Text;
 use fv_plane::{Colour, Info};
 
@@ -131,6 +131,8 @@ pub enum Op {
     Space(SpaceOp),
     Join(JoinOp),
     Soft(SoftOp),
+    Field(FieldOp),
+    Run(RunOp),
 }
 
 impl TimeOp {
@@ -248,6 +250,8 @@ impl Op {
             Op::Space(op) => op.filter(),
             Op::Join(op) => op.filter(),
             Op::Soft(op) => op.filter(),
+            Op::Field(op) => op.filter(),
+            Op::Run(op) => op.filter(),
         }
     }
 
@@ -262,7 +266,13 @@ impl Op {
                 number: *number,
                 info: *info,
             }),
-            Op::Blank { .. } | Op::Time(_) | Op::Space(_) | Op::Join(_) | Op::Soft(_) => None,
+            Op::Blank { .. }
+            | Op::Time(_)
+            | Op::Space(_)
+            | Op::Join(_)
+            | Op::Soft(_)
+            | Op::Field(_)
+            | Op::Run(_) => None,
         }
     }
 }

@@ -1,6 +1,8 @@
 // The check of each group, and the texts of matrices.
-use clip_check::{check_blank_info, check_join, check_soft, check_space, check_time};
-use clip_term::{JoinOp, SoftOp, SpaceOp, TimeOp};
+use clip_check::{
+    check_blank_info, check_choice, check_field, check_join, check_soft, check_space, check_time,
+};
+use clip_term::{FieldOp, JoinOp, RunExpr, RunOp, SoftOp, SpaceOp, TimeOp};
 use flt_soft::{MatrixFault, read_matrix};
 use fv_io::Text;
 use fv_plane::{Field, Info, Par, PixelType, Shape, Tag};
@@ -28,12 +30,17 @@ fn checks_pass_a_clip_on(rt: HostRuntime) {
         luma: 255,
         chroma: 0,
     };
+    let select = RunOp::Select {
+        expr: RunExpr::CurrentFrame,
+    };
     for checked in [
         check_blank_info(CLIP),
         check_time(&TimeOp::Reverse, &[CLIP]),
         check_space(&SpaceOp::Turn180, &[CLIP]),
         check_join(&JoinOp::Merge, &[CLIP, CLIP]),
         check_soft(&soften, &[CLIP]),
+        check_field(&FieldOp::AssumeTFF, &[CLIP]),
+        check_choice(&select, &[CLIP, CLIP]),
     ] {
         assert_eq!(rt; checked, Ok(CLIP));
     }

@@ -147,6 +147,10 @@ fn makes_the_frames_of_the_definitions(rt: HostRuntime) -> Result<(), Fail> {
         (PixelType::YV24, 14, 5, 3, 2, 10, 3, 5),
         (PixelType::Y8, 16, 9, 5, 3, 5, 13, 16),
         (PixelType::YV12, 10, 6, 4, 4, 5, 6, 8),
+        (PixelType::YV12, 8, 6, 4, 5, 5, 6, 4),
+        (PixelType::YV16, 12, 6, 2, 5, 5, 6, 2),
+        (PixelType::Y8, 8, 1, 2, 6, 2, 1, 4),
+        (PixelType::YV12, 10, 6, 4, 6, 2, 6, 8),
     ] {
         let clip = info_of(&rt, kind, bits, width, height);
         let made = compare(&rt, rt.alloc(), clip, row)?;

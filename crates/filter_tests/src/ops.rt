@@ -4,7 +4,9 @@ ghost use Rattle.clip_term.specs.ClipTerm.{act_of};
 ghost use Rattle.clip_term.specs.Terms.{IsSound};
 ghost use Rattle.clip_reference.specs.Ready.{IsFilter};
 
-use clip_term::{JoinOp, Op, SoftOp, SpaceOp, TimeOp, TrimBound};
+use clip_term::{
+    FieldOp, JoinOp, Op, PlaneStat, RunExpr, RunOp, SoftOp, SpaceOp, TimeOp, TrimBound,
+};
 use flt_soft::read_matrix;
 use fv_io::Text;
 use std::alloc::Global;
@@ -26,6 +28,8 @@ pub fn time_op(row: u32) -> Op
             last: 3,
             source: 4,
         }),
+        5 => Op::Field(FieldOp::ComplementParity),
+        6 => Op::Field(FieldOp::SwapFields),
         _ => Op::Time(TimeOp::SelectOdd),
     }
 }
@@ -39,6 +43,15 @@ pub fn pair_op(row: u32) -> Op
         0 => Op::Join(JoinOp::Merge),
         1 => Op::Join(JoinOp::StackHorizontal),
         2 => Op::Time(TimeOp::UnalignedSplice),
+        5 => Op::Run(RunOp::Select {
+            expr: RunExpr::CurrentFrame,
+        }),
+        6 => Op::Run(RunOp::Select {
+            expr: RunExpr::Plane {
+                plane: 0,
+                stat: PlaneStat::Least,
+            },
+        }),
         _ => Op::Join(JoinOp::StackVertical),
     }
 }
@@ -57,6 +70,8 @@ pub fn space_op(row: u32) -> Op
         }),
         2 => Op::Space(SpaceOp::TurnLeft),
         4 => Op::Space(SpaceOp::ConvertBits { bits: 12 }),
+        5 => Op::Field(FieldOp::SeparateFields),
+        6 => Op::Field(FieldOp::Weave),
         _ => Op::Space(SpaceOp::AddBorders {
             left: 1,
             top: 2,
@@ -83,6 +98,8 @@ pub fn soft_op(alloc: Global, row: u32) -> Result<Op, Fail>
     match row {
         1 => convolution(alloc, "1 2 -3\n4 5\t6 7 -8 9"),
         3 => convolution(alloc, "1 0 2 0 0 0 -3 0 0 4 0 0 9 0 0 0 5 0 0 -6 0 0 7 0 1"),
+        5 => Ok(Op::Field(FieldOp::Weave)),
+        6 => Ok(Op::Field(FieldOp::AssumeBFF)),
         _ => Ok(Op::Soft(SoftOp::TemporalSoften {
             radius: 2,
             luma: 60,

@@ -1,17 +1,16 @@
 -- Rows that are seen from the last one up, and pictures upside down.
-use Rattle.std.proofs.Common.{◌≡◌, ℕ, ◌+◌, ◌-◌, ◌*◌, ◌<◌, ◌≤◌, List, [], ◌∷◌, ◌++◌, length, get_or, take, drop, map, refl, sym, ◌∙◌, ap, arith, Bool, true, false, Option, None, Some, inl, inr}
-use Rattle.std.specs.Prelude.{reverse, not}
-use Rattle.std.proofs.lemmas.List.{append_assoc, reverse-append, reverse-reverse, length-reverse, get_or-reverse, map-append, take-append-drop, take_at, drop_at, length-drop, length-take-le, get_or_past}
+use Rattle.std.proofs.Common.{◌≡◌, ℕ, ◌-◌, ◌<◌, List, [], ◌∷◌, length, get_or, drop, map, sym, ◌∙◌, ap, arith, Option, None, Some, inl, inr}
+use Rattle.std.specs.Prelude.{reverse}
+use Rattle.std.proofs.lemmas.List.{length-reverse, get_or-reverse, get_or_past}
 use Rattle.fv_plane.specs.declared.format.Shape.{Shape}
 use Rattle.fv_plane.specs.Format.{planes, plane_width, plane_height}
-use Rattle.fv_rows.specs.Rows.{IsPlane, rows_of, rows_part, width_of, seen, first_stored}
+use Rattle.fv_rows.specs.Rows.{IsPlane}
 use Rattle.fv_plane.specs.Picture.{Picture, IsPicture}
 use Rattle.fv_plane.specs.Bytes.{row_of_bytes, decoded_rows, chroma_list, frame_of, AreWhole}
 use Rattle.fv_plane.specs.Look.{Look, look_in, upside_down}
 use Rattle.std.proofs.Math.ListN.{get_or-map}
 use Rattle.std.proofs.lemmas.Bool.{cases_lt}
 use Rattle.fv_plane.proofs.BytesLemmas.{whole_none}
-use Rattle.fv_rows.proofs.RowLemmas.{length-rows_of}
 use Rattle.fv_rows.proofs.SeenLemmas.{map-reverse}
 use Rattle.fv_plane.proofs.WindowLemmas.{plane_listed, get_or-picture_from, IsPicture-picture_from, frame_listed, no_chroma, two_chroma}
 

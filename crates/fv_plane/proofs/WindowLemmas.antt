@@ -4,7 +4,7 @@ use Rattle.std.specs.Prelude.{◌≢◌}
 use Rattle.std.proofs.Math.ListN.{get_or-map}
 use Rattle.std.proofs.lemmas.Bool.{cases_lt, eqb-true}
 use Rattle.std.proofs.lemmas.Nat.{mul-le}
-use Rattle.std.proofs.lemmas.List.{drop-drop, drop-take, take-take, take-map, drop-map, get_or-take, get_or-drop, get_or_past, length-map, length-take, length-take-le, length-drop}
+use Rattle.std.proofs.lemmas.List.{take-map, drop-map, get_or-take, get_or-drop, get_or_past, length-map, length-take, length-take-le, length-drop}
 use Rattle.std.proofs.lemmas.List.FromFn.{fill_by_all, get_or-map-range_with_len, length-map-range_with_len}
 use Rattle.std.specs.List.{range_with_len}
 use Rattle.fv_plane.specs.declared.format.PixelType.{PixelType}
@@ -12,12 +12,11 @@ use Rattle.fv_plane.specs.declared.format.PixelType.TheVariants.{Y8, YV12, YV16,
 use Rattle.fv_plane.specs.declared.format.Shape.{Shape}
 use Rattle.fv_plane.specs.declared.format.Window.{Window}
 use Rattle.fv_plane.specs.Format.{IsLegal, IsWindow, planes, sub_w, sub_h, plane_width, plane_height, sample_bytes, largest_sample, has_depth, frame_samples, window_shape, shape_of_plane}
-use Rattle.fv_rows.specs.Rows.{IsPlane, rows_of, rows_part}
+use Rattle.fv_rows.specs.Rows.{IsPlane, rows_part}
 use Rattle.fv_plane.specs.Picture.{Picture, IsPicture}
 use Rattle.fv_plane.specs.Bytes.{row_of_bytes, decoded_rows, chroma_list, frame_of, AreWhole}
 use Rattle.fv_plane.proofs.BytesLemmas.{row_of_bytes-take, row_of_bytes-drop, decoded-same, whole_none, whole-part}
 use Rattle.fv_plane.specs.Look.{Look, across, down, look_in, row_from, plane_from, picture_from, picture_in, plane_alone}
-use Rattle.fv_rows.proofs.RowLemmas.{drop-rows_of, take-rows_of, times_add, row-rows_of}
 use Rattle.fv_plane.proofs.PictureLemmas.{one_or_three}
 use Rattle.fv_plane.proofs.FillLemmas.{row_listed}
 use Rattle.fv_plane.proofs.FrameLemmas.{frame_is, plane_height_le}

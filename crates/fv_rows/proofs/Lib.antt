@@ -1,3 +1,4 @@
 pub mod RowLemmas
 pub mod PartLemmas
 pub mod SeenLemmas
+pub mod SecondLemmas

@@ -1,8 +1,8 @@
 // A plane is its rows of bytes, inside shared bytes, with an offset and a stride, seen from the top or from the bottom.
-ghost use Rattle.std.specs.Prelude.{◌≡◌, ◌<◌, ◌≤◌, ◌*◌, ◌+◌, ◌-◌, IfOk};
+ghost use Rattle.std.specs.Prelude.{◌≡◌, ◌<◌, ◌≤◌, ◌*◌, ◌+◌, ◌-◌, ◌%◌, IfOk};
 ghost use Rattle.std.specs.Prelude.{[], length, reverse, slice_index_or, take, drop};
 ghost use Rattle.std.specs.Arc.{arc_value};
-ghost use Rattle.fv_rows.specs.Rows.{flat_rows, first_stored, rows_of, rows_part, width_of};
+ghost use Rattle.fv_rows.specs.Rows.{every_second, flat_rows, first_stored, rows_of, rows_part, second_stored, width_of};
 
 use std::alloc::AllocError;
 use std::marker::Model;
@@ -34,6 +34,14 @@ fn first_stored(upwards: bool, height: usize, y: usize, count: usize) -> usize
     ensures { result ≡ first_stored upwards height y count }
 {
     if upwards { height - y - count } else { y }
+}
+
+// Where every second row that is seen begins, among an even number of rows that are stored from the top.
+fn second_stored(upwards: bool, from: usize) -> usize
+    requires { from < 2 }
+    ensures { result ≡ second_stored upwards from }
+{
+    if upwards { 1 - from } else { from }
 }
 
 /// Rows inside shared bytes. If they run `upwards`, the last one in the bytes is the first one of the plane.
@@ -165,6 +173,27 @@ impl Plane {
             stride: self.stride,
             width,
             height,
+            upwards: self.upwards,
+        })
+    }
+
+    /// Every second row, from the first one (`from` is 0) or from the one after it (1), over the same bytes. An `Err` is more
+    /// shares than can be counted.
+    pub fn every_second(&self, from: usize) -> Result<Plane, AllocError>
+        requires first { from < 2 }
+        requires some { 0 < length self.now }
+        requires even { length self.now % 2 ≡ 0 }
+        ensures { IfOk result (λ plane. plane ≡ every_second from self.now) }
+    {
+        // The plane has two rows at least, so twice the stride fits.
+        let _ = self.bytes.len();
+        let first = second_stored(self.upwards, from);
+        Ok(Plane {
+            bytes: Arc::try_clone(&self.bytes)?,
+            offset: self.offset + first * self.stride,
+            stride: 2 * self.stride,
+            width: self.width,
+            height: self.height / 2,
             upwards: self.upwards,
         })
     }

@@ -9,3 +9,4 @@ pub mod WorkLemmas
 pub mod CrewLemmas
 pub mod CrewTogether
 pub mod OnceLemmas
+pub mod CrossingLemmas

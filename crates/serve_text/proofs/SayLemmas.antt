@@ -78,6 +78,7 @@ no_message k.Overflow other = refl
 no_message k.DivZero other = refl
 no_message k.BadText other = refl
 no_message k.BadRange other = refl
+no_message k.BadExpression other = refl
 no_message k.TextLimit other = refl
 no_message k.Syntax other = refl
 no_message k.NestLimit other = refl

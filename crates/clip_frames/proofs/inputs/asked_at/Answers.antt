@@ -7,3 +7,8 @@ pub returns-in-Join : goal.returns-in-Join
 returns-in-Join c =
     let a = c.args in
     rw c.in-Join.is (c.each_at.ensures ∙ ap (λ keys. slice_get keys a.i) (joined_keys a.graph.now a.inputs.now a.n))
+
+pub returns-in-Run : goal.returns-in-Run
+returns-in-Run c =
+    let a = c.args in
+    rw c.in-Run.is (c.each_at-in-Run.ensures ∙ ap (λ keys. slice_get keys a.i) (joined_keys a.graph.now a.inputs.now a.n))

@@ -1,4 +1,4 @@
-use Rattle.std.proofs.Common.{rules, arith, ◌≡◌, ◌∙◌, ◌*◌, ℕ, List, [], length, map, ap, sym, refl}
+use Rattle.std.proofs.Common.{rules, arith, ◌≡◌, ◌∙◌, ◌*◌, List, [], length, map, ap, sym, refl}
 use Rattle.std.proofs.lemmas.Result.{IfOk-weaker}
 use Rattle.fv_plane.specs.Format.{sample_bytes}
 use Rattle.fv_plane.specs.Picture.{Picture}
@@ -21,12 +21,12 @@ write_row-requires-clause-whole c =
 
 pub write_row-requires-clause-fits : goal.write_row-requires-clause-fits
 write_row-requires-clause-fits c =
-    let at : Look = sample [] (act_of c.args.op.now) c.args.infos.now 0 (map look_in c.args.frames.now) in
+    let at : Look = sample [] (act_of c.args.op.now) c.args.infos.now c.args.n (map look_in c.args.frames.now) in
     row_fits at c.args.info.shape c.loop-plane.plane (length c.loop-y.samples) c.loop-y.y c.fill_row.new.row c.requires.fits c.fill_row.ensures
 
 pub put_row-requires-clause-fits : goal.put_row-requires-clause-fits
 put_row-requires-clause-fits c =
-    let at : Look = sample [] (act_of c.args.op.now) c.args.infos.now 0 (map look_in c.args.frames.now) in
+    let at : Look = sample [] (act_of c.args.op.now) c.args.infos.now c.args.n (map look_in c.args.frames.now) in
     let shape = c.args.info.shape in
     bytes_fit shape c.loop-y.made.shape c.fill_row.new.row c.write_row.new.bytes c.loop-y.invariant.filled.same c.write_row.ensures
     (row_fits at shape c.loop-plane.plane (length c.loop-y.samples) c.loop-y.y c.fill_row.new.row c.requires.fits c.fill_row.ensures)
@@ -34,7 +34,7 @@ put_row-requires-clause-fits c =
 pub loop-y-preserved : goal.loop-y-preserved
 loop-y-preserved c =
     let shape = c.args.info.shape in
-    let at : Look = sample [] (act_of c.args.op.now) c.args.infos.now 0 (map look_in c.args.frames.now) in
+    let at : Look = sample [] (act_of c.args.op.now) c.args.infos.now c.args.n (map look_in c.args.frames.now) in
     let p = c.loop-plane.plane in
     record {
       samples = c.fill_row.auto.row ∙ c.loop-y.invariant.samples;
@@ -48,16 +48,16 @@ loop-y-preserved c =
 pub loop-plane-preserved : goal.loop-plane-preserved
 loop-plane-preserved c =
     let shape = c.args.info.shape in
-    let at : Look = sample [] (act_of c.args.op.now) c.args.infos.now 0 (map look_in c.args.frames.now) in
+    let at : Look = sample [] (act_of c.args.op.now) c.args.infos.now c.args.n (map look_in c.args.frames.now) in
     filled_plane (rows_listed shape at) shape c.loop-y.made c.loop-plane.plane c.loop-y.y (search rules) c.loop-y.invariant.filled
 
 pub returns : goal.returns
 returns c =
     let info = c.args.info in
-    let at : Look = sample [] (act_of c.args.op.now) c.args.infos.now 0 (map look_in c.args.frames.now) in
+    let at : Look = sample [] (act_of c.args.op.now) c.args.infos.now c.args.n (map look_in c.args.frames.now) in
     let whole : c.loop-plane.made ≡ picture_from info.shape at
     = filled_done (rows_listed info.shape at) info.shape c.loop-plane.made at c.loop-plane.plane 0 c.loop-plane.invariant (search rules) (search rules) (λ p z there inside. refl) in
     IfOk-weaker c.finish.result (λ frame. frame ≡ c.loop-plane.made)
-    (λ frame. (book : List (List Picture)) (n : ℕ) → frame ≡ make book (act_of c.args.op.now) c.args.infos.now info n c.args.frames.now)
-    (λ frame e book n. e ∙ whole ∙ made_same (act_of c.args.op.now) c.args.infos.now info c.args.frames.now (length c.args.frames.now) c.requires.ready book n)
+    (λ frame. (book : List (List Picture)) → frame ≡ make book (act_of c.args.op.now) c.args.infos.now info c.args.n c.args.frames.now)
+    (λ frame e book. e ∙ whole ∙ made_same (act_of c.args.op.now) c.args.infos.now info c.args.n c.args.frames.now (length c.args.frames.now) c.requires.ready book)
     c.finish.ensures

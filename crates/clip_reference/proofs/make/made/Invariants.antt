@@ -11,8 +11,8 @@ abbrev pub invariant-loop-y : goal.invariant-loop-y
 invariant-loop-y l = record {
   samples : length l.samples ≡ plane_width l.shape l.plane;
   row : length l.row ≡ row_bytes l.shape l.plane;
-  filled : Filled (rows_listed l.shape (sample [] (act_of l.op) l.infos 0 (map look_in l.frames))) l.shape l.made l.plane l.y;
+  filled : Filled (rows_listed l.shape (sample [] (act_of l.op) l.infos l.n (map look_in l.frames))) l.shape l.made l.plane l.y;
 }
 
 abbrev pub invariant-loop-plane : goal.invariant-loop-plane
-invariant-loop-plane l = Filled (rows_listed l.shape (sample [] (act_of l.op) l.infos 0 (map look_in l.frames))) l.shape l.made l.plane 0
+invariant-loop-plane l = Filled (rows_listed l.shape (sample [] (act_of l.op) l.infos l.n (map look_in l.frames))) l.shape l.made l.plane 0

@@ -1,4 +1,4 @@
-use Rattle.std.proofs.Common.{◌≡◌, ◌∙◌, List, ◌++◌, ◌∷◌, [], length, sym, ap, map, refl, arith, take, Ok, Err, ℕ, ◌<◌, get_or}
+use Rattle.std.proofs.Common.{◌≡◌, ◌∙◌, List, ◌++◌, ◌∷◌, [], length, sym, ap, map, refl, arith, take, Ok, Err, ◌<◌, get_or}
 use Rattle.std.proofs.lemmas.List.{take_all, map_more, length-map}
 use Rattle.std.proofs.lemmas.List.Elements.{All-push}
 use Rattle.std.proofs.lemmas.Result.{IfOk-weaker}
@@ -10,8 +10,11 @@ use Rattle.clip_term.specs.ClipTerm.{ClipTerm, act_of, term_of, clips}
 use Rattle.clip_term.specs.declared.op.Origin.{Origin}
 use Rattle.clip_term.specs.Terms.{asked, asked_picture, check, make, frame_in, term_picture, term_pictures}
 use Rattle.clip_term.proofs.LawfulLemmas.{checks_lawful}
-use Rattle.clip_reference.proofs.ReadyLemmas.{ready, filter_is}
+use Rattle.clip_reference.proofs.ReadyLemmas.{ready, filter_is, made_is}
 use Rattle.clip_reference.proofs.RangeLemmas.{made_in_range}
+use Rattle.clip_term.specs.Choice.{run_act}
+use Rattle.flt_choice.specs.Shown.{picture_shown}
+use Rattle.clip_reference.proofs.ChoiceLemmas.{chosen}
 use Rattle.clip_reference.proofs.SizeLemmas.{fewer}
 use Rattle.clip_reference.proofs.TermLemmas.{node, accepted, gathered, inputs_ok, turn, is_blank, no_refusal, made_whole, source_frame, source_picture}
 use Rattle.clip_reference.proofs.reference.+reference_frame.Goals as goal
@@ -120,12 +123,43 @@ made-requires t c =
     let checked : check op infos ≡ Ok c.in-Ok.info = ap (check op) (sym c.deref-3.ensures.value) ∙ sym c.check.ensures.exact ∙ c.in-Ok.is in
     let all : c.loop-origin.frames.items ≡ map f origins = c.loop-origin.invariant.made ∙ ap (map f) (take_all c.loop-origin.origin-index origins c.loop-origin-test.false) in
     let long : length c.loop-origin.frames.items ≡ length (asked op infos c.args.n) = ap length all ∙ length-map origins f ∙ ap length same in
-    let filter = filter_is (out-Term c.args.term.now).op c.in_default.not-Source c.in_default-op.not-Blank in
+    let filter = made_is (out-Term c.args.term.now).op (filter_is (out-Term c.args.term.now).op c.in_default.not-Source c.in_default-op.not-Blank) c.in_default-op-2.not-Run in
     rw (c.deref-in-Ok.ensures.value, c.deref-in-Ok-2.ensures.value) (record {
       legal = (checks_lawful op infos c.in-Ok.info k.sound k.lawful checked).shape;
       ready = ready op infos c.in-Ok.info c.args.n (length c.loop-origin.frames.items) filter k.sound k.lawful checked long;
       fits = made_in_range c.args.book.now (clips (map term_of ts)) op infos c.in-Ok.info c.args.n c.loop-origin.frames.items g.all filter k.sound k.lawful checked (all ∙ ap (map f) same) c.loop-origin.invariant.sizes;
     })
+
+pub make_run-requires : goal.make_run-requires
+make_run-requires t c =
+    let op = act_of (out-Term c.args.term.now).op in
+    let ts = (out-Term c.args.term.now).inputs.items in
+    let infos = c.in_ok-infos.infos.items in
+    let origins = c.deref-origin-items.result.now in
+    let book = c.args.book.now in
+    let g = gathered book c.args.term.now c.args.n c.deref.result.now infos c.requires.sound c.requires.inside c.requires.sources c.deref.ensures.value c.in_ok-infos.ensures in
+    let same : origins ≡ asked op infos c.args.n = c.deref-origin-items.ensures.value ∙ c.in_ok-origins.ensures ∙ ap (λ ds. asked op ds c.args.n) c.deref-2.ensures.value in
+    let f = asked_picture (term_pictures book (clips (map term_of ts))) in
+    let all : c.loop-origin.frames.items ≡ map f (asked op infos c.args.n)
+    = c.loop-origin.invariant.made ∙ ap (map f) (take_all c.loop-origin.origin-index origins c.loop-origin-test.false ∙ same) in
+    let it = chosen book c.args.term.now (run_act c.in-Run.op) c.args.n infos c.loop-origin.frames.items (ap act_of c.in-Run.is) c.requires.sound g all c.loop-origin.invariant.sizes in
+    rw c.deref-in-Run.ensures.value it.ready
+
+pub returns-in-Run : goal.returns-in-Run
+returns-in-Run t c =
+    let op = act_of (out-Term c.args.term.now).op in
+    let ts = (out-Term c.args.term.now).inputs.items in
+    let infos = c.in_ok-infos.infos.items in
+    let origins = c.deref-origin-items.result.now in
+    let book = c.args.book.now in
+    let g = gathered book c.args.term.now c.args.n c.deref.result.now infos c.requires.sound c.requires.inside c.requires.sources c.deref.ensures.value c.in_ok-infos.ensures in
+    let same : origins ≡ asked op infos c.args.n = c.deref-origin-items.ensures.value ∙ c.in_ok-origins.ensures ∙ ap (λ ds. asked op ds c.args.n) c.deref-2.ensures.value in
+    let f = asked_picture (term_pictures book (clips (map term_of ts))) in
+    let all : c.loop-origin.frames.items ≡ map f (asked op infos c.args.n)
+    = c.loop-origin.invariant.made ∙ ap (map f) (take_all c.loop-origin.origin-index origins c.loop-origin-test.false ∙ same) in
+    let it = chosen book c.args.term.now (run_act c.in-Run.op) c.args.n infos c.loop-origin.frames.items (ap act_of c.in-Run.is) c.requires.sound g all c.loop-origin.invariant.sizes in
+    IfOk-weaker c.make_run.result (λ frame. frame ≡ picture_shown (run_act c.in-Run.op) c.args.n c.deref-in-Run.result.now) (λ frame. frame ≡ term_picture book (term_of c.args.term.now) c.args.n)
+    (λ frame e. e ∙ ap (picture_shown (run_act c.in-Run.op) c.args.n) c.deref-in-Run.ensures.value ∙ it.picture) c.make_run.ensures.made
 
 pub unreachable-requires : goal.unreachable-requires
 unreachable-requires t c =
@@ -154,7 +188,7 @@ returns t c =
     let all : c.deref-in-Ok-2.result.now ≡ map f (asked op infos n)
     = c.deref-in-Ok-2.ensures.value ∙ c.loop-origin.invariant.made ∙ ap (map f) (take_all c.loop-origin.origin-index origins c.loop-origin-test.false ∙ same) in
     let law = made_whole book c.args.term.now n infos c.in-Ok.info c.deref-in-Ok-2.result.now c.requires.sound g.all checked all in
-    IfOk-weaker c.made.result (λ frame. (b : List (List Picture)) (m : ℕ) → frame ≡ make b op c.deref-in-Ok.result.now c.in-Ok.info m c.deref-in-Ok-2.result.now)
+    IfOk-weaker c.made.result (λ frame. (b : List (List Picture)) → frame ≡ make b op c.deref-in-Ok.result.now c.in-Ok.info n c.deref-in-Ok-2.result.now)
     (λ frame. frame ≡ term_picture book (term_of c.args.term.now) n)
-    (λ frame is. is book n ∙ ap (λ ds. make book op ds c.in-Ok.info n c.deref-in-Ok-2.result.now) c.deref-in-Ok.ensures.value ∙ law)
+    (λ frame is. is book ∙ ap (λ ds. make book op ds c.in-Ok.info n c.deref-in-Ok-2.result.now) c.deref-in-Ok.ensures.value ∙ law)
     c.made.ensures

@@ -1,6 +1,6 @@
 -- A filter is added with the info that its check told.
 use Rattle.std.proofs.Common.{◌∙◌, ℕ, sym, ap}
-use Rattle.clip_term.specs.ClipTerm.{Act, source, plain, time, space, joined, soft, act_of}
+use Rattle.clip_term.specs.ClipTerm.{Act, source, plain, time, space, joined, soft, fields, choice, act_of}
 use Rattle.clip_term.specs.Terms.{check}
 use Rattle.clip_graph.specs.Plan.{IsCounted}
 use Rattle.clip_reference.specs.Ready.{IsFilter}
@@ -14,6 +14,8 @@ filter_counted (time op) before mode filter = tt
 filter_counted (space op) before mode filter = tt
 filter_counted (joined op) before mode filter = tt
 filter_counted (soft op) before mode filter = tt
+filter_counted (fields op) before mode filter = tt
+filter_counted (choice op) before mode filter = tt
 
 pub add-requires-clause-told : goal.add-requires-clause-told
 add-requires-clause-told g c =

@@ -1,4 +1,4 @@
-use Rattle.std.proofs.Common.{rules}
+use Rattle.std.proofs.Common.{rules, refl}
 use Rattle.avs_values.specs.Views.{bound_view}
 use Rattle.avs_meaning.specs.Filters.{filtered}
 use Rattle.avs_eval.specs.OutsideBy.{outside_by}
@@ -10,7 +10,7 @@ pub returns-in_default-clause-told : goal.returns-in_default-clause-told
 returns-in_default-clause-told g c = λ told.
     let outside = outside_by g.H.Host.clips g.H.Host.scripts in
     given (λ v. v) (filtered c.args.self.now.script_name.now outside c.args.applied c.args.signature (bound_view c.args.given.now) c.args.line (state_of c.args.machine.now))
-    c.filter.result (state_of c.filter.new.machine) (c.filter.ensures.gives outside)
+    c.filter.result (state_of c.filter.new.machine) (c.filter.ensures.gives outside refl)
 
 pub returns-in_default-clause-kept : goal.returns-in_default-clause-kept
 returns-in_default-clause-kept g c =
@@ -21,6 +21,6 @@ returns-in_default-clause-kept g c =
       later = search rules;
       more = search rules;
       faults = unread (λ v. v) (filtered c.args.self.now.script_name.now outside c.args.applied c.args.signature (bound_view c.args.given.now) c.args.line (state_of c.args.machine.now))
-          c.filter.result (state_of c.filter.new.machine) (g.H.Host.faults c.args.host.now) (c.filter.ensures.gives outside);
+          c.filter.result (state_of c.filter.new.machine) (g.H.Host.faults c.args.host.now) (c.filter.ensures.gives outside refl);
       fetched = search rules;
     }

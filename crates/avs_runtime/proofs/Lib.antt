@@ -1,0 +1,2 @@
+mod CompileLemmas
+mod FoundLemmas

@@ -1,0 +1,19 @@
+use Rattle.std.proofs.Common.{rules, ◌≡◌, ◌∙◌, sym, ap, true, Err}
+use Rattle.clip_graph.specs.Plan.{infos_among}
+use Rattle.clip_term.specs.ClipTerm.{act_of}
+use Rattle.clip_term.specs.Terms.{check}
+use Rattle.avs_meaning.specs.Filters as f
+use Rattle.avs_state.specs.States.{state_of}
+use Rattle.avs_state.proofs.RefusedLemmas.{refused}
+use Rattle.avs_state.proofs.machine.Machine.make.Goals as goal
+
+pub returns-in-Err-clause-gives : goal.returns-in-Err-clause-gives
+unfolding state_of
+returns-in-Err-clause-gives c =
+    let plan = c.args.self.now.plan in
+    let inputs = c.args.inputs.now in
+    let act = act_of c.args.op in
+    let places : f.are_places inputs plan ≡ true = search rules in
+    let checked : check act (infos_among plan inputs) ≡ Err c.in-Err.fault
+    = ap (check act) (sym (c.deref.ensures.value ∙ c.in_ok-infos.ensures)) ∙ sym c.check.ensures.exact ∙ c.in-Err.is in
+    refused c.args.script_name.now c.args.filter act inputs c.args.line (state_of c.args.self.now) c.in-Err.fault c.fault_at-in-Err.result places checked c.fault_at-in-Err.ensures

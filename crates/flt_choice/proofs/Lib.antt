@@ -1,0 +1,5 @@
+mod EvaluateLemmas
+mod SampleLemmas
+mod CountLemmas
+mod ValueLemmas
+pub mod CallerLemmas
