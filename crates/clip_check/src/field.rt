@@ -25,16 +25,15 @@ fn has_fields(shape: Shape) -> bool
 fn field_fault(op: FieldOp, shape: Shape) -> Option<FilterFault>
     ensures { result ≡ first_fault (f.field_refusals op shape) }
 {
-    match op {
-        FieldOp::SeparateFields | FieldOp::SwapFields => {
-            if has_fields(shape) {
-                None
-            } else {
-                Some(FilterFault::NotWholeChroma)
-            }
-        }
+    let whole = match op {
+        FieldOp::SeparateFields | FieldOp::SwapFields => has_fields(shape),
         FieldOp::Weave | FieldOp::AssumeTFF | FieldOp::AssumeBFF | FieldOp::ComplementParity =>
-            None,
+            true,
+    };
+    if whole {
+        None
+    } else {
+        Some(FilterFault::NotWholeChroma)
     }
 }
 

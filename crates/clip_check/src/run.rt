@@ -2,11 +2,10 @@
 ghost use Rattle.std.specs.Prelude.{◌≡◌, List, length, IfOk};
 ghost use Rattle.fv_plane.specs.declared.format.Info.{Info};
 ghost use Rattle.fv_plane.specs.Info.{IsLawful};
-ghost use Rattle.fv_plane.specs.Refusals.{first_fault};
 ghost use Rattle.clip_term.specs.Choice as c;
 ghost use Rattle.clip_term.specs.ClipTerm.{choice};
 ghost use Rattle.clip_term.specs.Terms.{IsSound, AreLawful};
-ghost use Rattle.clip_check.specs.Summaries.{Tells, TellsAll};
+ghost use Rattle.clip_check.specs.Summaries.{TellsAll};
 
 use crate::limits::{limits, rate_of, sides_of};
 use crate::shared::{disagreement, same_format, same_size};
@@ -14,37 +13,23 @@ use crate::summary::Summary;
 use clip_term::{FilterFault, RunOp};
 use fv_plane::Info;
 
-// What the row refuses.
-fn run_fault(op: &RunOp, summary: &Summary) -> Option<FilterFault>
-    ensures { (infos : List Info) → Tells summary.now infos
-        → result ≡ first_fault (c.run_refusals (c.run_act op.now) infos) }
-{
-    match op {
-        RunOp::Select { .. } => disagreement(summary.same_formats, summary.same_sizes),
-        RunOp::Filter { .. } => {
-            let a = summary.second.shape;
-            let b = summary.third.shape;
-            disagreement(same_format(b, a), same_size(b, a))
-        }
-    }
-}
-
-// The clip whose info the row has.
-fn run_base(op: &RunOp, summary: &Summary) -> Info
-    ensures { (infos : List Info) → Tells summary.now infos → result ≡ c.run_base (c.run_act op.now) infos }
-{
-    match op {
-        RunOp::Select { .. } => summary.first,
-        RunOp::Filter { .. } => summary.second,
-    }
-}
-
 /// The check of a choice over the summary of its clips.
 pub fn run_info(op: &RunOp, summary: &Summary) -> Result<Info, FilterFault>
     ensures { (infos : List Info) → TellsAll summary.now infos → result ≡ c.check_run (c.run_act op.now) infos }
 {
-    let base = run_base(op, summary);
-    match run_fault(op, summary) {
+    let (base, fault) = match op {
+        RunOp::Select { .. } => (
+            summary.first,
+            disagreement(summary.same_formats, summary.same_sizes),
+        ),
+        RunOp::Filter { .. } => {
+            let a = summary.second;
+            let b = summary.third.shape;
+            let fault = disagreement(same_format(b, a.shape), same_size(b, a.shape));
+            (a, fault)
+        }
+    };
+    match fault {
         Some(fault) => Err(fault),
         None => limits(
             base,
