@@ -16,7 +16,9 @@ The text has these examples, and a file's examples run in their order in a folde
   table     in docs/manual/errors.md each row has an error, and a line or a command (after `$ `) that gives it
 
 `./build` is a stub here and `rt ci` isn't run, since the gate does both. A command whose tool isn't installed is skipped with a
-line, and so is what fails after it in the same file, which may need what it makes. `in.mkv`, the reader's own file, is two seconds of a moving picture with a tone, which ffmpeg makes; mpv has no screen.
+line, and so is what fails after it in the same file, which may need what it makes. `in.mkv`, the
+reader's own file, is two seconds of a moving picture with a tone, which ffmpeg makes: H.264 with one keyframe, as many files
+have them seconds apart; mpv has no screen.
 
 Links to files and headings are looked up too; and each function, filter and error that the sources name has its place in the
 manual.
@@ -353,7 +355,8 @@ def main(asked):
         mkv = os.path.join(folder, "in.mkv") if shutil.which("ffmpeg") else ""
         if mkv:
             subprocess.run(["ffmpeg", "-nostdin", "-loglevel", "error", "-f", "lavfi", "-i", "testsrc2=s=320x180:r=25:d=2",
-                            "-f", "lavfi", "-i", "sine=d=2", "-c:v", "mpeg4", "-c:a", "flac", mkv], check=True)
+                            "-f", "lavfi", "-i", "sine=d=2", "-c:v", "libx264", "-preset", "veryfast", "-g", "250",
+                            "-c:a", "alac", mkv], check=True)
         count = sum(run_file(it, mkv) for it in files)
     incomplete.clear()
     texts = files + [] if asked else files + ["docs/" + it for it in os.listdir(os.path.join(ROOT, "docs")) if it.endswith(".md")]
