@@ -1,9 +1,10 @@
 #!/usr/bin/env python3
 """The measured figures of docs/benchmarks.md: avsserve beside cat and ffmpeg, on the same files in one run.
 
-    bench/measure.py [--rounds N] [PROGRAM ..]
+    bench/measure.py [--rounds N] [--small] [PROGRAM ..]
 
-It builds bin/avsserve and measures it and each other PROGRAM (an earlier build, say), and prints a line for each figure:
+It builds bin/avsserve, unless the environment names a program as AVSSERVE, and measures it and each other PROGRAM (an earlier
+build, say), and prints a line for each figure:
 
   copy     60 frames of 1920x1080 to a file: the median wall time, and the ratios to ffmpeg and cat
   cpu      the same to /dev/null: the median processor time, and the ratio to cat
@@ -13,6 +14,8 @@ It builds bin/avsserve and measures it and each other PROGRAM (an earlier build,
   script   scripts of 1 MiB of several kinds: wall time and peak of resident memory until each is refused
 
 The files are made once, in avsserve-bench in the temporary folder, and take 400 MB. Without ffmpeg its columns are empty.
+--small does the same over few and small frames and short scripts, in a folder of its own: it tries this script, and its figures
+mean nothing.
 Other work on the machine disturbs the wall times: look at `uptime` before.
 """
 import argparse, os, random, resource, shutil, statistics, subprocess, tempfile, time
@@ -97,9 +100,8 @@ def peak(argv):
     return tuple(float(word) for word in done.stdout.split())
 
 
-def scripts():
-    """Scripts of 1 MiB: what each repeats, with what is before and after."""
-    size = 1 << 20
+def scripts(size):
+    """Scripts of so many bytes: what each repeats, with what is before and after."""
     for name, first, unit, last in (
             ("string", '"', "a", '"'), ("comment", "/*", "x", "*/"), ("newlines", "", "\n", ""), ("parentheses", "", "(", ""),
             ("operators", "1", "+1", ""), ("method calls", "a", ".f", ""), ("else if", "if(a){}\n", "else if(a){}\n", ""),
@@ -108,16 +110,31 @@ def scripts():
 
 
 def main():
+    global DATA
     options = argparse.ArgumentParser(description=__doc__, formatter_class=argparse.RawDescriptionHelpFormatter)
     options.add_argument("--rounds", type=int, default=9)
+    options.add_argument("--small", action="store_true")
     options.add_argument("programs", nargs="*", metavar="PROGRAM")
     options = options.parse_args()
-    subprocess.run([os.path.join(ROOT, "build")], check=True)
-    programs = [os.path.join(ROOT, "bin", "avsserve")] + [os.path.abspath(program) for program in options.programs]
-    os.makedirs(DATA, exist_ok=True)
-    stream("copy.y4m", 1920, 1080, 60)
-    stream("small.y4m", 16, 16, 20_000)
-    sparse("sparse.y4m", 1920, 1080, 1_608)
+    program = os.environ.get("AVSSERVE")
+    if not program:
+        subprocess.run([os.path.join(ROOT, "build")], check=True)
+        program = os.path.join(ROOT, "bin", "avsserve")
+    programs = [os.path.abspath(it) for it in [program] + options.programs]
+    if options.small:
+        with tempfile.TemporaryDirectory() as DATA:
+            measure(programs, options.rounds, (64, 36, 20), 200, 100, 1 << 12)
+    else:
+        os.makedirs(DATA, exist_ok=True)
+        measure(programs, options.rounds, (1920, 1080, 60), 20_000, 1_608, 1 << 20)
+
+
+def measure(programs, rounds, copied, small, holes, script_size):
+    """Prints each figure: over a clip of this width, height and length, so many small frames, frames of holes, and bytes of scripts."""
+    width, height, frames = copied
+    stream("copy.y4m", width, height, frames)
+    stream("small.y4m", 16, 16, small)
+    sparse("sparse.y4m", width, height, holes)
     for name in ("copy", "small", "sparse"):
         script(name + ".avs", name + ".y4m")
 
@@ -130,14 +147,13 @@ def main():
                                "-pix_fmt", "yuv420p", "-y", "-"]
         return found
 
-    rounds = options.rounds
     line("copy", medians(contenders("copy", ("cat", "ffmpeg")), os.path.join(DATA, "out.y4m"), rounds), 0, "ms", 1000)
     line("cpu", medians(contenders("copy", ("cat",)), os.devnull, rounds), 1, "ms", 1000)
     line("small", medians(contenders("small", ("cat", "ffmpeg")), os.devnull, rounds), 0, "ms", 1000)
     line("sparse", medians(contenders("sparse", ()), os.devnull, 1, good=3), 0, "ms", 1000)
     for program in programs:
         print("%-7s %-44s %8.1f MB" % ("memory", program, peak([program, "render", "copy.avs"])[1]))
-    for name, text in scripts():
+    for name, text in scripts(script_size):
         with open(os.path.join(DATA, "large.avs"), "w") as out:
             out.write(text)
         print("%-7s %-44s %8.1f ms %6.1f MB" % ("script", name, *peak([programs[0], "render", "large.avs"])))

@@ -1,13 +1,14 @@
 #!/usr/bin/env python3
 """How long each filter takes, by one worker and by several: frames of 1920x1080 into a pipe, which cat reads.
 
-    bench/workers.py [--frames N] [--rounds N] [--threads 1,2,3,4] [--bits 8] [--only NAME,..] [--busy N] [PROGRAM]
+    bench/workers.py [--frames N] [--size 1920x1080] [--rounds N] [--threads 1,2,3,4] [--bits 8] [--only NAME,..] [--busy N]
+                     [PROGRAM]
 
 PROGRAM is bin/avsserve, which is built, where none is named. For each script and each number of workers it prints the median
 wall time, the processor time and the page faults of the program, and the first two also by what one worker took in the same
 run; the runs of one script alternate. ffmpeg does the same where it is installed, with its threads. --bits B has samples of B
-bits, 8 to 16. --busy N keeps N other processes busy meanwhile. The files are made once, in avsserve-bench in the temporary
-folder.
+bits, 8 to 16. --busy N keeps N other processes busy meanwhile. --size says the size of the frames: at least 32x272, for what
+the scripts crop, and at least 50 frames, for what they trim. The files are made once, in avsserve-bench in the temporary folder.
 """
 import argparse, os, random, resource, shutil, statistics, subprocess, tempfile, time
 
@@ -20,8 +21,8 @@ SCRIPTS = {
     "flip": ('Y4MSource("%s").FlipVertical\n', ["-vf", "vflip"]),
     "mirror": ('Y4MSource("%s").FlipHorizontal\n', ["-vf", "hflip"]),
     "turn": ('Y4MSource("%s").TurnRight\n', ["-vf", "transpose=1"]),
-    "crop": ('Y4MSource("%s").Crop(8, 132, -8, -132)\n', ["-vf", "crop=1904:816:8:132"]),
-    "borders": ('Y4MSource("%s").AddBorders(0, 132, 0, 132)\n', ["-vf", "pad=1920:1344:0:132"]),
+    "crop": ('Y4MSource("%s").Crop(8, 132, -8, -132)\n', ["-vf", "crop=iw-16:ih-264:8:132"]),
+    "borders": ('Y4MSource("%s").AddBorders(0, 132, 0, 132)\n', ["-vf", "pad=iw:ih+264:0:132"]),
     "invert": ('Y4MSource("%s").Invert\n', ["-vf", "negate"]),
     "limiter": ('Y4MSource("%s").Limiter\n', ["-vf", "limiter=16:235"]),
     "grey": ('Y4MSource("%s").Greyscale\n', ["-vf", "hue=s=0"]),
@@ -42,18 +43,19 @@ SCRIPTS = {
                ["-vf", "signalstats,metadata=select:key=lavfi.signalstats.YAVG:value=0:function=greater"]),
     "script": ('SetFilterMTMode("DEFAULT_MT_MODE", 2)\nY4MSource("%s")\nCrop(0, 132, 0, -132)\nAddBorders(0, 132, 0, 132)\n'
                'Limiter()\na = last\nMerge(a, a.FlipHorizontal)\nTemporalSoften(1, 8, 8)\nGreyscale\n',
-               ["-filter_complex", "[0]crop=1920:816:0:132,pad=1920:1080:0:132,limiter=16:235,split[x][y];[y]hflip[z];"
+               ["-filter_complex", "[0]crop=iw:ih-264:0:132,pad=iw:ih+264:0:132,limiter=16:235,split[x][y];[y]hflip[z];"
                 "[x][z]blend=all_mode=average,tmix=frames=3,hue=s=0"]),
 }
 
 
-def stream(path, frames, bits):
-    """A stream of 1920x1080 in 4:2:0 whose samples are random."""
+def stream(path, width, height, frames, bits):
+    """A stream of 4:2:0 whose samples are random."""
     if os.path.exists(path):
         return
-    rng, count = random.Random(1), 1920 * 1080 * 3 // 2
+    rng, count = random.Random(1), width * height * 3 // 2
     with open(path + ".part", "wb") as out:
-        out.write(b"YUV4MPEG2 W1920 H1080 F25:1 Ip A1:1 C%b\n" % (b"420jpeg" if bits == 8 else b"420p%d" % bits))
+        colour = b"420jpeg" if bits == 8 else b"420p%d" % bits
+        out.write(b"YUV4MPEG2 W%d H%d F25:1 Ip A1:1 C%b\n" % (width, height, colour))
         for _ in range(frames):
             samples = rng.randbytes(count)
             if bits > 8:
@@ -82,6 +84,7 @@ def run(argv):
 def main():
     options = argparse.ArgumentParser(description=__doc__, formatter_class=argparse.RawDescriptionHelpFormatter)
     options.add_argument("--frames", type=int, default=300)
+    options.add_argument("--size", default="1920x1080")
     options.add_argument("--rounds", type=int, default=5)
     options.add_argument("--threads", default="1,2,3,4")
     options.add_argument("--bits", type=int, default=8)
@@ -93,8 +96,8 @@ def main():
         subprocess.run([os.path.join(ROOT, "build")], check=True, stdout=subprocess.DEVNULL)
     program = os.path.abspath(options.program or os.path.join(ROOT, "bin", "avsserve"))
     os.makedirs(DATA, exist_ok=True)
-    clip = "frames%d-%d.y4m" % (options.frames, options.bits)
-    stream(os.path.join(DATA, clip), options.frames, options.bits)
+    clip = "frames%d-%d-%s.y4m" % (options.frames, options.bits, options.size)
+    stream(os.path.join(DATA, clip), *map(int, options.size.split("x")), options.frames, options.bits)
     pixels = "yuv420p" if options.bits == 8 else "yuv420p%dle" % options.bits
     others = [subprocess.Popen(["python3", "-c", "while True: pass"]) for _ in range(options.busy)]
     try:

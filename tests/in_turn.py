@@ -1,13 +1,13 @@
 #!/usr/bin/env python3
 """Refuses each allocation, or each call of the system, of the program in turn, and looks at how each run ends.
 
-    tests/in_turn.py memory|faults [--step N] [--jobs N]
+    tests/in_turn.py memory|faults [--step N] [--jobs N] [--only CASE]
 
 `memory` refuses each allocation of renders, of `info` and of `selftest`, one in each run: the status is 0 or 6, or that of a
-read that fails in the same run. With --step N it refuses every Nth one. `faults` refuses each open, read, seek and write in
-turn, and each thread, with pieces of one byte, so that every place of every file has its turn. Each run ends with the status
-and the line that docs/manual/errors.md gives, has written the beginning of the right stream, in whole frames but where the write
-failed, and has closed what it opened.
+read that fails in the same run. With --step N it refuses every Nth one, and with --only CASE, as "info both.avs", those of that
+case alone. `faults` refuses each open, read, seek and write in turn, and each thread, with pieces of one byte, so that every
+place of every file has its turn. Each run ends with the status and the line that docs/manual/errors.md gives, has written the
+beginning of the right stream, in whole frames but where the write failed, and has closed what it opened.
 
 How many runs there were of each case, and how they ended, is printed. A case in which no call was refused is wrong. The program
 is built first, unless the environment names one as AVSSERVE; tests/refuse.c is built by gcc, and without that nothing is run.
@@ -156,11 +156,13 @@ def fault_of(ended, whole, statuses, ends):
 class Tally:
     """How the runs of all cases ended."""
 
-    def __init__(self, folder, jobs):
-        self.folder, self.jobs, self.runs, self.wrong = folder, jobs, 0, 0
+    def __init__(self, folder, jobs, only):
+        self.folder, self.jobs, self.only, self.runs, self.wrong = folder, jobs, only, 0, 0
 
     def each(self, case, kind, statuses, step, piece):
         """Refuses each call of this kind in turn, as many as a run of the case makes."""
+        if self.only not in (None, case.said):
+            return
         status, whole, err, counts = Case(case.words).run(self.folder, piece=piece)
         if status != 0:
             raise SystemExit(f"in_turn: {case.said}: status {status}, {err!r}")
@@ -226,6 +228,7 @@ def main():
     parser.add_argument("what", choices=["memory", "faults"])
     parser.add_argument("--step", type=int, default=1)
     parser.add_argument("--jobs", type=int, default=os.cpu_count())
+    parser.add_argument("--only")
     options = parser.parse_args()
     if "AVSSERVE" not in os.environ:
         subprocess.run([os.path.join(ROOT, "build")], check=True, stdout=subprocess.DEVNULL)
@@ -239,10 +242,10 @@ def main():
         for name, data in FILES.items():
             with open(os.path.join(folder, name), "wb") as file:
                 file.write(data)
-        tally = Tally(folder, options.jobs)
+        tally = Tally(folder, options.jobs, options.only)
         {"memory": memory, "faults": faults}[options.what](tally, options.step)
     print(f"in_turn: {tally.runs} runs, {tally.wrong} wrong")
-    return 1 if tally.wrong else 0
+    return 1 if tally.wrong or not tally.runs else 0
 
 
 LIBRARY = ""

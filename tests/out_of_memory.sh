@@ -2,6 +2,6 @@
 # Runs the program with each of its allocations refused in turn, in some minutes: tests/in_turn.py says over what, and how
 # each run must end.
 #
-#     tests/out_of_memory.sh [--step N] [--jobs N]
+#     tests/out_of_memory.sh [--step N] [--jobs N] [--only "info both.avs"]
 set -eu
 exec "$(dirname "$0")/in_turn.py" memory "$@"

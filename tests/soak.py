@@ -1,12 +1,12 @@
 #!/usr/bin/env python3
 """Renders random scripts by random crews for so many minutes, and watches the memory of a long render.
 
-    tests/soak.py --minutes N [--seed S] [--jobs J]
+    tests/soak.py --minutes N [--frames F] [--seed S] [--jobs J]
 
 Each run is one of tests/workers.py: a random script over random files, by 2 to 16 workers with a cache and a window at random,
-against the stream of one worker. At the start, and again after every few minutes, a clip of 100,000 frames is rendered: its
-memory may grow from the first thousand frames to the last by what the journal of the render holds, and not from one render to
-the next. The program is built first, unless the environment names one as AVSSERVE.
+against the stream of one worker. At the start, and again after every few minutes, a clip of F frames is rendered, 100,000 unless
+--frames says otherwise: its memory may grow from the first thousand frames to the last by what the journal of the render holds, and not from one render to
+the next. Each of J jobs has one run at least. The program is built first, unless the environment names one as AVSSERVE.
 """
 
 import argparse
@@ -20,7 +20,6 @@ import time
 
 import workers
 
-FRAMES = 100_000
 # What an event and a window of the journal take, with the room that a list keeps for more, in bytes.
 EVENT, WINDOW = 2 * 48, 256
 # What two renders of one clip may differ by, in bytes.
@@ -47,13 +46,13 @@ def peak(folder, frames, crew):
     return used.ru_maxrss * 1024, events * EVENT + frames * WINDOW
 
 
-def long_renders(folder, before):
-    """What is wrong with the memory of long renders, beside that of earlier ones."""
+def long_renders(folder, frames, before):
+    """What is wrong with the memory of renders of so many frames, beside that of earlier ones."""
     for crew in CREWS:
         short, _ = peak(folder, 1000, crew)
-        whole, journal = peak(folder, FRAMES, crew)
+        whole, journal = peak(folder, frames, crew)
         said = " ".join(crew)
-        print(f"soak: {FRAMES} frames {said}: {whole >> 20} MB, of which the journal may have {journal >> 20}", flush=True)
+        print(f"soak: {frames} frames {said}: {whole >> 20} MB, of which the journal may have {journal >> 20}", flush=True)
         if whole > short + journal + SLACK:
             yield f"{said}: {whole} bytes, {short} for the first thousand frames and {journal} for the journal"
         if whole > before.setdefault(said, whole) + SLACK:
@@ -63,6 +62,7 @@ def long_renders(folder, before):
 def main():
     parser = argparse.ArgumentParser(description=__doc__, formatter_class=argparse.RawDescriptionHelpFormatter)
     parser.add_argument("--minutes", type=float, required=True)
+    parser.add_argument("--frames", type=int, default=100_000)
     parser.add_argument("--seed", type=int, default=int(time.time()))
     parser.add_argument("--jobs", type=int, default=max(1, os.cpu_count() // 2))
     options = parser.parse_args()
@@ -74,7 +74,7 @@ def main():
     def rounds(at):
         with tempfile.TemporaryDirectory() as folder:
             for n in range(100):
-                if time.monotonic() > end:
+                if n and time.monotonic() > end:
                     return n, None
                 fault = workers.one(random.Random(f"{options.seed} {at} {n}"), folder, 120)
                 if fault:
@@ -83,16 +83,18 @@ def main():
 
     with tempfile.TemporaryDirectory() as folder, concurrent.futures.ThreadPoolExecutor(options.jobs) as pool:
         with open(os.path.join(folder, "long.y4m"), "wb") as file:
-            file.write(workers.stream(random.Random(options.seed), 16, 16, FRAMES))
+            file.write(workers.stream(random.Random(options.seed), 16, 16, 8, options.frames))
         at = 0
         while time.monotonic() < end:
-            faults = list(long_renders(folder, before))
+            faults = list(long_renders(folder, options.frames, before))
             some = time.monotonic() + 120
-            while time.monotonic() < min(some, end):
+            while True:
                 for count, fault in pool.map(rounds, range(at, at + options.jobs)):
                     runs += count
                     faults += [fault] if fault else []
                 at += options.jobs
+                if time.monotonic() > min(some, end):
+                    break
             wrong += len(faults)
             for fault in faults:
                 print(f"soak: {fault}", flush=True)

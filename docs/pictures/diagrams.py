@@ -1,19 +1,23 @@
 #!/usr/bin/env python3
 """Draws layers.svg, the crates of crates.txt by their groups, and window.svg, a window of eight frames with four workers.
 
-    docs/pictures/diagrams.py
+    docs/pictures/diagrams.py [FOLDER]
+
+They are drawn into FOLDER, or beside this script.
 """
 
 import os
+import sys
 from xml.sax.saxutils import escape
 
 HERE = os.path.dirname(os.path.abspath(__file__))
 ROOT = os.path.dirname(os.path.dirname(HERE))
+INTO = sys.argv[1] if len(sys.argv) > 1 else HERE
 WIDTH, FONT = 900, "font-family='sans-serif' font-size='13'"
 # The layers, the lowest first, each with the first crate of its groups in crates.txt.
 LAYERS = [
     ("the outside", "fv_io self_test command_line"),
-    ("frames and streams", "fv_plane fv_spares y4m_stream seq_source"),
+    ("frames and streams", "fv_rows fv_spares y4m_stream seq_source"),
     ("scripts as trees", "avs_lex avs_values"),
     ("clips and filters", "clip_term mt_modes clip_reference"),
     ("what scripts mean", "avs_meaning avs_state"),
@@ -45,7 +49,7 @@ def box(x, y, width, height, fill, more="stroke='#456'"):
 
 
 def write(name, height, parts):
-    with open(os.path.join(HERE, name), "w", encoding="utf-8") as file:
+    with open(os.path.join(INTO, name), "w", encoding="utf-8") as file:
         file.write(f"<svg xmlns='http://www.w3.org/2000/svg' width='{WIDTH}' height='{height}' viewBox='0 0 {WIDTH} {height}'>\n")
         file.write(box(0, 0, WIDTH, height, "#ffffff", "") + "\n" + "\n".join(parts) + "\n</svg>\n")
 

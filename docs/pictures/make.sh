@@ -2,8 +2,11 @@
 # Makes the pictures of the manual: each is one frame of a script, which avsserve renders and ffmpeg writes as PNG, twice as
 # large. The diagrams are made by diagrams.py. The result is the same unless the program, ffmpeg's test picture or crates.txt changed.
 #
-#     docs/pictures/make.sh
+#     docs/pictures/make.sh [FOLDER]
+#
+# They are made in FOLDER, or beside this script.
 set -eu -o pipefail
+into=$(realpath "${1:-$(dirname "$0")}")
 cd "$(dirname "$0")/../.."
 [ -n "${AVSSERVE:-}" ] || ./build
 program=$(realpath "${AVSSERVE:-bin/avsserve}")
@@ -30,7 +33,7 @@ picture() {
     { cat && echo "Trim($2, -1)"; } >one.avs
     "$program" render one.avs | ffmpeg -v error -y -i - -frames:v 1 -vf \
         "scale=iw*$3:ih*$3:flags=neighbor,split[a][b];[a]palettegen=max_colors=64:reserve_transparent=0[p];[b][p]paletteuse=dither=none" \
-        -map_metadata -1 -bitexact "$here/$1.png"
+        -map_metadata -1 -bitexact "$into/$1.png"
 }
 
 picture borders 0 2 <<'END'
@@ -57,6 +60,6 @@ END
 echo 'Import("examples/compare.avs")' | picture compare 12 3
 echo 'Import("examples/wide.avs")' | picture wide 12 3
 echo 'Import("examples/sheet.avs")' | picture sheet 0 3
-cd "$here"
-./diagrams.py
+"$here/diagrams.py" "$into"
+cd "$into"
 ls -l -- *.png *.svg | awk '{ print $5, $9 }'
