@@ -13,7 +13,8 @@ The text has these examples, and a file's examples run in their order in a folde
             (the samples of the first frame), `Y 16 U 128 V 128` (its first sample of each plane), or the size, format, rate and
             length of a clip as `info` prints them. Lines without one stand before those below; so does `clips.avs` of the file
   text      what isn't run
-  table     in docs/manual/errors.md each row has an error, and a line or a command (after `$ `) that gives it
+  table     in docs/manual/errors.md each row has an error, and a line or a command (after `$ `) that gives it; in
+            docs/manual/avisynth.md each row has lines and their errors, or `LINE` gives `RESULT`, as behind a comment
 
 `./build` is a stub here and `rt ci` isn't run, since the gate does both. A command whose tool isn't installed is skipped with a
 line, and so is what fails after it in the same file, which may need what it makes. `in.mkv`, the
@@ -275,6 +276,31 @@ def run_table(room, where, text):
     return count
 
 
+# What the tables of docs/manual/avisynth.md have.
+CLIPS = "c = BlankClip(length=10, width=8, height=8)\na = c\nb = c\nv = c\nc\n"
+
+
+def run_differences(room, where, text):
+    """The rows of the tables of what differs."""
+    count = 0
+    for number, line in enumerate(text.split("\n"), 1):
+        if not line.startswith("| ") or line.startswith(("| In ", "| What ")):
+            continue
+        cells = line.strip("| ").split(" | ")
+        pairs = re.findall(r"`([^`]+)` gives `([^`]+)`", cells[-1])
+        if re.fullmatch(r"`\w+`(, `\w+`)*", cells[1]):
+            lines, ends = (re.findall(r"`([^`]+)`", it) for it in cells[:2])
+            pairs = list(zip(lines, ends if len(ends) > 1 else ends * len(lines), strict=True))
+        if not pairs:
+            fail(f"{where}:{number}", "a row without an example")
+        for code, said in pairs:
+            count += 1
+            found = gives(room, CLIPS, code, said)
+            if found.split(": ")[0] != said:
+                fail(f"{where}:{number}", f"{code}\n  gives: {found}\n  the text says: {said}")
+    return count
+
+
 def blocks(text):
     """The fenced blocks of a text, each with its number of line and its word."""
     opened = None
@@ -309,6 +335,8 @@ def run_file(path, mkv):
                 fail(where, f"not done after {SECONDS} s")
         if path.endswith("/errors.md"):
             count += run_table(room, path, text)
+        if path.endswith("/avisynth.md"):
+            count += run_differences(room, path, text)
     return count
 
 
