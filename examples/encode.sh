@@ -73,7 +73,7 @@ esac
 [ $depth = 8 ] || planes=${planes}10le
 
 by_x264() {
-    local told=(--input-range "${range:-tv}" --output-csp $space --output-depth $depth)
+    local told=(--input-range "${range:-tv}" --output-csp "$space" --output-depth "$depth")
     [ -z "$range" ] || told+=(--range "$range")
     [ -z "$matrix" ] || told+=(--colormatrix "$matrix")
     [ -z "$primaries" ] || told+=(--colorprim "$primaries")
@@ -111,7 +111,7 @@ by_ffmpeg() {
     [ -z "$marks" ] || told+=(-vf "setparams=${marks#:}")
     "$avsserve" render "$room/s.avs" |
         ffmpeg -v error -nostats -progress pipe:1 -f yuv4mpegpipe -i - -pix_fmt $planes -c:v libx264 "${told[@]}" "file:$room/video.mkv" |
-        while IFS== read -r name value; do
+        while IFS='=' read -r name value; do
             if [ "$name" = frame ] && [ "$value" -gt 0 ]; then
                 left=$((SECONDS * (frames - value) / value))
                 printf '\r[%d%%] %d/%d frames, %d:%02d left ' $((100 * value / frames)) "$value" "$frames" $((left / 60)) $((left % 60)) >&2

@@ -1,0 +1,25 @@
+# Completion of avsserve's arguments for bash. tools/install.sh puts it where bash finds it; or, in ~/.bashrc:
+#
+#     source tools/completion.bash
+
+_avsserve() {
+    local word=${COMP_WORDS[COMP_CWORD]} before=${COMP_WORDS[COMP_CWORD - 1]} command=${COMP_WORDS[1]-}
+    COMPREPLY=()
+    if [ "$COMP_CWORD" = 1 ]; then
+        mapfile -t COMPREPLY < <(compgen -W "render info selftest" -- "$word")
+        return
+    fi
+    # A number comes there.
+    case $command:$before in
+    selftest:* | render:--cache | render:--threads | *:=) return ;;
+    esac
+    if [ "$command" = render ] && [[ $word = -* ]]; then
+        mapfile -t COMPREPLY < <(compgen -W "--cache --threads --report --plain" -- "$word")
+        return
+    fi
+    # Scripts, and folders on the way to them.
+    compopt -o filenames 2>/dev/null
+    mapfile -t COMPREPLY < <(compgen -f -X '!*.avs' -- "$word"; compgen -d -- "$word")
+}
+
+complete -F _avsserve avsserve
