@@ -6,7 +6,7 @@
 # The script reads Y4MSource(file): here `file` is the stream that ffmpeg makes of VIDEO, in 4:2:0, of 10 bits where the video has
 # more than 8, else of 8. SECOND is where in VIDEO the clip of the script begins, 0 if it isn't given: the sound begins there. With
 # `Trim(180, 0)` at 25 frames a second it is 7.2. Range, matrix, primaries and transfer are those of VIDEO. Where x264 isn't
-# installed, ffmpeg encodes by libx264, with the same options; it doesn't encode fields as fields then.
+# installed, ffmpeg encodes by libx264, with the same options.
 #
 # The stream is large, and lies beside OUT.mkv until the end. Where anything fails, so does this, and there is no OUT.mkv.
 set -eu -o pipefail
@@ -86,7 +86,7 @@ by_x264() {
 
 # The options of x264 as ffmpeg takes them.
 by_ffmpeg() {
-    local told=() params="" name value
+    local told=() params="" name value head
     while [ $# -gt 0 ]; do
         name=$1 value=1
         shift
@@ -103,6 +103,9 @@ by_ffmpeg() {
         esac
     done
     [ -z "$params" ] || told+=(-x264-params "$params")
+    # x264 itself takes this from the head.
+    IFS= read -r head <"$room/in.y4m"
+    case $head in *" It "* | *" Ib "*) told+=(-flags +ilme+ildct) ;; esac
     local marks=""
     [ -z "$range" ] || marks=$marks:range=$range
     [ -z "$matrix" ] || marks=$marks:colorspace=$matrix
@@ -110,11 +113,13 @@ by_ffmpeg() {
     [ -z "$transfer" ] || marks=$marks:color_trc=$transfer
     [ -z "$marks" ] || told+=(-vf "setparams=${marks#:}")
     "$avsserve" render "$room/s.avs" |
-        ffmpeg -v error -nostats -progress pipe:1 -f yuv4mpegpipe -i - -pix_fmt $planes -c:v libx264 "${told[@]}" "file:$room/video.mkv" |
+        ffmpeg -v error -nostats -progress pipe:1 -f yuv4mpegpipe -i - -pix_fmt $planes -c:v libx264 "${told[@]}" \
+            "file:$room/video.mkv" |
         while IFS='=' read -r name value; do
             if [ "$name" = frame ] && [ "$value" -gt 0 ]; then
                 left=$((SECONDS * (frames - value) / value))
-                printf '\r[%d%%] %d/%d frames, %d:%02d left ' $((100 * value / frames)) "$value" "$frames" $((left / 60)) $((left % 60)) >&2
+                printf '\r[%d%%] %d/%d frames, %d:%02d left ' $((100 * value / frames)) "$value" "$frames" \
+                    $((left / 60)) $((left % 60)) >&2
             fi
         done
     echo >&2
@@ -125,6 +130,7 @@ if command -v x264 >/dev/null 2>&1; then by_x264 "$@"; else by_ffmpeg "$@"; fi
 # Sound from that second on, as long as the picture. -copypriorss leaves out what a copy would take from before it.
 ffmpeg -nostdin -v error -i "file:$room/video.mkv" -ss "$second" -t "$length" -i "file:$video" -map 0:v -map '1:a?' -map_chapters -1 \
     -c copy -copypriorss:a 0 "file:$room/out.${out##*.}"
-found=$(ffprobe -v error -select_streams v:0 -count_packets -show_entries stream=nb_read_packets -of csv=p=0 "file:$room/out.${out##*.}")
+found=$(ffprobe -v error -select_streams v:0 -count_packets -show_entries stream=nb_read_packets -of csv=p=0 \
+    "file:$room/out.${out##*.}")
 [ "${found%%,*}" = "$frames" ] || fail "$found frames of $frames were encoded"
 mv "$room/out.${out##*.}" "$out"

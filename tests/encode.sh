@@ -1,6 +1,6 @@
 #!/usr/bin/env bash
-# Encodes by examples/encode.sh videos that ffmpeg makes: of H.264 with one keyframe and sound, of full range, of 10 bits, without
-# sound, and with blanks in their names; by x264 and, where that can't be found, by ffmpeg. It looks at the frames, at when picture
+# Encodes by examples/encode.sh videos that ffmpeg makes: of H.264 with one keyframe and sound, of full range, of 10 bits, of
+# fields, without sound, and with blanks in their names; by x264 and, where that can't be found, by ffmpeg. It looks at the frames, at when picture
 # and sound begin, at the marks of colour, and at the decoded pictures. Where something fails nothing may be left. Without ffmpeg
 # nothing is run, and without x264 its half is skipped with a line.
 set -eu -o pipefail
@@ -25,6 +25,7 @@ fail() {
 is() { [ "$2" = "$3" ] || fail "$1: $2; wanted $3"; }
 marks() { ffprobe -v error -select_streams v -of default=nk=1:nw=1 -show_entries "stream=$2" "$1" | paste -sd ' '; }
 first() { ffprobe -v error -select_streams "$2" -show_entries packet=pts_time -read_intervals %+#1 -of csv=p=0 "$1" | tr -d ,; }
+frames() { ffprobe -v error -select_streams v -count_packets -show_entries stream=nb_read_packets -of csv=p=0 "$1" | tr -d ,; }
 samples() { ffmpeg "${quiet[@]}" -i "$1" -f rawvideo ${2:+-pix_fmt $2} -; }
 
 # The sound is 880 Hz up to the second 1.2, and then nothing.
@@ -33,6 +34,7 @@ ffmpeg "${quiet[@]}" -f lavfi -i testsrc2=s=64x36:r=25:d=3 -f lavfi -i "aevalsrc
 ffmpeg "${quiet[@]}" -f lavfi -i testsrc2=s=64x36:r=25:d=0.4 -vf scale=out_range=pc:out_color_matrix=bt709 -pix_fmt yuv420p \
     -color_range pc -colorspace bt709 -color_primaries bt709 -color_trc bt709 -c:v libx264 -qp 0 full.mkv
 ffmpeg "${quiet[@]}" -f lavfi -i testsrc2=s=64x36:r=25:d=0.4 -pix_fmt yuv420p10le -c:v libx264 -qp 0 ten.mkv
+ffmpeg "${quiet[@]}" -f lavfi -i testsrc2=s=64x48:r=50:d=0.4 -vf interlace -c:v libx264 -qp 0 -flags +ilme+ildct fields.mkv
 mkdir "to here"
 echo 'Y4MSource(file).Trim(30, 0)' >"a cut.avs"
 echo 'Y4MSource(file)' >copy.avs
@@ -40,10 +42,11 @@ echo 'Y4MSource(file)' >copy.avs
 cases() {
     "$encode" "a film.mkv" "a cut.avs" "to here/cut $1.mkv" 1.2 --crf 30 2>progress.txt || fail "$1: $(cat progress.txt)"
     grep -q '%\]' progress.txt || fail "$1: it shows no percentage"
-    is "$1: frames" "$(ffprobe -v error -select_streams v -count_packets -of csv=p=0 -show_entries stream=nb_read_packets "to here/cut $1.mkv" | tr -d ,)" 45
+    is "$1: frames" "$(frames "to here/cut $1.mkv")" 45
     is "$1: the first frame" "$(first "to here/cut $1.mkv" v)" 0.000000
     # A packet of this sound has 4608 samples.
-    awk -v "t=$(first "to here/cut $1.mkv" a)" 'BEGIN { exit !(t >= 0 && t < 0.097) }' || fail "$1: the sound begins at $(first "to here/cut $1.mkv" a)"
+    begins=$(first "to here/cut $1.mkv" a)
+    awk -v "t=$begins" 'BEGIN { exit !(t >= 0 && t < 0.097) }' || fail "$1: the sound begins at $begins"
     samples=$(ffmpeg "${quiet[@]}" -i "to here/cut $1.mkv" -vn -f s16le - | tr -d '\0' | wc -c)
     is "$1: samples of sound from before the cut" "$samples" 0
 
@@ -55,6 +58,10 @@ cases() {
     "$encode" ten.mkv copy.avs "ten $1.mkv" 0 --qp 0 --preset fast 2>progress.txt || fail "$1: $(cat progress.txt)"
     is "$1: ten bits" "$(marks "ten $1.mkv" pix_fmt)" yuv420p10le
     cmp <(samples ten.mkv) <(samples "ten $1.mkv") || fail "$1: other samples of ten bits"
+
+    "$encode" fields.mkv copy.avs "fields $1.mkv" 2>progress.txt || fail "$1: $(cat progress.txt)"
+    found=$(ffprobe -v error -show_entries frame=interlaced_frame -of default=nk=1:nw=1 "fields $1.mkv" | sort -u)
+    is "$1: fields" "$found" 1
 }
 
 # ends ARGUMENT ..: encode.sh fails, and leaves nothing.

@@ -23,6 +23,7 @@ fail() {
 runs() {
     "$@" >"$room/said.txt" 2>&1 || { cat "$room/said.txt" && fail "$*: status other than 0"; }
     [ -s "$room/said.txt" ] || fail "$*: it said nothing"
+    grep skipped "$room/said.txt" || true
 }
 
 runs tests/soak.py --minutes 0.08 --frames 1500 --jobs 2
@@ -51,7 +52,10 @@ for made in "$room"/pictures/*; do
     kept=docs/pictures/$(basename "$made")
     case $kept in
     *.svg) cmp "$made" "$kept" || fail "$kept isn't what docs/pictures/diagrams.py draws" ;;
-    *) cmp -s "$made" "$kept" || cmp <(samples "$made") <(samples "$kept") || fail "$kept isn't what docs/pictures/make.sh makes" ;;
+    *)
+        cmp -s "$made" "$kept" || cmp <(samples "$made") <(samples "$kept") ||
+            fail "$kept isn't what docs/pictures/make.sh makes"
+        ;;
     esac
 done
 echo "moment: each script ran, and the pictures are those that are kept"
