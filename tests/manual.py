@@ -104,6 +104,8 @@ class Room:
 def missing(command):
     """The tools that a command names and that aren't installed."""
     words = re.findall(r"[\w./-]+", command)
+    if "examples/encode.sh" in words:
+        words += ["ffmpeg", "ffprobe"]
     return [it for it in TOOLS if it in words and not shutil.which(it)]
 
 
