@@ -4,9 +4,10 @@
     tests/soak.py --minutes N [--frames F] [--seed S] [--jobs J]
 
 Each run is one of tests/workers.py: a random script over random files, by 2 to 16 workers with a cache and a window at random,
-against the stream of one worker. At the start, and again after every few minutes, a clip of F frames is rendered, 100,000 unless
---frames says otherwise: its memory may grow from the first thousand frames to the last by what the journal of the render holds, and not from one render to
-the next. Each of J jobs has one run at least. The program is built first, unless the environment names one as AVSSERVE.
+against the stream of one worker. At the start, and again after every few minutes, a clip of F frames is rendered, 100,000
+unless --frames says otherwise: its memory may grow from the first thousand frames to the last by what the journal of the render
+holds, and not from one render to the next. Each of J jobs has one run at least. The program is built first, unless the
+environment names one as AVSSERVE.
 """
 
 import argparse
