@@ -38,7 +38,7 @@ fn main(rt: HostRuntime) -> ExitCode {
         let _ = err.put(b"no memory\n");
         return ExitCode::from(6);
     };
-    let mut files = RealFiles::new(&rt);
+    let mut files = RealFiles::new(&rt, rt.stdin());
     let mut out = RealSink::new(rt.stdout());
     let ending = run(
         &rt, alloc, &words, &mut files, &mut out, &mut err, &OpenGate,

@@ -13,8 +13,8 @@ use Rattle.clap.specs.Faults.{built_fault, default_fault, defaults_fault, entere
 use Rattle.clap.specs.declared.error.kind.ErrorKind.TheVariants.{UnknownArgument, InvalidSubcommand, MissingSubcommand}
 use Rattle.clap.proofs.FaultLemmas.{stopped_fault}
 use Rattle.command_line.specs.Words.{Text, Options, Given, Kind, operand, end_of_options, long, short, kind_of, takes_value, given_by}
-use Rattle.command_line.specs.Command.{command_in, info_with, named, render_options, render_with, self_test_with}
-use Rattle.command_line.specs.Parser.{command_of_rows, operand_app, parser_app, render_app, values_in}
+use Rattle.command_line.specs.Command.{command_in, info_with, named, render_options, render_with, self_test_with, session_options, session_with}
+use Rattle.command_line.specs.Parser.{command_of_rows, operand_app, parser_app, render_app, session_app, values_in}
 use Rattle.command_line.specs.declared.command.Command.{Command}
 use Rattle.command_line.proofs.LookLemmas.{Looks, looks, first_char}
 use Rattle.command_line.proofs.RowLemmas.{values_are}
@@ -38,7 +38,10 @@ info_leaf = leaf (operand_app (codes "info")).top
 abbrev test_leaf : Shape
 test_leaf = leaf (operand_app (codes "selftest")).top
 
-subs_are : (built parser_app).subs ≡ render_leaf ∷ info_leaf ∷ test_leaf ∷ []
+abbrev session_leaf : Shape
+session_leaf = leaf session_app.top
+
+subs_are : (built parser_app).subs ≡ render_leaf ∷ info_leaf ∷ test_leaf ∷ session_leaf ∷ []
 subs_are = refl
 
 -- ---- arguments without default values
@@ -77,50 +80,93 @@ plain_fits name = record {
   checked = λ rows. refl;
 }
 
-abbrev rules : List Rule
-rules = render_leaf.rules
-
-abbrev Known : Text → Type 0
-Known name = (takes : Bool) → takes_value render_options name ≡ Some takes → arg_by_long rules name ≡ Some (option_built name takes)
-
-abbrev ById : Text → Type 0
-ById name = takes_value render_options name ≡ Some true → arg_by_id rules name ≡ Some (option_built name true)
-
-abbrev Unknown : Text → Type 0
-Unknown name = takes_value render_options name ≡ None → arg_by_long rules name ≡ None
+-- the rule of an option is found by the name of the option alone
+record At (rules : List Rule) (o : Options) (name : Text) : Type 0 where
+  known : (takes : Bool) → takes_value o name ≡ Some takes → arg_by_long rules name ≡ Some (option_built name takes)
+  by_id : takes_value o name ≡ Some true → arg_by_id rules name ≡ Some (option_built name true)
+  unknown : takes_value o name ≡ None → arg_by_long rules name ≡ None
 
 is_literal : (literal name : Text) → bytes_eq literal name ≡ true → literal ≡ name
 is_literal literal name same = (bytes_eq-Decides literal name).0 same
 
-known_at : (name : Text) → Known name × ById name × Unknown name
-known_at name = go (bytes_eq (codes "cache") name) refl (bytes_eq (codes "threads") name) refl (bytes_eq (codes "plain") name) refl (bytes_eq (codes "report") name) refl
+abbrev rules : List Rule
+rules = render_leaf.rules
+
+abbrev RenderAt : Text → Type 0
+RenderAt = At rules render_options
+
+render_at : (name : Text) → RenderAt name
+render_at name = go (bytes_eq (codes "cache") name) refl (bytes_eq (codes "threads") name) refl (bytes_eq (codes "plain") name) refl (bytes_eq (codes "report") name) refl
   where
     go : (a : Bool) → bytes_eq (codes "cache") name ≡ a → (b : Bool) → bytes_eq (codes "threads") name ≡ b → (d : Bool) → bytes_eq (codes "plain") name ≡ d
-        → (e : Bool) → bytes_eq (codes "report") name ≡ e → Known name × ById name × Unknown name
-    go true is b n d m e k = subst (λ t. Known t × ById t × Unknown t) (is_literal (codes "cache") name is)
-        (λ takes given. ap (λ t. Some (option_built (codes "cache") t)) (let same : true ≡ takes = cc in same), λ given. refl, λ none. absurd (cc))
-    go false n true is d m e k = subst (λ t. Known t × ById t × Unknown t) (is_literal (codes "threads") name is)
-        (λ takes given. ap (λ t. Some (option_built (codes "threads") t)) (let same : true ≡ takes = cc in same), λ given. refl, λ none. absurd (cc))
-    go false n false m true is e k = subst (λ t. Known t × ById t × Unknown t) (is_literal (codes "plain") name is)
-        (λ takes given. ap (λ t. Some (option_built (codes "plain") t)) (let same : false ≡ takes = cc in same), λ given. absurd (cc), λ none. absurd (cc))
-    go false n false m false k true is = subst (λ t. Known t × ById t × Unknown t) (is_literal (codes "report") name is)
-        (λ takes given. ap (λ t. Some (option_built (codes "report") t)) (let same : false ≡ takes = cc in same), λ given. absurd (cc), λ none. absurd (cc))
-    go false n false m false k false l = (
-      λ takes given. let bad : None ≡ Some takes = rw (n, m, k, l) at given in absurd (cc),
-      λ given. let bad : None ≡ Some true = rw (n, m, k, l) at given in absurd (cc),
-      λ none. rw (n, m, k, l) refl,
-    )
+        → (e : Bool) → bytes_eq (codes "report") name ≡ e → RenderAt name
+    go true is b n d m e k = subst RenderAt (is_literal (codes "cache") name is) record {
+      known = λ takes given. ap (λ t. Some (option_built (codes "cache") t)) (let same : true ≡ takes = cc in same);
+      by_id = λ given. refl;
+      unknown = λ none. absurd (cc);
+    }
+    go false n true is d m e k = subst RenderAt (is_literal (codes "threads") name is) record {
+      known = λ takes given. ap (λ t. Some (option_built (codes "threads") t)) (let same : true ≡ takes = cc in same);
+      by_id = λ given. refl;
+      unknown = λ none. absurd (cc);
+    }
+    go false n false m true is e k = subst RenderAt (is_literal (codes "plain") name is) record {
+      known = λ takes given. ap (λ t. Some (option_built (codes "plain") t)) (let same : false ≡ takes = cc in same);
+      by_id = λ given. absurd (cc);
+      unknown = λ none. absurd (cc);
+    }
+    go false n false m false k true is = subst RenderAt (is_literal (codes "report") name is) record {
+      known = λ takes given. ap (λ t. Some (option_built (codes "report") t)) (let same : false ≡ takes = cc in same);
+      by_id = λ given. absurd (cc);
+      unknown = λ none. absurd (cc);
+    }
+    go false n false m false k false l = record {
+      known = λ takes given. let bad : None ≡ Some takes = rw (n, m, k, l) at given in absurd (cc);
+      by_id = λ given. let bad : None ≡ Some true = rw (n, m, k, l) at given in absurd (cc);
+      unknown = λ none. rw (n, m, k, l) refl;
+    }
 
 render_fits : Fits render_leaf render_options
 render_fits = record {
   positional_is = refl;
   operand_is = refl;
-  known = λ name takes is. (known_at name).0 takes is;
-  unknown = λ name is. (known_at name).2 is;
-  by_id = λ name is. (known_at name).1 is;
+  known = λ name. (render_at name).known;
+  unknown = λ name. (render_at name).unknown;
+  by_id = λ name. (render_at name).by_id;
   no_short = λ c. refl;
   defaults = λ rows. (no_defaults rows rules (refl, (refl, (refl, (refl, (refl, tt)))))).0;
   same = λ rows. (no_defaults rows rules (refl, (refl, (refl, (refl, (refl, tt)))))).1;
+  checked = λ rows. refl;
+}
+
+abbrev SessionAt : Text → Type 0
+SessionAt = At session_leaf.rules session_options
+
+session_at : (name : Text) → SessionAt name
+session_at name = go (bytes_eq (codes "cache") name) refl
+  where
+    go : (a : Bool) → bytes_eq (codes "cache") name ≡ a → SessionAt name
+    go true is = subst SessionAt (is_literal (codes "cache") name is) record {
+      known = λ takes given. ap (λ t. Some (option_built (codes "cache") t)) (let same : true ≡ takes = cc in same);
+      by_id = λ given. refl;
+      unknown = λ none. absurd (cc);
+    }
+    go false n = record {
+      known = λ takes given. let bad : None ≡ Some takes = rw n at given in absurd (cc);
+      by_id = λ given. let bad : None ≡ Some true = rw n at given in absurd (cc);
+      unknown = λ none. rw n refl;
+    }
+
+session_fits : Fits session_leaf session_options
+session_fits = record {
+  positional_is = refl;
+  operand_is = refl;
+  known = λ name. (session_at name).known;
+  unknown = λ name. (session_at name).unknown;
+  by_id = λ name. (session_at name).by_id;
+  no_short = λ c. refl;
+  defaults = λ rows. (no_defaults rows session_leaf.rules (refl, (refl, tt))).0;
+  same = λ rows. (no_defaults rows session_leaf.rules (refl, (refl, tt))).1;
   checked = λ rows. refl;
 }
 
@@ -256,7 +302,7 @@ module _ (t : Shape) (subs : List Shape) where
 -- ---- all the words
 
 abbrev leaves : List Shape
-leaves = render_leaf ∷ info_leaf ∷ test_leaf ∷ []
+leaves = render_leaf ∷ info_leaf ∷ test_leaf ∷ session_leaf ∷ []
 
 abbrev built_top : Shape
 built_top = (built parser_app).top
@@ -301,6 +347,10 @@ test_agrees : (words : List Text) → All IsUtf8 words → Agrees (codes "selfte
 test_agrees words utf8 = agrees_named (codes "selftest") test_leaf [] self_test_with (plain_fits (codes "selftest")) words utf8 refl
     (fault_is built_top leaves (codes "selftest") test_leaf refl refl refl words) (rows_are built_top leaves (codes "selftest") test_leaf refl refl refl words)
 
+session_agrees : (words : List Text) → All IsUtf8 words → Agrees (codes "session" ∷ words)
+session_agrees words utf8 = agrees_named (codes "session") session_leaf session_options session_with session_fits words utf8 refl
+    (fault_is built_top leaves (codes "session") session_leaf refl refl refl words) (rows_are built_top leaves (codes "session") session_leaf refl refl refl words)
+
 -- a word that is no literal is none the other way round either
 other_word : (word literal : Text) → bytes_eq word literal ≡ false → bytes_eq literal word ≡ false
 other_word word literal other = go (bytes_eq literal word) refl
@@ -318,18 +368,22 @@ agrees [] utf8 = record {
   accepted = λ empty. absurd (no_words_fail empty);
   refused = λ no. refl;
 }
-agrees (name ∷ words) utf8 = go (bytes_eq name (codes "render")) refl (bytes_eq name (codes "info")) refl (bytes_eq name (codes "selftest")) refl
+agrees (name ∷ words) utf8 =
+    go (bytes_eq name (codes "render")) refl (bytes_eq name (codes "info")) refl (bytes_eq name (codes "selftest")) refl (bytes_eq name (codes "session")) refl
   where
     rest : All IsUtf8 words
     rest k d lt = utf8 (suc k) d (omega arith)
 
-    go : (a : Bool) → bytes_eq name (codes "render") ≡ a → (b : Bool) → bytes_eq name (codes "info") ≡ b → (d : Bool) → bytes_eq name (codes "selftest") ≡ d → Agrees (name ∷ words)
-    go true is b n d m = subst (λ t. Agrees (t ∷ words)) (sym (is_literal name (codes "render") is)) (render_agrees words rest)
-    go false n true is d m = subst (λ t. Agrees (t ∷ words)) (sym (is_literal name (codes "info") is)) (info_agrees words rest)
-    go false n false m true is = subst (λ t. Agrees (t ∷ words)) (sym (is_literal name (codes "selftest") is)) (test_agrees words rest)
-    go false n false m false k =
-        let none : subcommand_met (map label_of leaves) idle name ≡ None = rw (other_word name (codes "render") n, other_word name (codes "info") m, other_word name (codes "selftest") k) refl in
+    go : (a : Bool) → bytes_eq name (codes "render") ≡ a → (b : Bool) → bytes_eq name (codes "info") ≡ b → (d : Bool) → bytes_eq name (codes "selftest") ≡ d
+        → (e : Bool) → bytes_eq name (codes "session") ≡ e → Agrees (name ∷ words)
+    go true is b n d m e k = subst (λ t. Agrees (t ∷ words)) (sym (is_literal name (codes "render") is)) (render_agrees words rest)
+    go false n true is d m e k = subst (λ t. Agrees (t ∷ words)) (sym (is_literal name (codes "info") is)) (info_agrees words rest)
+    go false n false m true is e k = subst (λ t. Agrees (t ∷ words)) (sym (is_literal name (codes "selftest") is)) (test_agrees words rest)
+    go false n false m false k true is = subst (λ t. Agrees (t ∷ words)) (sym (is_literal name (codes "session") is)) (session_agrees words rest)
+    go false n false m false k false l =
+        let none : subcommand_met (map label_of leaves) idle name ≡ None =
+        rw (other_word name (codes "render") n, other_word name (codes "info") m, other_word name (codes "selftest") k, other_word name (codes "session") l) refl in
         record {
           accepted = λ empty. absurd (name_fails built_top leaves name (utf8 0 name (omega arith)) none words empty);
-          refused = λ no. rw (n, m, k) refl;
+          refused = λ no. rw (n, m, k, l) refl;
         }

@@ -6,7 +6,7 @@ use Rattle.std.specs.Str.{bytes_eq}
 use Rattle.std.specs.Str.Parse.{digits_value}
 use Rattle.command_line.specs.declared.command.Command.{Command}
 use Rattle.command_line.specs.declared.command.RenderOptions.{RenderOptions}
-use Rattle.command_line.specs.declared.command.Command.TheVariants.{Render, Info, SelfTest}
+use Rattle.command_line.specs.declared.command.Command.TheVariants.{Render, Info, SelfTest, Session}
 use Rattle.command_line.specs.Words.{Text, Options, given_by, values_of}
 
 -- ---- values
@@ -26,6 +26,11 @@ number_in least most word = if is_number word then in_range least most (digits_v
 abbrev pub only : List Text → Option Text
 only (word ∷ []) = Some word
 only _ = None
+
+-- exactly two
+abbrev pub both : List Text → Option (Text × Text)
+both (first ∷ second ∷ []) = Some (first, second)
+both _ = None
 
 -- no value, or one that is a number
 abbrev pub number_among : ℕ → ℕ → List Text → Option (Option ℕ)
@@ -62,14 +67,23 @@ abbrev pub self_test_with : (Text → List Text) → Option Command
 self_test_with values =
     option_map SelfTest (option_and_then (number_in 0 4294967295) (only (values (codes "operand"))))
 
+abbrev pub session_with : (Text → List Text) → Option Command
+session_with values = option_and_then (λ names. option_map (Session names.0 names.1)
+    (number_among 1 256 (values (codes "cache"))))
+    (both (values (codes "operand")))
+
 abbrev pub render_options : Options
 render_options = (codes "cache", true) ∷ (codes "threads", true) ∷ (codes "plain", false) ∷ (codes "report", false) ∷ []
+
+abbrev pub session_options : Options
+session_options = (codes "cache", true) ∷ []
 
 -- the options of the command of this name, and what the values of each name ask for
 abbrev pub named : Text → Option (Options × ((Text → List Text) → Option Command))
 named name = if bytes_eq name (codes "render") then Some (render_options, render_with)
     else if bytes_eq name (codes "info") then Some ([], info_with)
     else if bytes_eq name (codes "selftest") then Some ([], self_test_with)
+    else if bytes_eq name (codes "session") then Some (session_options, session_with)
     else None
 
 -- ---- the words

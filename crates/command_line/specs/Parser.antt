@@ -34,6 +34,9 @@ render_app = with_rule (with_rule (with_rule (with_rule (with_rule (new_app (cod
 abbrev pub operand_app : Text → App
 operand_app name = with_rule (new_app name) operand_rule
 
+abbrev pub session_app : App
+session_app = with_rule (operand_app (codes "session")) (valued_rule (codes "cache"))
+
 abbrev pub with_settings : Shape → Shape
 with_settings s = record s {
   no_binary_name = true;
@@ -47,8 +50,8 @@ abbrev pub settings_app : App
 settings_app = on_top with_settings (new_app (codes "avsserve"))
 
 abbrev pub parser_app : App
-parser_app = with_subcommand (with_subcommand (with_subcommand settings_app render_app.top)
-    (operand_app (codes "info")).top) (operand_app (codes "selftest")).top
+parser_app = with_subcommand (with_subcommand (with_subcommand (with_subcommand settings_app render_app.top)
+    (operand_app (codes "info")).top) (operand_app (codes "selftest")).top) session_app.top
 
 -- ---- the matches
 

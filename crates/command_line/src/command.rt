@@ -1,4 +1,4 @@
-// `Command`: a render, `info` or the self test, with its options.
+// `Command`: a render, `info`, the self test or a session, with its options.
 use fv_io::Text;
 
 /// What the words of the command line ask for.
@@ -16,6 +16,13 @@ pub enum Command {
     /// A render in memory, of a clip that this number chooses.
     SelfTest {
         number: u32,
+    },
+    /// Frames of the clip of a script, by the requests of a list.
+    Session {
+        script: Text,
+        list: Text,
+        /// The capacity of the cache in frames, 1 to 256, where it was given.
+        cache: Option<u32>,
     },
 }
 

@@ -3,7 +3,7 @@ ghost use Rattle.std.specs.Prelude.{◌≡◌, false, IfOk};
 ghost use Rattle.clap.specs.Walk.{rule_of};
 ghost use Rattle.clap.specs.Simple.{app_of};
 ghost use Rattle.clap.specs.declared.builder.command.Command.TheViews.{out-Command as fields_of};
-ghost use Rattle.command_line.specs.Parser.{operand_rule, valued_rule, flag_rule, operand_app, parser_app, render_app, settings_app};
+ghost use Rattle.command_line.specs.Parser.{operand_rule, valued_rule, flag_rule, operand_app, parser_app, render_app, session_app, settings_app};
 
 use clap::{Arg, ArgAction, Command as Parser};
 use std::alloc::{AllocError, Global};
@@ -69,6 +69,14 @@ fn operand_parser<'a>(alloc: Global, name: &'a str) -> Result<Parser<'a>, AllocE
     Parser::new(alloc, name).arg(operand(alloc))
 }
 
+// The words of a session.
+fn session_parser<'a>(alloc: Global) -> Result<Parser<'a>, AllocError>
+    ensures app { IfOk result (λ parser. app_of parser ≡ session_app) }
+    ensures own { IfOk result (λ parser. (fields_of parser).has_globals ≡ false) }
+{
+    operand_parser(alloc, "session")?.arg(valued(alloc, "cache"))
+}
+
 /// The commands and their options.
 pub(crate) fn parser<'a>(alloc: Global) -> Result<Parser<'a>, AllocError>
     ensures { IfOk result (λ parser. app_of parser ≡ parser_app) }
@@ -76,5 +84,6 @@ pub(crate) fn parser<'a>(alloc: Global) -> Result<Parser<'a>, AllocError>
     plain_parser(alloc)
         .subcommand(render_parser(alloc)?)?
         .subcommand(operand_parser(alloc, "info")?)?
-        .subcommand(operand_parser(alloc, "selftest")?)
+        .subcommand(operand_parser(alloc, "selftest")?)?
+        .subcommand(session_parser(alloc)?)
 }

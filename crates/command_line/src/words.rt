@@ -5,7 +5,7 @@ ghost use Rattle.std.specs.Str.{IsUtf8};
 ghost use Rattle.clap.specs.Matches.{found_of};
 ghost use Rattle.clap.specs.Simple.{subcommand_rows_of};
 ghost use Rattle.clap.specs.Walk.{rows_of};
-ghost use Rattle.command_line.specs.Command.{command_in, options_with, render_with, info_with, self_test_with, flag_among, only};
+ghost use Rattle.command_line.specs.Command.{command_in, options_with, render_with, info_with, self_test_with, session_with, flag_among, only, both};
 ghost use Rattle.command_line.specs.Parser.{texts_of, values_in, command_of_rows};
 
 use crate::command::{Command, RenderOptions};
@@ -30,6 +30,16 @@ fn only<'a>(values: Option<&[&'a str]>) -> Option<&'a str>
 {
     match values {
         Some([value]) => Some(*value),
+        _ => None,
+    }
+}
+
+// Some values where they are two.
+fn both<'a>(values: Option<&[&'a str]>) -> Option<(&'a str, &'a str)>
+    ensures { option_map (λ pair. (pair.0.now, pair.1.now)) result ≡ both (texts_of values.entry) }
+{
+    match values {
+        Some([first, second]) => Some((*first, *second)),
         _ => None,
     }
 }
@@ -88,6 +98,24 @@ fn self_test_of(matches: &ArgMatches) -> Option<Command>
     Some(Command::SelfTest { number })
 }
 
+fn session_of(alloc: Global, matches: &ArgMatches) -> Result<Option<Command>, AllocError>
+    ensures { IfOk result (λ command. command ≡ session_with (values_in (rows_of (found_of matches.now)))) }
+{
+    let Some((script, list)) = both(values_of(matches, "operand")) else {
+        return Ok(None);
+    };
+    let Some(cache) = number_among(1, 256, values_of(matches, "cache")) else {
+        return Ok(None);
+    };
+    let script = Text::from_str(alloc, script)?;
+    let list = Text::from_str(alloc, list)?;
+    Ok(Some(Command::Session {
+        script,
+        list,
+        cache,
+    }))
+}
+
 // What the matches ask for.
 fn command_from(alloc: Global, matches: &ArgMatches) -> Result<Option<Command>, AllocError>
     ensures { IfOk result (λ command. command ≡ command_of_rows (subcommand_rows_of matches.now)) }
@@ -101,6 +129,8 @@ fn command_from(alloc: Global, matches: &ArgMatches) -> Result<Option<Command>, 
         info_of(alloc, matches)
     } else if name == "selftest" {
         Ok(self_test_of(matches))
+    } else if name == "session" {
+        session_of(alloc, matches)
     } else {
         Ok(None)
     }

@@ -5,6 +5,7 @@
 #![tactic(auto)]
 
 mod files;
+mod input;
 mod sink;
 mod source;
 

@@ -1,41 +1,30 @@
-// An open file, as a source.
-ghost use Rattle.std.specs.Prelude.{None, ◌≡◌, ◌≤◌, ◌+◌, IfOk, OnOk, OnErr};
+// `RealSource`: an open file or standard input, as a source.
+ghost use Rattle.std.specs.Prelude.{None, ◌≡◌, ◌≤◌, ◌+◌, OnOk, OnErr};
 ghost use Rattle.fv_io.specs.Faults.{risen};
 
+use crate::input::Input;
 use fv_io::{Failed, Source};
-use std::io::{self, Read, Seek, SeekFrom};
 
-// Goes past the next `size` bytes of a file, or to its end where it has fewer, and answers how many these were. The bytes
-// aren't read.
-fn skip_in<F: Seek>(file: &mut F, size: u64) -> io::Result<u64>
-    ensures { IfOk result (λ count. count ≤ size) }
-{
-    let start = file.stream_position()?;
-    let end = file.seek(SeekFrom::End(0))?;
-    let place = start.saturating_add(size).min(end.max(start));
-    file.seek(SeekFrom::Start(place))?;
-    Ok(place - start)
-}
-
-/// An open file. Its count of faults rises at each error of the system, and where its place would pass 64 bits. A call
-/// that the system interrupts fails too: nothing is tried again.
+/// An open file, or standard input, of which each rewind fails. Its count of faults rises at each error of the system,
+/// at each rewind of standard input, and where its place would pass 64 bits. A call that the system interrupts fails
+/// too: nothing is tried again.
 #[derive(Drop)]
-pub struct RealSource<F: Read + Seek + Drop> {
-    file: F,
+pub struct RealSource {
+    input: Input,
     place: u64,
     pub(crate) faults: u64,
     rewinds: u64,
 }
 
-impl<F: Read + Seek + Drop> RealSource<F> {
-    /// A file that was just opened, at its start.
-    pub fn new(file: F) -> RealSource<F>
+impl RealSource {
+    // An input that was just opened, at its start.
+    pub(crate) fn new(input: Input) -> RealSource
         ensures place { result.place ≡ 0 }
         ensures faults { result.faults ≡ 0 }
         ensures rewinds { result.rewinds ≡ 0 }
     {
         RealSource {
-            file,
+            input,
             place: 0,
             faults: 0,
             rewinds: 0,
@@ -65,7 +54,7 @@ impl<F: Read + Seek + Drop> RealSource<F> {
     }
 }
 
-impl<F: Read + Seek + Drop> Source for RealSource<F> {
+impl Source for RealSource {
     ghost bytes = { λ _. None };
 
     ghost place = { λ s. s.place };
@@ -75,7 +64,7 @@ impl<F: Read + Seek + Drop> Source for RealSource<F> {
     ghost rewinds = { λ s. s.rewinds };
 
     fn read(&mut self, buf: &mut [u8]) -> Result<usize, Failed> {
-        match self.file.read(buf) {
+        match self.input.read(buf) {
             Ok(count) => {
                 self.pass(count as u64)?;
                 Ok(count)
@@ -85,7 +74,7 @@ impl<F: Read + Seek + Drop> Source for RealSource<F> {
     }
 
     fn rewind(&mut self) -> Result<(), Failed> {
-        match self.file.rewind() {
+        match self.input.rewind() {
             Ok(()) => {
                 self.place = 0;
                 self.rewinds = self.rewinds.saturating_add(1);
@@ -96,7 +85,7 @@ impl<F: Read + Seek + Drop> Source for RealSource<F> {
     }
 
     fn skip(&mut self, size: u64) -> Result<u64, Failed> {
-        match skip_in(&mut self.file, size) {
+        match self.input.skip(size) {
             Ok(count) => {
                 self.pass(count)?;
                 Ok(count)

@@ -9,4 +9,5 @@ pub mod WorkLemmas
 pub mod CrewLemmas
 pub mod CrewTogether
 pub mod OnceLemmas
+pub mod AskedLemmas
 pub mod CrossingLemmas

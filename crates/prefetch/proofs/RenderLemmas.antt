@@ -64,7 +64,7 @@ module _ {I : Type 0} (holds : I → Option Info) (feed : I → Option (List Pic
           let both = subst (λ s. WindowEnds holds feed faults ends c IsWhole IsCut first count finished s d) no_stop is in
           record { delivered = both.0; whole = both.1; log_is = log_is }
 
-      cuts_window : (why : WindowStop) → finished.stop ≡ Some why → CutsWindow holds feed faults ends c IsWhole IsCut first count log longer d why
+      pub cuts_window : (why : WindowStop) → finished.stop ≡ Some why → CutsWindow holds feed faults ends c IsWhole IsCut first count log longer d why
       cuts_window why stopped =
           let both = subst (λ s. WindowEnds holds feed faults ends c IsWhole IsCut first count finished s d) stopped is in
           record { events = finished.events.items; stopped = both.0; cut = both.1; log_is = log_is }

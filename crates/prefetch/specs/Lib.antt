@@ -7,3 +7,4 @@ pub mod OneWindow
 pub mod SerialWindows
 pub mod Crew
 pub mod NextWindow
+pub mod Asked

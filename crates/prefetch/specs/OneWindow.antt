@@ -86,6 +86,18 @@ module _ {I : Type 0} (holds : I → Option Info) (feed : I → Option (List Pic
           pub cut : IsCut why events
           pub log_is : longer ≡ with_window log first count events
 
+        -- the window is whole, and these are its frames
+        pub record MakesWindow (frames : List (Option Picture)) : Type 0 where
+          pub finished : Finished
+          pub adds : AddsWindow finished
+          pub frames_are : frames ≡ finished.frames.items
+
+        -- it was cut short, or could not begin
+        abbrev pub UnmadeWindow : RenderStop → Type 0
+        UnmadeWindow (Stopped why) = CutsWindow why
+        UnmadeWindow Write = ⊥
+        UnmadeWindow Memory = (longer ≡ log) × (d ≡ c)
+
         module _ {K : Type 0} (sink : Ghosts K) (old new : K) where
           -- the window is whole, and its frames were put
           pub record PutsWindow : Type 0 where

@@ -12,11 +12,12 @@ use inst_table::Held;
 use serve_core::{Core, Finished};
 use serve_events::{Event, Record, Windowed};
 
-/// Keeps the events of a window in the journal, which has room for one.
-pub(crate) fn keep_events(first: u32, count: u32, events: Vec<Event>, journal: &mut Record)
+/// Keeps the events of a window in the journal, which has room for one. No memory is held beyond that of the events.
+pub(crate) fn keep_events(first: u32, count: u32, mut events: Vec<Event>, journal: &mut Record)
     requires room { vec_len journal.old.windows < vec_capacity journal.old.windows }
     ensures { windows_of journal.new ≡ with_window (windows_of journal.old) first count events.items }
 {
+    events.shrink_to_fit();
     journal.windows.push_reserved(Windowed {
         first,
         count,

@@ -17,4 +17,4 @@ mod windows;
 
 pub use crew::render_crew;
 pub use stops::RenderStop;
-pub use windows::render_plain;
+pub use windows::{render_one, render_plain};

@@ -5,13 +5,14 @@ ghost use Rattle.fv_io.specs.Sink.{IsLater};
 ghost use Rattle.clip_graph.specs.Plan.{IsPlan};
 ghost use Rattle.serve_events.specs.Windows.{windows_of};
 ghost use Rattle.serve_core.specs.Kept.{leases_out};
-ghost use Rattle.prefetch.specs.OneWindow.{WindowEnds, PutsWindow, WindowShows};
+ghost use Rattle.prefetch.specs.OneWindow.{WindowEnds, PutsWindow, WindowShows, MakesWindow, UnmadeWindow};
 ghost use Rattle.prefetch.specs.SerialWindows.{IsSerialWindow, IsCutSerial};
 ghost use Rattle.prefetch.specs.Windows.{frames_at, RendersAll, RenderStops};
 
-use crate::finished::put_finished;
+use crate::finished::{keep_events, put_finished};
 use crate::stops::RenderStop;
 use fv_io::Sink;
+use fv_plane::Frame;
 use serve_core::{Core, Finished};
 use serve_events::Record;
 use serve_worker::{Worker, Works, run_alone};
@@ -80,6 +81,47 @@ fn render_window<I: Works, K: Sink>(
     match run_window(alloc, core, worker, first, count) {
         Ok(finished) => put_finished(core, first, count, finished, out, journal),
         Err(AllocError) => Err(RenderStop::Memory),
+    }
+}
+
+/// A window of this output alone, by one worker, whose events go into the journal. It answers the output's frame, in a list
+/// of its own.
+pub fn render_one<I: Works>(
+    alloc: Global,
+    core: &mut Core<I>,
+    worker: &mut Worker,
+    n: u32,
+    journal: &mut Record,
+) -> Result<Vec<Option<Frame>>, RenderStop>
+    requires between { core.old.fixed.count ≡ 0 }
+    requires worker { worker.old.plan ≡ core.old.fixed.plan }
+    requires plan { IsPlan core.old.fixed.plan }
+    requires root { core.old.fixed.root < length core.old.fixed.plan }
+    requires one { 0 < core.old.fixed.workers }
+    requires number { n + 1 ≤ frames_at core.old.fixed.plan core.old.fixed.root }
+    ensures ok { IfOk result (λ frames. MakesWindow I.holds I.feed I.faults I.ends core.old
+        (IsSerialWindow core.old n 1) (IsCutSerial core.old) n 1
+        (windows_of journal.old) (windows_of journal.new) core.new frames.items) }
+    ensures stop { IfErr result (UnmadeWindow I.holds I.feed I.faults I.ends core.old
+        (IsSerialWindow core.old n 1) (IsCutSerial core.old) n 1
+        (windows_of journal.old) (windows_of journal.new) core.new) }
+    ensures worker { worker.new ≡ worker.old }
+{
+    let Ok(_) = journal.windows.reserve(1) else {
+        return Err(RenderStop::Memory);
+    };
+    let Ok(finished) = run_window(alloc, core, worker, n, 1) else {
+        return Err(RenderStop::Memory);
+    };
+    let Finished {
+        frames,
+        stop,
+        events,
+    } = finished;
+    keep_events(n, 1, events, journal);
+    match stop {
+        Some(stop) => Err(RenderStop::Stopped(stop)),
+        None => Ok(frames),
     }
 }
 

@@ -1,9 +1,12 @@
 mod BookLemmas
 mod ClosingLemmas
+mod EndLemmas
 mod MeaningLemmas
 mod OptionLemmas
 mod PickLemmas
 mod PlayLemmas
 mod ReadsLemmas
 mod RunLemmas
+mod SessionEnds
+mod SessionLemmas
 mod TextLemmas

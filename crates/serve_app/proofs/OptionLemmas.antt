@@ -5,7 +5,7 @@ use Rattle.std.proofs.lemmas.Bool.{leb-true}
 use Rattle.std.specs.Str.Parse.{digits_value}
 use Rattle.std.specs.Str.{bytes_eq}
 use Rattle.command_line.specs.Words.{Text, values_of, given_by}
-use Rattle.command_line.specs.Command.{is_number, in_range, number_in, only, number_among, flag_among, options_with, render_with, info_with, self_test_with, render_options, command_by, command_in}
+use Rattle.command_line.specs.Command.{is_number, in_range, number_in, only, number_among, flag_among, options_with, render_with, info_with, self_test_with, session_with, both, render_options, session_options, command_by, command_in}
 use Rattle.command_line.specs.declared.command.Command.{Command}
 use Rattle.command_line.specs.declared.command.Command.TheVariants as c
 use Rattle.command_line.specs.declared.command.RenderOptions.{RenderOptions}
@@ -87,19 +87,30 @@ by_self_test values command is =
     let number = of_map c.SelfTest (option_and_then (number_in 0 4294967295) (only (values (codes "operand")))) command is in
     subst IsFit number.1.1 tt
 
-by_name : (first second third : Bool) (words : List Text) (command : Command)
-    → command_by (if first then Some (render_options, render_with) else if second then Some ([], info_with) else if third then Some ([], self_test_with) else None) words ≡ Some command → IsFit command
-by_name true second third words command is =
+by_session : (values : Text → List Text) (command : Command) → session_with values ≡ Some command → IsFit command
+by_session values command is =
+    let names = of_and_then (λ names. option_map (c.Session names.0 names.1) (number_among 1 256 (values (codes "cache")))) (both (values (codes "operand"))) command is in
+    let cache = of_map (c.Session (names.0).0 (names.0).1) (number_among 1 256 (values (codes "cache"))) command names.1.1 in
+    let held : 0 < cache_of cache.0 = holds_one cache.0 (among 1 256 (values (codes "cache")) cache.0 cache.1.0) in
+    subst IsFit cache.1.1 held
+
+by_name : (first second third fourth : Bool) (words : List Text) (command : Command)
+    → command_by (if first then Some (render_options, render_with) else if second then Some ([], info_with) else if third then Some ([], self_test_with) else if fourth then Some (session_options, session_with) else None) words ≡ Some command → IsFit command
+by_name true second third fourth words command is =
     let given = of_and_then (λ given. render_with (values_of given)) (given_by render_options words) command is in
     by_render (values_of given.0) command given.1.1
-by_name false true third words command is =
+by_name false true third fourth words command is =
     let given = of_and_then (λ given. info_with (values_of given)) (given_by [] words) command is in
     by_info (values_of given.0) command given.1.1
-by_name false false true words command is =
+by_name false false true fourth words command is =
     let given = of_and_then (λ given. self_test_with (values_of given)) (given_by [] words) command is in
     by_self_test (values_of given.0) command given.1.1
-by_name false false false words command is = absurd (cc)
+by_name false false false true words command is =
+    let given = of_and_then (λ given. session_with (values_of given)) (given_by session_options words) command is in
+    by_session (values_of given.0) command given.1.1
+by_name false false false false words command is = absurd (cc)
 
 pub is_fit : (words : List Text) (command : Command) → command_in words ≡ Some command → IsFit command
 is_fit [] command is = absurd (cc)
-is_fit (name ∷ words) command is = by_name (bytes_eq name (codes "render")) (bytes_eq name (codes "info")) (bytes_eq name (codes "selftest")) words command is
+is_fit (name ∷ words) command is =
+    by_name (bytes_eq name (codes "render")) (bytes_eq name (codes "info")) (bytes_eq name (codes "selftest")) (bytes_eq name (codes "session")) words command is

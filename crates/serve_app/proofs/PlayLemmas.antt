@@ -60,7 +60,7 @@ use Rattle.serve_app.proofs.MeaningLemmas.{same_plan, same_root, same_crew}
 
 -- ---- worlds that are told
 
-told_same : (told : Bool) (world other : World) → told_of told world ≡ Some other → IsTrue told × (world ≡ other)
+pub told_same : (told : Bool) (world other : World) → told_of told world ≡ Some other → IsTrue told × (world ≡ other)
 told_same true world other is = (refl, cc)
 told_same false world other is = cc is
 
@@ -147,7 +147,7 @@ module _ {S : Type 0} (of : of_source.Ghosts S) (told : Bool) (world : World) wh
 module _ {S : Type 0} (of : of_source.Ghosts S) (told : Bool) (world : World) (script : List ℕ) (plan : List Application) (root : ℕ) (crew : Option Numbers)
     (listed : List SourceClip) (sources : List (FrameSource S)) (same : sources_of plan ≡ listed) (are : AreOpened of told world listed sources)
     (means : IsTrue told → meaning_in world script ≡ m.clip plan root crew) where
-  a_clip_at : IsTrue told → (clip : Clip) × MeansClip world script clip
+  pub a_clip_at : IsTrue told → (clip : Clip) × MeansClip world script clip
   a_clip_at tells =
       let book = a_book of told world listed sources are tells in
       (clip_at book.0 plan root, record { plan = plan; root = root; crew = crew; means = means tells; book = book.0; is_book = subst (λ l. IsBookOf world l book.0) (sym same) book.1; clip_is = refl })
@@ -155,7 +155,7 @@ module _ {S : Type 0} (of : of_source.Ghosts S) (told : Bool) (world : World) (s
   pub has_one : ScriptHasClip (told_of told world) script
   has_one = in_told told world (λ w. (clip : Clip) × MeansClip w script clip) a_clip_at
 
-  of_means : IsTrue told → (clip : Clip) → MeansClip world script clip → IsClipOf plan root (book_told of sources) clip
+  pub of_means : IsTrue told → (clip : Clip) → MeansClip world script clip → IsClipOf plan root (book_told of sources) clip
   of_means tells clip is =
       let both = sym is.means ∙ means tells in
       let plans = same_plan is.plan plan is.root root is.crew crew both in
@@ -221,7 +221,7 @@ module _ {S : Type 0} (of : of_source.Ghosts S) (told : Bool) (world : World) (s
     some_frames (inl none) = inl none
     some_frames (inr frames) = inr (record { part = frames.part; put = frames.put; begins = λ clip is. frames.begins clip (of_script clip is); has_one = has_one })
 
-    none_of : ((pictures : List (List Picture)) → book_told of sources ≡ Some pictures → ⊥) → IsTrue told → ⊥
+    pub none_of : ((pictures : List (List Picture)) → book_told of sources ≡ Some pictures → ⊥) → IsTrue told → ⊥
     none_of none tells =
         let book = a_book of told world listed sources are tells in
         none book.0 (to_book of told world listed sources book.0 are tells book.1)
@@ -232,11 +232,12 @@ module _ {S : Type 0} (of : of_source.Ghosts S) (told : Bool) (world : World) (s
     stream_shown faults table failed fails (of_stop.Script kind name line) shown = absurd shown
     stream_shown faults table failed fails (of_stop.Input name fault) shown = absurd shown
     stream_shown faults table failed fails (of_stop.Changed name frame want got) shown = (in_told told world (λ w. ⊥) (none_of shown.0), shown.1)
+    stream_shown faults table failed fails (of_stop.List name fault) shown = absurd shown
     stream_shown faults table failed fails of_stop.Read shown = (fails shown.0, some_frames shown.1)
     stream_shown faults table failed fails of_stop.Write shown = (shown.0, record { prefix = λ clip is. shown.1 clip (of_script clip is); has_one = has_one })
     stream_shown faults table failed fails of_stop.Memory shown = some_frames shown
 
-    plan_of : IsPlan plan → IsPlanOf (told_of told world) script plan root
+    pub plan_of : IsPlan plan → IsPlanOf (told_of told world) script plan root
     plan_of is = record { is_plan = is; crew = crew; means = in_told told world (λ w. meaning_in w script ≡ m.clip plan root crew) means }
 
     module _ (capacity : ℕ) (staff : Staff) where
@@ -318,6 +319,7 @@ before_stops told world script sink out failed before now (of_stop.Script kind n
 before_stops told world script sink out failed before now (of_stop.Input name fault) tells ends fails =
     (in_told told world (λ w. meaning_in w script ≡ m.wrong (input name fault)) tells, refl)
 before_stops told world script sink out failed before now (of_stop.Changed name frame want got) tells ends fails = absurd ends
+before_stops told world script sink out failed before now (of_stop.List name fault) tells ends fails = absurd ends
 before_stops told world script sink out failed before now of_stop.Read tells ends fails = (fails ends, inl refl)
 before_stops told world script sink out failed before now of_stop.Write tells ends fails = absurd ends
 before_stops told world script sink out failed before now of_stop.Memory tells ends fails = inl refl
@@ -331,6 +333,7 @@ before_tells told world script sink out failed before now (of_stop.Script kind n
 before_tells told world script sink out failed before now (of_stop.Input name fault) tells ends fails =
     before_stops told world script sink out failed before now (of_stop.Input name fault) tells ends fails
 before_tells told world script sink out failed before now (of_stop.Changed name frame want got) tells ends fails = absurd ends
+before_tells told world script sink out failed before now (of_stop.List name fault) tells ends fails = absurd ends
 before_tells told world script sink out failed before now of_stop.Read tells ends fails = (fails ends, refl)
 before_tells told world script sink out failed before now of_stop.Write tells ends fails = absurd ends
 before_tells told world script sink out failed before now of_stop.Memory tells ends fails = refl

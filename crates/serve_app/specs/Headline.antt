@@ -1,6 +1,6 @@
 -- The headline: what a run of the program promises. A render that ends with status 0 has written exactly the text of
 -- the clip that the script means. Any other ending has written a prefix of that text, or nothing where there is no
--- clip. Each status has the cause that it names.
+-- clip. Of a session the same is so for the answers to the requests of its list. Each status has the cause that it names.
 use Rattle.std.specs.Prelude.{◌≡◌, ◌⊎◌, ℕ, ◌+◌, ◌≤◌, Bool, true, false, List, Option, Some, None}
 use Rattle.fv_io.specs.declared.files.Files as of_files
 use Rattle.fv_io.specs.declared.sink.Sink.{Ghosts}
@@ -19,18 +19,21 @@ use Rattle.serve_events.specs.declared.event.WindowStop.{WindowStop}
 use Rattle.serve_events.specs.declared.event.WindowStop.TheVariants.{Read, Changed, Memory}
 use Rattle.serve_events.specs.declared.windows.Record.{Record}
 use Rattle.serve_stream.specs.declared.staff.Staff.{Staff}
-use Rattle.serve_app.specs.Words.{IsRender, IsInfo, IsSelfTest}
-use Rattle.serve_app.specs.Meaning.{Meaning, MeansClip, Means, status_of}
+use Rattle.serve_app.specs.Words.{IsRender, IsInfo, IsSelfTest, IsSession}
+use Rattle.serve_app.specs.Meaning.{Meaning, MeansClip, Means, script_status}
 use Rattle.serve_app.specs.Info.{IsInfoOf, IsToldInfo}
 use Rattle.serve_app.specs.Journals.{cache_of, IsScriptRendered, IsReport, ScriptCuts}
 use Rattle.serve_app.specs.Reads.{files_in}
 use Rattle.serve_text.specs.Reports.{CutsReport}
 use Rattle.serve_app.specs.SelfTest.{SelfTestEnds}
+use Rattle.serve_app.specs.Sessions.{IsAnswersOf, IsToldAnswers, HasAnswers, AnswersList, IsListFault, IsSessionRun, SessionCuts, FetchesList, session_status}
 use Rattle.prefetch.specs.Rendered.{PutsNothing}
 use Rattle.serve_stream.specs.Rendered.{PutsWholeFrames, EndsInFrame, PutsHead, PutsNoHead}
 use Rattle.serve_app.specs.Stop.{IsOfScript, ScriptHasClip, HasInfo, HasFault, HasChanged, IsScriptFault}
+use Rattle.serve_stream.specs.Answered.{EndsEarly}
 use Rattle.serve_stream.specs.Streams.{file_at}
-use Rattle.serve_text.specs.Lines.{Says, usage_line, read_line, write_line, memory_line, script_line, input_line, file_line, changed_kind}
+use Rattle.serve_text.specs.Lines.{Says, usage_line, read_line, write_line, memory_line, script_line, input_line, file_line, changed_kind, list_kind}
+use Rattle.serve_text.specs.declared.stop.ListFault.{ListFault}
 
 module _ {F S K E : Type 0} (files : of_files.Ghosts F S) (sink : Ghosts K) (lines : Ghosts E)
     (f g : F) (out new : K) (err said : E) where
@@ -52,15 +55,15 @@ module _ {F S K E : Type 0} (files : of_files.Ghosts F S) (sink : Ghosts K) (lin
       pub line : Says lines err said (input_line name fault)
       pub put : PutsNothing sink out new
 
-    -- an input changed, its line is put, and the frames before are on the output
-    pub record EndsByChange : Type 0 where
+    -- an input changed, its line is put, and of the frame and both offsets this is so
+    pub record EndsByChange (Is : ℕ → ℕ → ℕ → Type 0) : Type 0 where
       pub name : List ℕ
       pub frame : ℕ
       pub want : ℕ
       pub got : ℕ
       pub is : HasChanged (files.world f)
       pub line : Says lines err said (file_line name (changed_kind frame want got))
-      pub put : EndsInFrame sink out new frame want got
+      pub put : Is frame want got
 
     -- how a render ends that leaves a journal, by the stop that cut its last window short. Where none did, a write
     -- failed or memory ran out. Where an input changed, the line has its name, the frame and both places, or there is no
@@ -76,19 +79,19 @@ module _ {F S K E : Type 0} (files : of_files.Ghosts F S) (sink : Ghosts K) (lin
     abbrev pub WriteFails : Type 0
     WriteFails = SinkFailed sink out new × ScriptHasClip (files.world f) script × Says lines err said write_line
 
-    -- the causes of the statuses of a script, and the lines that name them: what shows that nothing was wrong, and what
-    -- that a write failed
-    pub record Causes (Quiet Unwritten : Type 0) (status : ℕ) : Type 0 where
+    -- the causes of the statuses of a script, and the lines that name them: what shows that nothing was wrong, that an
+    -- input was at fault, and that a write failed
+    pub record Causes (Quiet ByInput Unwritten : Type 0) (due : World → Meaning → ℕ) (status : ℕ) : Type 0 where
       pub known : (status ≡ 0) ⊎ (2 ≤ status) × (status ≤ 6)
       pub quiet : status ≡ 0 → Quiet
       pub by_script : status ≡ 2 → EndsByScript
-      pub by_input : status ≡ 3 → EndsByInput ⊎ EndsByChange
+      pub by_input : status ≡ 3 → ByInput
       pub read : status ≡ 4 → FilesFailed files f g × Says lines err said read_line
       pub write : status ≡ 5 → Unwritten
       pub memory : status ≡ 6 → Says lines err said memory_line
-      -- where nothing failed the status is that of what the script means, or memory ran out
+      -- where nothing failed the status is the one that is due by what the script means, or memory ran out
       pub complete : (world : World) (meaning : Meaning) → files.world f ≡ Some world → Means world script meaning
-          → (FilesFailed files f g → ⊥) → (Unwritten → ⊥) → (status ≡ status_of meaning) ⊎ (status ≡ 6)
+          → (FilesFailed files f g → ⊥) → (Unwritten → ⊥) → (status ≡ due world meaning) ⊎ (status ≡ 6)
 
     -- the whole text of the clip is on the output
     abbrev pub PutsWhole : Type 0
@@ -132,7 +135,9 @@ module _ {F S K E : Type 0} (files : of_files.Ghosts F S) (sink : Ghosts K) (lin
         pub steady : status ≡ 0 → files.faults g ≡ files.faults f
         pub fetched : status ≡ 0 → InWorld (files.world f) (λ world.
             files.fetched g ≡ files.fetched f + files_in world script)
-        pub causes : Causes (Quiet report) (Unwritten report) status
+        -- an input that changed did so after whole frames and a part of one
+        pub causes : Causes (Quiet report) (EndsByInput ⊎ EndsByChange (EndsInFrame sink out new)) (Unwritten report)
+            script_status status
 
       -- the journal: that of the whole render, or the beginning of it up to a stop, which the status and the line tell
       pub record JournalEnds (status : ℕ) : Type 0 where
@@ -153,14 +158,55 @@ module _ {F S K E : Type 0} (files : of_files.Ghosts F S) (sink : Ghosts K) (lin
       pub fetched : status ≡ 0 → InWorld (files.world f) (λ world.
           files.fetched g ≡ files.fetched f + files_in world script)
       -- no input changes
-      pub by_input : status ≡ 3 → EndsByInput
-      pub causes : Causes (said ≡ err) WriteFails status
+      pub causes : Causes (said ≡ err) EndsByInput WriteFails script_status status
+
+    -- a session with this list and a cache of so many frames, that leaves this journal
+    module _ (list : List ℕ) (capacity : ℕ) (journal : Option Record) where
+      -- the list isn't there, or ends with a fault after requests that were answered, and its line is put
+      pub record EndsByList : Type 0 where
+        pub fault : ListFault
+        pub is : IsListFault (files.world f) script list sink out new fault
+        pub line : Says lines err said (file_line list (list_kind fault))
+
+      -- by the stop that cut the last window short, as in a render. Where none did, any but a fault of the script
+      abbrev pub EndsSession : ℕ → List Application → Option WindowStop → Type 0
+      EndsSession status plan None = (3 ≤ status) × (status ≤ 6)
+      EndsSession status plan (Some why) = EndsBy status plan (Some why)
+
+      pub record SessionEnds (status : ℕ) : Type 0 where
+        -- the answers: to all requests, or a prefix; nothing where there is no clip or no list
+        pub whole : status ≡ 0 → AnswersList (files.world f) script list sink out new None
+        pub prefix : (text : List ℕ) → IsToldAnswers (files.world f) script list text → PutsPrefix sink out new text
+        pub nothing : InWorld (files.world f) (λ world.
+            ((text : List ℕ) → IsAnswersOf world script list text → ⊥) → PutsNothing sink out new)
+        -- no fault was counted, so nothing that failed was tried again
+        pub steady : status ≡ 0 → files.faults g ≡ files.faults f
+        -- there is a journal where there are a clip and a list and the list was fetched, as the counts of fetches show
+        pub listed : (log : Record) → journal ≡ Some log → HasAnswers (files.world f) script list
+        pub fetched : FetchesList (files.world f) script journal (files.fetched f) (files.fetched g)
+        -- and none where nothing was put: there is no clip or no list, or a read failed, or memory ran out
+        pub unlisted : journal ≡ None → PutsNothing sink out new × InWorld (files.world f) (λ world. (text : List ℕ)
+            → IsAnswersOf world script list text → (status ≡ 4) ⊎ (status ≡ 6))
+        -- the journal: that of all requests, or the beginning of it up to a stop
+        pub run : status ≡ 0 → IsSessionRun (files.world f) script list capacity journal
+        pub cut : (status ≡ 0 → ⊥) → SessionCuts (files.world f) script list capacity (EndsSession status) journal
+        pub causes : Causes (said ≡ err) (EndsByInput ⊎ (EndsByList ⊎ EndsByChange EndsEarly)) WriteFails
+            (session_status list) status
 
   -- the words break the rules: nothing is touched but for the line
   pub record IsRefused (status : ℕ) : Type 0 where
     pub line : ((status ≡ 1) × Says lines err said usage_line) ⊎ ((status ≡ 6) × Says lines err said memory_line)
     pub files_stay : g ≡ f
     pub out_stays : new ≡ out
+
+  -- the words ask for a render, and its head was put whole
+  abbrev pub HasHeaded : List (List ℕ) → Type 0
+  HasHeaded words = (script : List ℕ) × (options : RenderOptions)
+      × IsRender words script options × PutsHead sink out new (HasInfo (files.world f) script)
+
+  -- the words ask for a session
+  abbrev pub AskSession : List (List ℕ) → Type 0
+  AskSession words = (script : List ℕ) × (list : List ℕ) × (cache : Option ℕ) × IsSession words script list cache
 
   -- what a run leaves, by what the words ask for, and by who decides how many workers a render has
   pub record Ends (staff : RenderOptions → Staff) (words : List (List ℕ)) (status : ℕ) (journal : Option Record) : Type 0 where
@@ -169,15 +215,16 @@ module _ {F S K E : Type 0} (files : of_files.Ghosts F S) (sink : Ghosts K) (lin
     pub journal_of : (script : List ℕ) (options : RenderOptions) → IsRender words script options
         → JournalEnds script (cache_of options.cache) (staff options) journal status
     pub info : (script : List ℕ) → IsInfo words script → InfoEnds script status
+    pub session : (script list : List ℕ) (cache : Option ℕ) → IsSession words script list cache
+        → SessionEnds script list (cache_of cache) journal status
     pub self_test : (number : ℕ) → IsSelfTest words number → SelfTestEnds sink lines out new err said number status × (g ≡ f)
     pub refused : command_in words ≡ None → IsRefused status
     pub usage : status ≡ 1 → command_in words ≡ None
-    -- there is no journal only where no whole head was put, or the words ask for no render
+    -- a render leaves no journal only where no whole head was put
     pub no_journal : journal ≡ None → (script : List ℕ) (options : RenderOptions) → IsRender words script options
         → PutsNoHead sink out new (HasInfo (files.world f) script) (status ≡ 5)
-    -- and a journal only where the words ask for a render, and its head was put whole
-    pub some_journal : (log : Record) → journal ≡ Some log → (script : List ℕ) × (options : RenderOptions)
-        × IsRender words script options × PutsHead sink out new (HasInfo (files.world f) script)
+    -- and there is a journal only of a render whose head was put whole, or of a session
+    pub some_journal : (log : Record) → journal ≡ Some log → HasHeaded words ⊎ AskSession words
     -- each file that was fetched is closed, and no count of faults falls
     pub keeps : KeepsFiles files f g
     pub later : IsLater sink out new

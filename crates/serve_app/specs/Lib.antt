@@ -7,5 +7,6 @@ pub mod Playing
 pub mod Reads
 pub mod Info
 pub mod SelfTest
+pub mod Sessions
 pub mod Run
 pub mod Headline

@@ -69,3 +69,7 @@ status_of_fault (input name fault) = 3
 abbrev pub status_of : Meaning → ℕ
 status_of (a_clip clip) = 0
 status_of (a_fault fault) = status_of_fault fault
+
+-- the same in each world
+abbrev pub script_status : World → Meaning → ℕ
+script_status world meaning = status_of meaning

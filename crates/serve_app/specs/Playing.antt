@@ -23,15 +23,17 @@ Tells meaning (Ok opened) = meaning ≡ m.clip opened.graph opened.root opened.p
 Tells meaning (Err (of_stop.Script kind name line)) = meaning ≡ m.wrong (of_fault.script kind name line)
 Tells meaning (Err (of_stop.Input name fault)) = meaning ≡ m.wrong (input name fault)
 Tells meaning (Err (of_stop.Changed name frame want got)) = ⊥
+Tells meaning (Err (of_stop.List name fault)) = ⊥
 Tells meaning (Err of_stop.Read) = Unit {0}
 Tells meaning (Err of_stop.Write) = ⊥
 Tells meaning (Err of_stop.Memory) = Unit {0}
 
--- a failed read counts a fault, and nothing else does; nothing was written, and no file has changed
+-- A failed read counts a fault, and nothing else does. Nothing was written, no file has changed, and no list was read.
 abbrev pub EndsBefore : {X : Type 0} → ℕ → ℕ → Result X Stop → Type 0
 EndsBefore before now (Err of_stop.Read) = HasRisen before now
 EndsBefore before now (Err of_stop.Write) = ⊥
 EndsBefore before now (Err (of_stop.Changed name frame want got)) = ⊥
+EndsBefore before now (Err (of_stop.List name fault)) = ⊥
 EndsBefore before now _ = now ≡ before
 
 -- ---- what was put

@@ -1,11 +1,11 @@
 -- What a command does, and what is said of it.
-use Rattle.std.specs.Prelude.{◌≡◌, ℕ, ◌<◌, Bool, true, false, if◌then◌else◌, List, Option, Some, None, Result, Ok, Err}
+use Rattle.std.specs.Prelude.{◌≡◌, ℕ, ◌<◌, Bool, true, false, if◌then◌else◌, List, Option, Some, None, Result, Ok, Err, OnOk}
 use Rattle.fv_io.specs.declared.files.Files as of_files
 use Rattle.fv_io.specs.declared.sink.Sink.{Ghosts}
 use Rattle.fv_io.specs.Files.{FilesFailed}
 use Rattle.fv_io.specs.World.{InWorld}
 use Rattle.command_line.specs.declared.command.Command.{Command}
-use Rattle.command_line.specs.declared.command.Command.TheVariants.{Render, Info, SelfTest}
+use Rattle.command_line.specs.declared.command.Command.TheVariants.{Render, Info, SelfTest, Session}
 use Rattle.command_line.specs.declared.command.RenderOptions.{RenderOptions}
 use Rattle.clip_graph.specs.Plan.{Application}
 use Rattle.serve_text.specs.Report.{report}
@@ -24,6 +24,7 @@ use Rattle.serve_app.specs.Playing.{PutsClip, PutsInfo}
 use Rattle.serve_app.specs.Reads.{ReadsOnce}
 use Rattle.serve_text.specs.Reports.{Reports}
 use Rattle.serve_app.specs.SelfTest.{PutsSelfLine, SelfTestShows}
+use Rattle.serve_app.specs.Sessions.{IsScriptSession, FetchesList}
 use Rattle.serve_app.specs.Stop.{RenderShows, ScriptHasClip, HasInfo}
 use Rattle.serve_stream.specs.Streams.{stop_in, TellsStop, HeadShows}
 
@@ -35,6 +36,7 @@ abbrev pub IsFit : Command → Type 0
 IsFit (Render script options) = AreFit options
 IsFit (Info script) = Unit {0}
 IsFit (SelfTest number) = Unit {0}
+IsFit (Session script list cache) = 0 < cache_of cache
 
 -- who decides how many workers a render has: nobody where one renders alone, and else the words or the script
 abbrev pub plain_staff : RenderOptions → Staff
@@ -66,6 +68,12 @@ module _ {F S K : Type 0} (files : of_files.Ghosts F S) (sink : Ghosts K) (f g :
       × IsRunOf (files.world f) script (cache_of options.cache) staff journal plan
   RenderDoes script options staff (Err stop) = RenderShows (FilesFailed files f g) sink (files.world f) script out new stop
 
+  -- requests were answered, by one worker
+  pub record SessionDoes (script list : List ℕ) (capacity : ℕ) (done : Result (Unit {0}) Stop) : Type 0 where
+    pub session : IsScriptSession (files.world f) script list sink out new (FilesFailed files f g) capacity journal done
+    pub steady : OnOk done (files.faults g ≡ files.faults f)
+    pub fetched : FetchesList (files.world f) script journal (files.fetched f) (files.fetched g)
+
   abbrev pub Does : (RenderOptions → Staff) → Command → Result (Option (List Application)) Stop → Type 0
   Does staff (Render script options) done = RenderDoes script options (staff options) done
       × ScriptCuts (files.world f) script (cache_of options.cache) (staff options) sink out new
@@ -78,12 +86,16 @@ module _ {F S K : Type 0} (files : of_files.Ghosts F S) (sink : Ghosts K) (f g :
   Does staff (SelfTest number) (Ok None) = PutsSelfLine sink out new number × (g ≡ f)
   Does staff (SelfTest number) (Ok (Some plan)) = ⊥
   Does staff (SelfTest number) (Err stop) = SelfTestShows sink out new number stop × (g ≡ f)
+  Does staff (Session script list cache) (Ok None) = SessionDoes script list (cache_of cache) (Ok tt)
+  Does staff (Session script list cache) (Ok (Some plan)) = ⊥
+  Does staff (Session script list cache) (Err stop) = SessionDoes script list (cache_of cache) (Err stop)
 
--- a journal is left only by a render
+-- a journal is left only by a render and by a session
 abbrev pub LeavesNone : Command → Option Record → Type 0
 LeavesNone (Render script options) journal = Unit {0}
 LeavesNone (Info script) journal = journal ≡ None
 LeavesNone (SelfTest number) journal = journal ≡ None
+LeavesNone (Session script list cache) journal = Unit {0}
 
 -- a report is asked for only of a journal that is there
 abbrev pub HasLog : Result (Option (List Application)) Stop → Option Record → Type 0

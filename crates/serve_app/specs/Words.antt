@@ -1,8 +1,8 @@
 -- What the words after the program's name ask for.
-use Rattle.std.specs.Prelude.{◌≡◌, ℕ, List, Some}
+use Rattle.std.specs.Prelude.{◌≡◌, ℕ, List, Option, Some}
 use Rattle.command_line.specs.Command.{command_in}
 use Rattle.command_line.specs.declared.command.RenderOptions.{RenderOptions}
-use Rattle.command_line.specs.declared.command.Command.TheVariants.{Render, Info, SelfTest}
+use Rattle.command_line.specs.declared.command.Command.TheVariants.{Render, Info, SelfTest, Session}
 
 -- the words ask for a render of this script
 abbrev pub IsRender : List (List ℕ) → List ℕ → RenderOptions → Type 0
@@ -15,3 +15,7 @@ IsInfo words script = command_in words ≡ Some (Info script)
 -- the words ask for the self test of this number
 abbrev pub IsSelfTest : List (List ℕ) → ℕ → Type 0
 IsSelfTest words number = command_in words ≡ Some (SelfTest number)
+
+-- the words ask for a session over the clip of this script, with this list of requests
+abbrev pub IsSession : List (List ℕ) → List ℕ → List ℕ → Option ℕ → Type 0
+IsSession words script list cache = command_in words ≡ Some (Session script list cache)

@@ -7,6 +7,7 @@ ghost use Rattle.serve_app.specs.Run.{plain_staff, staff_by, graph_in, IsFit, Ha
 
 use crate::info::put_info;
 use crate::render::{render_alone, render_together};
+use crate::session::answer_list;
 use crate::test_run::put_self_test;
 use command_line::{Command, RenderOptions, command_of};
 use fv_io::{Files, Sink, Text};
@@ -25,8 +26,8 @@ const CACHE: u32 = 64;
 pub struct Ending {
     /// The program's exit status, 0 to 6.
     pub status: u8,
-    /// The events of a render, window by window. There is none where its head was not put whole, and where the words
-    /// ask for something else.
+    /// The events of a render or of a session, window by window. There is none where the head of the render was not put
+    /// whole, where the list of the session was not opened, and where the words ask for something else.
     pub journal: Option<Record>,
 }
 
@@ -80,6 +81,17 @@ fn run_command_alone<F: Files, K: Sink>(
             Ok(()) => Ok(None),
             Err(stop) => Err(stop),
         },
+        Command::Session {
+            script,
+            list,
+            cache,
+        } => {
+            let cache = cache.unwrap_or(CACHE);
+            match answer_list(alloc, files, out, &script, list, cache, journal) {
+                Ok(()) => Ok(None),
+                Err(stop) => Err(stop),
+            }
+        }
     }
 }
 
@@ -124,6 +136,17 @@ fn run_command_together<R: Threads + Wait + Sync, G: Gate, F: Files, K: Sink>(
             Ok(()) => Ok(None),
             Err(stop) => Err(stop),
         },
+        Command::Session {
+            script,
+            list,
+            cache,
+        } => {
+            let cache = cache.unwrap_or(CACHE);
+            match answer_list(alloc, files, out, &script, list, cache, journal) {
+                Ok(()) => Ok(None),
+                Err(stop) => Err(stop),
+            }
+        }
     }
 }
 
@@ -145,14 +168,15 @@ fn finish<E: Sink>(err: &mut E, done: Result<Option<Shared>, Stop>, journal: &Op
     }
 }
 
-/// Does what the words after the program's name ask for: the render of a script's clip, what is known of that clip, or the
-/// self test. Where they break the rules on words the status is 1.
+/// Does what the words after the program's name ask for: the render of a script's clip, what is known of that clip, the
+/// self test, or a session over the clip. Where they break the rules on words the status is 1.
 ///
 /// A render has as many workers as the words or the script ask for, each in a thread of its own; one worker is the
-/// caller's thread. The workers pass the gate, which may hold them for a test.
+/// caller's thread. The workers pass the gate, which may hold them for a test. A session has one worker.
 ///
 /// The status is 0 where the whole text was written; 1 where the words break the rules; 2 for a fault of the script; 3 for
-/// a fault of an input; 4 where a read failed; 5 where a write failed; 6 where it is out of memory. Each status but 0 puts
+/// a fault of an input, or of a session's list; 4 where a read failed; 5 where a write failed; 6 where it is out of
+/// memory. Each status but 0 puts
 /// one line on `err`. A fault of `err` changes no status, but for that of a render whose report can't be put: that is 5.
 /// A read that failed isn't tried again: where the status is 0 no fault of the files was counted.
 pub fn run<R: Threads + Wait + Sync, F: Files, K: Sink, E: Sink, G: Gate>(

@@ -10,6 +10,7 @@ mod info;
 pub mod laws;
 mod play;
 mod render;
+mod session;
 mod test_run;
 
 pub use entry::{Ending, run, run_plain};

@@ -71,10 +71,10 @@ module _ {S : Type 0} (of : of_source.Ghosts S) (plan : List Application) (root 
     sources_stay table free held = count_held table free ∙ ap some_in held ∙ sym (count_held c.table (all_free c.table is.unlent))
 
     -- and where its instances have failed as often, so have all sources
-    pub counts_stay : (table after : List (Place × Slot (Instance S))) (left : List (FrameSource S)) (done : Result Whole Stop) → AllFree table → held_in holds_of table ≡ held_in holds_of c.table → sources ≡ left ++ sources_in c.table → after ≡ table
+    pub counts_stay : {X E : Type 0} (table after : List (Place × Slot (Instance S))) (left : List (FrameSource S)) (done : Result X E) → AllFree table → held_in holds_of table ≡ held_in holds_of c.table → sources ≡ left ++ sources_in c.table → after ≡ table
         → OnOk done (counts_in (faults_of of) table ≡ counts_in (faults_of of) c.table) → OnOk done (fault_counts of (left ++ sources_in after) ≡ fault_counts of sources)
-    counts_stay table after left (Err stop) free held all same steady = tt
-    counts_stay table after left (Ok whole) free held all same steady =
+    counts_stay table after left (Err e) free held all same steady = tt
+    counts_stay table after left (Ok x) free held all same steady =
         let counts = λ (it : FrameSource S). of.faults it.source in
         ap (λ t. fault_counts of (left ++ sources_in t)) same ∙ (map-append counts left (sources_in table) ∙ (ap (λ ns. fault_counts of left ++ ns) (same_counts of c.table table (all_free c.table is.unlent) free held steady)
         ∙ (sym (map-append counts left (sources_in c.table)) ∙ ap (fault_counts of) (sym all))))

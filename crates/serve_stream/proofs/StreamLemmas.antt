@@ -97,14 +97,14 @@ begins_itself plan root capacity by total windows some whole = record {
 }
 
 -- the stop of a worker is told as it is
-tells_stop : (plan : List Application) (why : WindowStop) (told : Stop) → ToldAs plan (Stopped why) told → TellsStop (Some told) plan (Some why)
+pub tells_stop : (plan : List Application) (why : WindowStop) (told : Stop) → ToldAs plan (Stopped why) told → TellsStop (Some told) plan (Some why)
 tells_stop plan (worker.Read node) told is = ap Some is
 tells_stop plan (worker.Changed node frame want got) told (inl is) = inl (ap Some is)
 tells_stop plan (worker.Changed node frame want got) told (inr is) = inr (ap Some is)
 tells_stop plan worker.Memory told is = ap Some is
 
 -- a source that exceeds its number has failed
-one_failed : {I : Type 0} (feed : I → Option (List Picture)) (faults : I → ℕ) (book : Book) (numbers : List ℕ) (act : Act) (x : I) → is_source act ≡ true → ExceedsAct feed faults book numbers act x → 1 ≤ faults x
+pub one_failed : {I : Type 0} (feed : I → Option (List Picture)) (faults : I → ℕ) (book : Book) (numbers : List ℕ) (act : Act) (x : I) → is_source act ≡ true → ExceedsAct feed faults book numbers act x → 1 ≤ faults x
 one_failed feed faults book numbers (source name number info) x is more = omega (arith, more)
 one_failed feed faults book numbers _ x is more = absurd (cc)
 
@@ -304,6 +304,7 @@ module _ {K : Type 0} (sink : Ghosts K) (old new : K) where
   head_stops of plan root table (of_stop.Script kind name line) shown = absurd shown
   head_stops of plan root table (of_stop.Input name fault) shown = absurd shown
   head_stops of plan root table (of_stop.Changed name frame want got) shown = absurd shown
+  head_stops of plan root table (of_stop.List name fault) shown = absurd shown
   head_stops of plan root table of_stop.Read shown = absurd shown
   head_stops of plan root table of_stop.Write shown = (
     shown.0,
@@ -318,6 +319,7 @@ module _ {K : Type 0} (sink : Ghosts K) (old new : K) where
   head_unput info (of_stop.Script kind name line) shown = absurd shown
   head_unput info (of_stop.Input name fault) shown = absurd shown
   head_unput info (of_stop.Changed name frame want got) shown = absurd shown
+  head_unput info (of_stop.List name fault) shown = absurd shown
   head_unput info of_stop.Read shown = absurd shown
   head_unput info of_stop.Write shown = inr (refl, record { info = info; is = refl; failed = shown.0; cut = shown.1 })
   head_unput info of_stop.Memory shown = inl (ap sink.bytes shown)

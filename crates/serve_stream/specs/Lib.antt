@@ -7,3 +7,6 @@ pub mod Journals
 pub mod Renders
 pub mod Cores
 pub mod Streamed
+pub mod Played
+pub mod Answered
+pub mod Sessions

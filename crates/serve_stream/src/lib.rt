@@ -5,13 +5,16 @@
 #![tactic(auto)]
 
 mod graph;
+mod player;
 mod render;
+mod session;
 mod staff;
 mod stream;
 mod table;
 
 pub use graph::Shared;
 pub use serve_shared::{Gate, GatePoint, OpenGate};
+pub use session::{SessionStop, answer_graph};
 pub use staff::{Hands, Staff};
 pub use stream::Whole;
 pub use table::{put_graph_alone, put_graph_together};

@@ -58,8 +58,12 @@ fn name_of(alloc: Global, graph: &Graph, node: u32) -> Result<Text, AllocError>
     Text::from_str(alloc, source.name.as_str())
 }
 
-// The stop, told with the name of the file.
-fn told_stop<S: Source>(alloc: Global, core: &Core<Instance<S>>, stop: RenderStop) -> Stop
+/// The stop, told with the name of the file.
+pub(crate) fn told_stop<S: Source>(
+    alloc: Global,
+    core: &Core<Instance<S>>,
+    stop: RenderStop,
+) -> Stop
     requires named { NamesSource core.now.fixed.plan stop }
     ensures { ToldAs core.now.fixed.plan stop result }
 {

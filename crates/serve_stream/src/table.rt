@@ -26,9 +26,9 @@ use std::alloc::Global;
 use std::sync::{Arc, Wait};
 use std::thread::Threads;
 
-// The core of a graph over its sources, and the graph that it shares. Without memory there are the instances that were
-// made.
-fn open_core<S: Source>(
+/// The core of a graph over its sources, and the graph that it shares. Without memory there are the instances that were
+/// made.
+pub(crate) fn open_core<S: Source>(
     alloc: Global,
     hands: Hands,
     graph: Graph,

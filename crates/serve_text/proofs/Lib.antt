@@ -1,3 +1,4 @@
 mod TextLemmas
 mod LineLemmas
 mod SayLemmas
+mod FormatLemmas

@@ -1,41 +1,61 @@
 // What is known of the clip of a script.
-ghost use Rattle.std.specs.Prelude.{◌≡◌, ◌++◌, ◌<◌, length, OnOk, IfOk};
+ghost use Rattle.std.specs.Prelude.{◌≡◌, ◌++◌, ◌<◌, length, OnOk, OnErr, IfOk};
+ghost use Rattle.fv_io.specs.Sink.{Puts, PutsPrefix, SinkFailed, IsLater};
 ghost use Rattle.clip_graph.specs.Nodes.{application_of};
 ghost use Rattle.serve_text.specs.InfoText as t;
 
+use crate::lines::{LINE, joined};
 use crate::text::add;
+use arrayvec::ArrayString;
 use clip_graph::{Graph, Node};
+use fv_io::{Failed, Sink};
 use fv_plane::Info;
 use itoa::Buffer;
 use std::alloc::{AllocError, Global};
 
-// Adds the line of the clip.
-fn add_clip(text: &mut Vec<u8>, info: &Info) -> Result<(), AllocError>
-    ensures { OnOk result (text.new.items ≡ text.old.items ++ t.clip_line info.now) }
+// The line of the clip.
+fn clip_line(info: &Info) -> ArrayString<LINE>
+    ensures { result.bytes ≡ t.clip_line info.now }
 {
     let mut width = Buffer::new();
     let mut height = Buffer::new();
     let mut num = Buffer::new();
     let mut den = Buffer::new();
     let mut frames = Buffer::new();
-    add(
-        text,
-        &[
-            "clip ",
-            width.format(info.shape.width),
-            "x",
-            height.format(info.shape.height),
-            " ",
-            info.shape.format_name(),
-            " ",
-            num.format(info.num),
-            ":",
-            den.format(info.den),
-            " frames ",
-            frames.format(info.frames),
-            "\n",
-        ],
-    )
+    joined(&[
+        "clip ",
+        width.format(info.shape.width),
+        "x",
+        height.format(info.shape.height),
+        " ",
+        info.shape.format_name(),
+        " ",
+        num.format(info.num),
+        ":",
+        den.format(info.den),
+        " frames ",
+        frames.format(info.frames),
+        "\n",
+    ])
+}
+
+/// Puts the line of a clip, its size, format, rate and length, in one put. After `Failed` only a prefix of it was put.
+pub fn put_clip_line<K: Sink>(out: &mut K, info: &Info) -> Result<(), Failed>
+    ensures put { OnOk result (Puts K.Sink out.old out.new (t.clip_line info.now)) }
+    ensures cut { OnErr result (PutsPrefix K.Sink out.old out.new (t.clip_line info.now)) }
+    ensures failed { OnErr result (SinkFailed K.Sink out.old out.new) }
+    ensures later { IsLater K.Sink out.old out.new }
+{
+    let line = clip_line(info);
+    out.put(line.as_str().as_bytes())
+}
+
+// Adds the line of the clip.
+fn add_clip(text: &mut Vec<u8>, info: &Info) -> Result<(), AllocError>
+    ensures { OnOk result (text.new.items ≡ text.old.items ++ t.clip_line info.now) }
+{
+    let line = clip_line(info);
+    add(text, &[line.as_str()])
 }
 
 // Adds the numbers of a node's inputs.

@@ -1,4 +1,4 @@
-// The lines of a report, put.
+// Lines that are made without memory, and those of a report, put.
 ghost use Rattle.std.specs.Prelude.{◌≡◌, ◌+◌, ◌<◌, ◌≤◌, ℕ, length, flat_map, slice_index_or, OnOk, OnErr};
 ghost use Rattle.clip_graph.specs.Nodes.{application_of};
 ghost use Rattle.fv_io.specs.Sink.{Puts, PutsPrefix, SinkFailed, IsLater};
@@ -17,11 +17,11 @@ use serve_events::Record;
 // The nodes that are counted in one walk over the journal.
 const BLOCK: usize = 256;
 
-// The most bytes of a line: the name of a filter has at most 18, and a number at most 40.
-const LINE: usize = 256;
+/// The most bytes of a line: the name of a filter has at most 18, that of a format at most 9, and a number at most 40.
+pub(crate) const LINE: usize = 256;
 
-// The pieces, one after the other.
-fn joined(pieces: &[&str]) -> ArrayString<LINE>
+/// The pieces, one after the other.
+pub(crate) fn joined(pieces: &[&str]) -> ArrayString<LINE>
     requires { length (flat_map (λ piece. piece.now) pieces.now) ≤ LINE }
     ensures { result.bytes ≡ flat_map (λ piece. piece.now) pieces.now }
 {

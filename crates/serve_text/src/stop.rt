@@ -1,10 +1,37 @@
-// `Stop`: why a run ends early, with its exit status.
+// `Stop`: why a run ends early, with its exit status, and `ListFault`.
 ghost use Rattle.std.specs.Prelude.{◌≡◌};
 ghost use Rattle.serve_text.specs.StopKinds.{status_of_stop};
 
 use avs_meaning::{InputFault, ScriptKind, ScriptStop};
 use fv_io::Text;
 use std::alloc::AllocError;
+
+/// Why a list can't be read as requests.
+#[derive(Clone, Copy, Debug, PartialEq, Eq)]
+pub enum ListFault {
+    /// There is no file of this name.
+    NotThere,
+    /// A line has too many bytes.
+    LineTooLong,
+    /// It has too many lines.
+    TooManyLines,
+}
+
+impl ListFault {
+    ghost use Rattle.std.specs.Prelude.{◌≡◌};
+    ghost use Rattle.serve_text.specs.Lines.{list_kind};
+
+    /// The name of the fault as it is printed.
+    pub fn name(self) -> &'static str
+        ensures { result.now ≡ list_kind self }
+    {
+        match self {
+            ListFault::NotThere => "NotThere",
+            ListFault::LineTooLong => "LineTooLong",
+            ListFault::TooManyLines => "TooManyLines",
+        }
+    }
+}
 
 /// Why a render ends early.
 #[derive(Drop)]
@@ -28,6 +55,11 @@ pub enum Stop {
         want: u64,
         got: u64,
     },
+    /// The file of this name is no list of requests.
+    List {
+        name: Text,
+        fault: ListFault,
+    },
     /// A read failed.
     Read,
     /// A write failed.
@@ -45,6 +77,7 @@ impl Stop {
             Stop::Script { .. } => 2,
             Stop::Input { .. } => 3,
             Stop::Changed { .. } => 3,
+            Stop::List { .. } => 3,
             Stop::Read => 4,
             Stop::Write => 5,
             Stop::Memory => 6,

@@ -1,4 +1,4 @@
-// `write_frame`: the head of a frame and its planes, put into a sink.
+// `write_after` and `write_frame`: a line and the planes of a frame, put into a sink.
 ghost use Rattle.std.specs.Prelude.{◌≡◌, ◌≤◌, ◌<◌, ◌+◌, ◌^◌, ◌++◌, length, take, IfOk, OnOk, OnErr};
 ghost use Rattle.fv_io.specs.Sink.{Puts, PutsPrefix, IsLater, SinkFailed};
 ghost use Rattle.fv_plane.specs.Format.{planes, row_bytes, frame_bytes};
@@ -11,7 +11,7 @@ use fv_plane::Frame;
 
 /// The line before the bytes of a frame.
 const HEAD: &[u8] = b"FRAME\n";
-/// A frame that has at most this number of bytes with its line is put in one piece.
+/// A frame that has at most this number of bytes with the line before it is put in one piece.
 const SMALL: usize = 16_384;
 /// Rows with gaps between them are put in pieces of at most this number of bytes, and longer rows one by one.
 const PIECE: usize = 8_192;
@@ -64,17 +64,17 @@ fn gather_plane<K: Sink>(
     Ok(end)
 }
 
-// Puts a small frame and its line in one piece.
-fn write_gathered<K: Sink>(out: &mut K, frame: &Frame) -> Result<(), Failed>
-    requires { frame_bytes frame.now.shape ≤ 2 ^ 14 }
-    ensures put { OnOk result (Puts K.Sink out.old out.new (frame_text (bytes_of frame.now))) }
-    ensures cut { OnErr result (PutsPrefix K.Sink out.old out.new (frame_text (bytes_of frame.now))) }
+// Puts a line and a small frame in one piece.
+fn write_gathered<K: Sink>(out: &mut K, line: &[u8], frame: &Frame) -> Result<(), Failed>
+    requires { length line.now + frame_bytes frame.now.shape ≤ 2 ^ 14 }
+    ensures put { OnOk result (Puts K.Sink out.old out.new (line.now ++ bytes_of frame.now)) }
+    ensures cut { OnErr result (PutsPrefix K.Sink out.old out.new (line.now ++ bytes_of frame.now)) }
     ensures later { IsLater K.Sink out.old out.new }
     ensures failed { OnErr result (SinkFailed K.Sink out.old out.new) }
 {
     let mut buf = [0; SMALL];
-    buf[..HEAD.len()].copy_from_slice(HEAD);
-    let mut end = HEAD.len();
+    buf[..line.len()].copy_from_slice(line);
+    let mut end = line.len();
     for plane in 0..frame.shape().kind.planes() {
         end = gather_plane(out, frame, plane, &mut buf, end)?;
     }
@@ -152,6 +152,21 @@ fn write_planes<K: Sink>(out: &mut K, frame: &Frame) -> Result<(), Failed>
     Ok(())
 }
 
+/// Puts a line, whatever its bytes are, and the samples of a frame after it. Where both are small they are put in one
+/// piece. After `Failed` only a prefix of these was put.
+pub fn write_after<K: Sink>(out: &mut K, line: &[u8], frame: &Frame) -> Result<(), Failed>
+    ensures put { OnOk result (Puts K.Sink out.old out.new (line.now ++ bytes_of frame.now)) }
+    ensures cut { OnErr result (PutsPrefix K.Sink out.old out.new (line.now ++ bytes_of frame.now)) }
+    ensures later { IsLater K.Sink out.old out.new }
+    ensures failed { OnErr result (SinkFailed K.Sink out.old out.new) }
+{
+    if line.len() + frame.shape().bytes() as usize <= SMALL {
+        return write_gathered(out, line, frame);
+    }
+    out.put(line)?;
+    write_planes(out, frame)
+}
+
 /// Puts a frame as a stream has it (yuv4mpeg(5) of mjpegtools): `FRAME`, a newline and the planes. After `Failed` only
 /// a prefix of these was put.
 pub fn write_frame<K: Sink>(out: &mut K, frame: &Frame) -> Result<(), Failed>
@@ -160,9 +175,5 @@ pub fn write_frame<K: Sink>(out: &mut K, frame: &Frame) -> Result<(), Failed>
     ensures later { IsLater K.Sink out.old out.new }
     ensures failed { OnErr result (SinkFailed K.Sink out.old out.new) }
 {
-    if frame.shape().bytes() as usize + HEAD.len() <= SMALL {
-        return write_gathered(out, frame);
-    }
-    out.put(HEAD)?;
-    write_planes(out, frame)
+    write_after(out, HEAD, frame)
 }

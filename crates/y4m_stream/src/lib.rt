@@ -20,7 +20,7 @@ mod stream_index;
 
 pub use fault::{IndexFault, Y4mFault};
 pub use frame_reading::read_frame;
-pub use frame_writing::write_frame;
+pub use frame_writing::{write_after, write_frame};
 pub use head_reading::{Head, read_head};
 pub use head_writing::print_head;
 pub use indexing::index;

@@ -2,7 +2,8 @@
 use Rattle.std.proofs.Common.{◌∙◌, refl, sym}
 use Rattle.serve_app.proofs.OptionLemmas.{is_fit}
 use Rattle.serve_app.specs.Run.{staff_by}
-use Rattle.serve_app.proofs.RunLemmas.{ends_of, ends_of_memory, has_log, said_later}
+use Rattle.serve_app.proofs.EndLemmas.{ends_of, ends_of_memory, has_log}
+use Rattle.serve_app.proofs.RunLemmas.{said_later}
 use Rattle.serve_app.proofs.entry.run.Goals as goal
 
 pub run_command_together-done-requires-clause-fits : goal.run_command_together-done-requires-clause-fits

@@ -2,7 +2,7 @@
 use Rattle.std.proofs.Common.{◌≡◌, rules}
 use Rattle.serve_app.specs.Journals.{cache_of}
 use Rattle.serve_app.specs.Run.{plain_staff}
-use Rattle.serve_app.proofs.RunLemmas.{render_does}
+use Rattle.serve_app.proofs.EndLemmas.{render_does}
 use Rattle.serve_app.proofs.entry.run_command_alone.Goals as goal
 
 pub returns-in-Render-clause-does : goal.returns-in-Render-clause-does

@@ -1,7 +1,7 @@
 -- Another plane waits, and what waits at the end is put.
-use Rattle.std.proofs.Common.{◌≡◌, ◌<◌, ◌+◌, ◌++◌, ℕ, List, [], length, take, drop, codes, sym, ◌∙◌, ap, arith, rules}
+use Rattle.std.proofs.Common.{◌≡◌, ◌<◌, ◌+◌, ◌++◌, ℕ, List, [], length, take, drop, sym, ◌∙◌, ap, arith, rules}
 use Rattle.std.specs.List.{flat_map}
-use Rattle.std.proofs.lemmas.List.{take_all, take-append-drop}
+use Rattle.std.proofs.lemmas.List.{append_assoc, take_all, take-append-drop}
 use Rattle.std.proofs.lemmas.List.Concat.{flat_map-append}
 use Rattle.std.proofs.lemmas.Result.{on_err_weaker, on_ok_weaker}
 use Rattle.fv_io.proofs.CallerLemmas.{gets_more}
@@ -22,9 +22,11 @@ loop-plane-preserved g c =
     let all : List (List (List ℕ)) = c.args.frame.now.planes in
     let size = c.shape.ensures.sizes in
     let within : c.loop-plane.plane < length all = search rules in
-    let done : List ℕ = codes "FRAME\n" ++ flat_map text (take c.loop-plane.plane all) in
+    let line : List ℕ = c.args.line.now in
+    let before : List ℕ = flat_map text (take c.loop-plane.plane all) in
+    let done : List ℕ = line ++ before in
     let plane : List ℕ = bytes_of_plane c.args.frame.now c.loop-plane.plane in
-    let more : codes "FRAME\n" ++ flat_map text (take (c.loop-plane.plane + 1) all) ≡ done ++ plane = ap (λ (l : List ℕ). codes "FRAME\n" ++ l) (text_more text all c.loop-plane.plane [] within) in
+    let more : line ++ flat_map text (take (c.loop-plane.plane + 1) all) ≡ done ++ plane = ap (λ (l : List ℕ). line ++ l) (text_more text all c.loop-plane.plane [] within) ∙ sym (append_assoc line before plane) in
     let waits = more_waits sink c.args.out.now c.loop-plane.out done (take c.loop-plane.end c.loop-plane.buf) plane i.put in
     record {
       inside = c.in_ok-end.ensures.inside;
@@ -40,11 +42,14 @@ returns-in_err-end-clause-cut g c =
     let size = c.shape.ensures.sizes in
     let n : ℕ = c.loop-plane.plane in
     let within : n < length all = search rules in
-    let done : List ℕ = codes "FRAME\n" ++ flat_map text (take n all) in
+    let line : List ℕ = c.args.line.now in
+    let before : List ℕ = flat_map text (take n all) in
+    let done : List ℕ = line ++ before in
     let plane : List ℕ = bytes_of_plane c.args.frame.now n in
     let left : List ℕ = flat_map text (drop (n + 1) all) in
-    let whole : codes "FRAME\n" ++ bytes_of c.args.frame.now ≡ (done ++ plane) ++ left
-    = ap (λ (l : List ℕ). codes "FRAME\n" ++ l) (ap (flat_map text) (sym (take-append-drop (n + 1) all)) ∙ flat_map-append text (take (n + 1) all) (drop (n + 1) all) ∙ ap (λ (l : List ℕ). l ++ left) (text_more text all n [] within))
+    let whole : line ++ bytes_of c.args.frame.now ≡ (done ++ plane) ++ left
+    = ap (λ (l : List ℕ). line ++ l) (ap (flat_map text) (sym (take-append-drop (n + 1) all)) ∙ flat_map-append text (take (n + 1) all) (drop (n + 1) all) ∙ ap (λ (l : List ℕ). l ++ left) (text_more text all n [] within))
+    ∙ sym (append_assoc line (before ++ plane) left) ∙ ap (λ (l : List ℕ). l ++ left) (sym (append_assoc line before plane))
     in
     let waits = more_waits sink c.args.out.now c.loop-plane.out done (take c.loop-plane.end c.loop-plane.buf) plane c.loop-plane.invariant.put in
     let cut = cut_rest sink c.args.out.now c.loop-plane.out c.gather_plane.new.out (done ++ plane) (take c.loop-plane.end c.loop-plane.buf ++ plane) waits c.in_err-end.ensures.cut in
@@ -56,7 +61,7 @@ returns-clause-put g c =
     let all : List (List (List ℕ)) = c.args.frame.now.planes in
     let size = c.shape.ensures.sizes in
     let end : take c.loop-plane.plane all ≡ all = take_all c.loop-plane.plane all (search rules) in
-    let waits : PutsAllBut g.K.Sink c.args.out.now c.loop-plane.out (codes "FRAME\n" ++ flat_map text all) (take c.loop-plane.end c.loop-plane.buf) = rw end at c.loop-plane.invariant.put in
+    let waits : PutsAllBut g.K.Sink c.args.out.now c.loop-plane.out (c.args.line.now ++ flat_map text all) (take c.loop-plane.end c.loop-plane.buf) = rw end at c.loop-plane.invariant.put in
     on_ok_weaker c.put.result (put_rest g.K.Sink c.args.out.now c.loop-plane.out c.put.new.self _ (take c.loop-plane.end c.loop-plane.buf) waits) c.put.ensures.put
 
 pub returns-clause-cut : goal.returns-clause-cut
@@ -65,5 +70,5 @@ returns-clause-cut g c =
     let all : List (List (List ℕ)) = c.args.frame.now.planes in
     let size = c.shape.ensures.sizes in
     let end : take c.loop-plane.plane all ≡ all = take_all c.loop-plane.plane all (search rules) in
-    let waits : PutsAllBut g.K.Sink c.args.out.now c.loop-plane.out (codes "FRAME\n" ++ flat_map text all) (take c.loop-plane.end c.loop-plane.buf) = rw end at c.loop-plane.invariant.put in
+    let waits : PutsAllBut g.K.Sink c.args.out.now c.loop-plane.out (c.args.line.now ++ flat_map text all) (take c.loop-plane.end c.loop-plane.buf) = rw end at c.loop-plane.invariant.put in
     on_err_weaker c.put.result (cut_rest g.K.Sink c.args.out.now c.loop-plane.out c.put.new.self _ (take c.loop-plane.end c.loop-plane.buf) waits) c.put.ensures.cut
