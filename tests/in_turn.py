@@ -3,11 +3,12 @@
 
     tests/in_turn.py memory|faults [--step N] [--jobs N] [--only CASE]
 
-`memory` refuses each allocation of renders, of `info` and of `selftest`, one in each run: the status is 0 or 6, or that of a
-read that fails in the same run. With --step N it refuses every Nth one, and with --only CASE, as "info both.avs", those of that
-case alone. `faults` refuses each open, read, seek and write in turn, and each thread, with pieces of one byte, so that every
-place of every file has its turn. Each run ends with the status and the line that docs/manual/errors.md gives, has written the
-beginning of the right stream, in whole frames but where the write failed, and has closed what it opened.
+`memory` refuses each allocation of renders, of sessions, of `info` and of `selftest`, one in each run: the status is 0 or 6, or
+that of a read that fails in the same run. With --step N it refuses every Nth one, and with --only CASE, as "info both.avs" or
+"session both.avs -", those of that case alone. `faults` refuses each open, read, seek and write of renders and sessions in turn,
+and each thread, with pieces of one byte, so that every place of every file has its turn. Each run ends with the status and the
+line that docs/manual/errors.md gives, has written the beginning of the right stream, in whole frames and answers but where the
+write failed, and has closed what it opened.
 
 How many runs there were of each case, and how they ended, is printed. A case in which no call was refused is wrong. The program
 is built first, unless the environment names one as AVSSERVE; tests/refuse.c is built by gcc, and without that nothing is run.
@@ -84,14 +85,17 @@ b = Y4MSource("b.y4m").Reverse
 c = Y4MSource("c.y4m")
 (Merge(a, b) + c.TemporalSoften(1, 255, 255)).Prefetch(4, 3)
 '''
+# Requests of each kind. As a file they end with `quit`, and as standard input in the middle of a line.
+LIST = b"frame 1\nframe 0\r\nframe 1\nframe 9999\nframe\ninfo\nframe 3\nframe 2"
 FILES = {
     "m4.y4m": M4, "a.y4m": clip(8, 4, 4, 1), "b.y4m": clip(8, 4, 4, 60), "c.y4m": clip(8, 4, 4, 130),
     "twice.avs": b'c = Y4MSource("m4.y4m")\nMerge(c, c.Reverse)\n',
     "both.avs": b'a = Y4MSource("m4.y4m")\nb = Y4MSource("m4.y4m").Reverse\nInterleave(a, b).Prefetch(4)\n',
     "one.avs": b'Y4MSource("m4.y4m").Prefetch(1,2)\n',
     "every.avs": EVERY.encode(), "more.avs": MORE.encode(), "three.avs": THREE.encode(),
+    "list.txt": LIST + b"\nquit\nframe 0\n",
 }
-RENDER = "render"
+RENDER, SESSION = "render", "session"
 
 
 class Case:
@@ -106,7 +110,8 @@ class Case:
         report = tempfile.mktemp(dir=folder)
         env = dict(os.environ, LD_PRELOAD=LIBRARY, REFUSE=",".join(x for x in (self.also, refused) if x))
         env.update(REFUSE_PIECE=str(piece), REFUSE_REPORT=report)
-        done = subprocess.run([PROGRAM, *self.words], cwd=folder, env=env, capture_output=True, timeout=120, check=False)
+        how = {"cwd": folder, "env": env, "input": LIST if "-" in self.words else None, "timeout": 120}
+        done = subprocess.run([PROGRAM, *self.words], capture_output=True, check=False, **how)
         counts = collections.Counter()
         with open(report, encoding="ascii") as lines:
             for line in lines:
@@ -128,6 +133,15 @@ def frame_ends(stream):
     return ends + [ends[1] + (n + 1) * frame for n in range(size // frame)]
 
 
+def answer_ends(answers):
+    """Where each answer of a session ends."""
+    ends = [0]
+    while ends[-1] < len(answers):
+        line = answers[ends[-1] : answers.index(b"\n", ends[-1]) + 1]
+        ends.append(ends[-1] + len(line) + (int(line.split()[2]) if line.startswith(b"frame ") else 0))
+    return ends
+
+
 def says(err, line):
     """Whether standard error has this line, and before it nothing but lines of a report."""
     return err.endswith(line) and all(" made " in report for report in err[: len(err) - len(line)].splitlines())
@@ -147,7 +161,9 @@ def fault_of(ended, whole, statuses, ends):
     if not whole.startswith(out):
         return f"{len(out)} bytes that are no beginning of the stream"
     if status != 5 and len(out) not in ends:
-        return f"{len(out)} bytes, in the middle of a frame"
+        return f"{len(out)} bytes, in the middle of a frame or an answer"
+    if status and out == whole and out.endswith(b"bye\n"):
+        return f"status {status} after the last answer"
     if counts["opened"] != counts["closed"]:
         return f"opened {counts['opened']}, closed {counts['closed']}"
     return None
@@ -166,7 +182,7 @@ class Tally:
         status, whole, err, counts = Case(case.words).run(self.folder, piece=piece)
         if status != 0:
             raise SystemExit(f"in_turn: {case.said}: status {status}, {err!r}")
-        ends = frame_ends(whole)
+        ends = answer_ends(whole) if case.words[0] == SESSION else frame_ends(whole)
         if case.also:
             counts = case.run(self.folder, piece=piece)[3]
         numbers = [1, *range(step, counts[kind] + PAST + 1, step)]
@@ -204,11 +220,17 @@ def memory(tally, step):
     cases += [Case([RENDER, "both.avs"]), Case([RENDER, "both.avs", "--plain"])]
     cases += [Case([RENDER, "every.avs", *more]) for more in (["--plain"], ["--threads", "3"], ["--cache", "1"])]
     cases += [Case(["info", name]) for name in ("every.avs", "both.avs")]
+    cases += [Case([SESSION, "twice.avs", "list.txt", "--cache", cache]) for cache in ("1", "256")]
+    cases += [Case([SESSION, "both.avs", "-"]), Case([SESSION, "every.avs", "list.txt"])]
     for case in cases:
         tally.each(case, "memory", {0, 6}, step, 0)
     read = f"read:{read_that_fails(tally.folder)}"
     for more in ([], ["--plain"]):
         tally.each(Case([RENDER, "one.avs", *more], read), "memory", {4, 6}, step, 0)
+    # The last read of a session's clip fails after all answers but one. A read of the list follows it.
+    session = [SESSION, "one.avs", "-", "--cache", "1"]
+    read = f"read:{Case(session).run(tally.folder)[3]['read'] - 1}"
+    tally.each(Case(session, read), "memory", {4, 6}, step, 0)
     tally.each(Case(["selftest", "7"]), "memory", {0, 6}, max(step, 16), 0)
 
 
@@ -220,6 +242,11 @@ def faults(tally, step):
                                       ("write", {0, 5}, 0), ("write", {0, 5}, 1), ("thread", {0}, 0)):
             tally.each(case, kind, statuses, step, piece)
         tally.each(Case([*case.words, "--report"]), "say", {0, 5}, step, 0)
+    for words in ([SESSION, "three.avs", "list.txt", "--cache", "1"], [SESSION, "twice.avs", "-"]):
+        for kind, statuses, piece in (("open", {0, 4}, 0), ("seek", {0, 4}, 0), ("read", {0, 4}, 0), ("read", {0, 4}, 1),
+                                      ("write", {0, 5}, 0), ("write", {0, 5}, 1)):
+            tally.each(Case(words), kind, statuses, step, piece)
+        tally.each(Case(words, "write:2"), "say", {5}, step, 0)
 
 
 def main():

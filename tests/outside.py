@@ -305,7 +305,7 @@ def hostile(t):
 
 def names(t):
     """Names with newlines, blanks and letters of all kinds, as they stand in the script; names that are no text."""
-    for name in ("new\nline.y4m", " blank ", "tab\t.y4m", "-", "--report", "ü/ä €.y4m", "a;b|c&d.y4m", "a\\b.y4m", "%s%n.y4m", "'.y4m"):
+    for name in ("new\nline.y4m", " blank ", "tab\t.y4m", "./-", "--report", "ü/ä €.y4m", "a;b|c&d.y4m", "a\\b.y4m", "%s%n.y4m", "'.y4m"):
         t.put(name, SMALL)
         t.judge(repr(name), t.run(t.script(COPY.format(name))), (0, SMALL, ""))
         t.put(name, SMALL[:50])

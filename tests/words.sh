@@ -9,8 +9,8 @@ room=$(mktemp -d)
 trap 'rm -rf "$room"' EXIT
 cp examples/tiny.y4m "$room"
 cd "$room"
-usage='usage: avsserve render SCRIPT [--cache C] [--threads T] [--report] [--plain] | info SCRIPT | selftest NUMBER'
-for script in s.avs -x.avs --plain --report -- - render ' s.avs ' $'a\nb.avs' s.avs=8; do
+usage='usage: avsserve render SCRIPT [--cache C] [--threads T] [--report] [--plain] | info SCRIPT | selftest NUMBER | session SCRIPT LIST [--cache C]'
+for script in s.avs -x.avs --plain --report -- render ' s.avs ' $'a\nb.avs' s.avs=8; do
     echo 'Y4MSource("tiny.y4m").Reverse' >"./$script"
 done
 "$program" render s.avs >wanted.y4m
@@ -47,7 +47,8 @@ accepts render -- -x.avs
 accepts render --plain -- --plain
 accepts render --plain -- -x.avs
 accepts render -- --
-accepts render -
+accepts render ./-x.avs
+accepts render - <s.avs
 accepts render render --plain
 accepts render s.avs --report
 accepts render --report s.avs --plain
@@ -97,6 +98,27 @@ refuses selftest x
 refuses selftest 4294967296
 refuses selftest 1 2
 refuses selftest 1 --report
+# sessions, of a script and a list, with a cache alone
+printf 'frame 1\nquit\n' >l.txt
+cp l.txt ./-l.txt
+cp l.txt ./--cache
+"$program" session s.avs l.txt >wanted.y4m
+accepts session s.avs l.txt --cache 1
+accepts session --cache=256 s.avs l.txt
+accepts session s.avs --cache 8 l.txt
+accepts session s.avs - <l.txt
+accepts session -- s.avs -l.txt
+accepts session --cache 8 -- s.avs --cache
+refuses session
+refuses session s.avs
+refuses session s.avs l.txt l.txt
+refuses session s.avs -l.txt
+refuses session s.avs l.txt --cache 0
+refuses session s.avs l.txt --cache 257
+refuses session s.avs l.txt --cache 8 --cache 8
+for option in --threads=1 --plain --report --cache --cach=8; do
+    refuses session s.avs l.txt "$option"
+done
 # words that are empty, that have blanks around them, that are no text, and too many of them
 refuses ""
 refuses " render" s.avs

@@ -6,19 +6,28 @@ _avsserve() {
     local word=${COMP_WORDS[COMP_CWORD]} before=${COMP_WORDS[COMP_CWORD - 1]} command=${COMP_WORDS[1]-}
     COMPREPLY=()
     if [ "$COMP_CWORD" = 1 ]; then
-        mapfile -t COMPREPLY < <(compgen -W "render info selftest" -- "$word")
+        mapfile -t COMPREPLY < <(compgen -W "render info selftest session" -- "$word")
         return
     fi
     # A number comes there.
     case $command:$before in
-    selftest:* | render:--cache | render:--threads | *:=) return ;;
+    selftest:* | render:--cache | render:--threads | session:--cache | *:=) return ;;
     esac
+    if [ "$command" = session ] && [[ $word = -* ]]; then
+        mapfile -t COMPREPLY < <(compgen -W "--cache" -- "$word")
+        return
+    fi
     if [ "$command" = render ] && [[ $word = -* ]]; then
         mapfile -t COMPREPLY < <(compgen -W "--cache --threads --report --plain" -- "$word")
         return
     fi
-    # Scripts, and folders on the way to them.
     compopt -o filenames 2>/dev/null
+    # After the script of a session comes its list, which may be any file.
+    if [ "$command" = session ] && [ "$COMP_CWORD" -gt 2 ] && [[ $before = *.avs ]]; then
+        mapfile -t COMPREPLY < <(compgen -f -- "$word")
+        return
+    fi
+    # Scripts, and folders on the way to them.
     mapfile -t COMPREPLY < <(compgen -f -X '!*.avs' -- "$word"; compgen -d -- "$word")
 }
 

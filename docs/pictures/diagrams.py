@@ -17,7 +17,7 @@ WIDTH, FONT = 900, "font-family='sans-serif' font-size='13'"
 # The layers, the lowest first, each with the first crate of its groups in crates.txt.
 LAYERS = [
     ("the outside", "fv_io self_test command_line"),
-    ("frames and streams", "fv_rows fv_spares y4m_stream seq_source"),
+    ("frames and streams", "fv_rows fv_spares y4m_stream seq_source fv_session"),
     ("scripts as trees", "avs_lex avs_values"),
     ("clips and filters", "clip_term mt_modes clip_reference"),
     ("what scripts mean", "avs_meaning avs_state"),
