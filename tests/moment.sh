@@ -30,6 +30,8 @@ runs tests/soak.py --minutes 0.08 --frames 1500 --jobs 2
 runs tests/out_of_memory.sh --step 4 --only "info both.avs"
 runs bench/measure.py --small --rounds 1
 runs bench/workers.py --frames 50 --size 64x272 --rounds 1 --threads 1,2 --only trim,crop,borders,script "$AVSSERVE"
+runs bench/session.py --small --rounds 1 "$AVSSERVE"
+runs tests/out_of_memory.sh --step 4 --only "session both.avs -"
 if [ -d crates/fv_io/out/incremental ]; then
     runs bench/check_times.py fv_io 3
 else
