@@ -17,11 +17,11 @@ fail() {
     exit 1
 }
 
-# renders SCRIPT WIDTH HEIGHT FRAMES [FORMAT BYTES]: this script gives so many frames of this size, at 25 a second, in 4:2:0 of
-# 8 bits or in this format of 4:2:0, whose samples have so many bytes each.
+# renders SCRIPT WIDTH HEIGHT FRAMES [FORMAT BYTES [RATE FIELDS]]: this script gives so many frames of this size, in 4:2:0 of 8
+# bits or in this format of 4:2:0, whose samples have so many bytes each, at 25 frames a second or at this rate and with these fields.
 renders() {
-    local script=$1 width=$2 height=$3 frames=$4 format=${5:-420jpeg} bytes=${6:-1} status=0
-    local samples=$((width * height * 3 / 2 * bytes)) head="YUV4MPEG2 W$width H$height F25:1 Ip A1:1 C$format"
+    local script=$1 width=$2 height=$3 frames=$4 format=${5:-420jpeg} bytes=${6:-1} rate=${7:-25} fields=${8:-p} status=0
+    local samples=$((width * height * 3 / 2 * bytes)) head="YUV4MPEG2 W$width H$height F$rate:1 I$fields A1:1 C$format"
     "$program" render "examples/$script" >"$room/out.y4m" 2>"$room/err.txt" || status=$?
     [ "$status" = 0 ] || fail "$script: status $status, $(cat "$room/err.txt")"
     [ ! -s "$room/err.txt" ] || fail "$script: it said $(cat "$room/err.txt")"
@@ -45,6 +45,16 @@ renders wide.avs 56 32 24
 renders compare.avs 100 36 24
 renders join.avs 48 36 20
 renders sheet.avs 144 72 1
+renders letterbox.avs 1920 1080 24
+renders encodes.avs 48 36 24
+renders cut_list.avs 48 36 14
+renders tape.avs 48 36 24 420p10 2
+renders with_library.avs 40 32 21
+renders bob.avs 48 36 48 420jpeg 1 50 t
+renders brightness.avs 40 32 24
+renders repair.avs 48 36 24
+renders slideshow.avs 48 36 23
+renders difference.avs 144 36 24
 for script in examples/*.avs; do
     case "$told" in
     *" ${script#examples/} "*) ;;

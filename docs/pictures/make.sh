@@ -58,6 +58,7 @@ edges = c.GeneralConvolution(128, "0 -1 0  -1 4 -1  0 -1 0").Greyscale
 StackHorizontal(c.Cell(96, 96), gap, blurred.Cell(96, 96), gap, edges.Cell(96, 96), gap, c.TemporalSoften(1, 255, 255).Cell(96, 96))
 END
 echo 'Import("examples/compare.avs")' | picture compare 12 3
+echo 'Import("examples/difference.avs")' | picture difference 10 3
 echo 'Import("examples/wide.avs")' | picture wide 12 3
 echo 'Import("examples/sheet.avs")' | picture sheet 0 3
 "$here/diagrams.py" "$into"
