@@ -1,5 +1,4 @@
-//! Tests of the top call over files in memory: what is on both outputs at each status, and how failed reads and writes end a
-//! run; sessions and their journals.
+//! Tests of the top call over files in memory: what is on both outputs at each status, and how failed reads and writes end a run.
 //!
 //! They stand apart from the crates that they call, so that those are proved once.
 #![tactic(auto)]
@@ -10,5 +9,3 @@ mod endings;
 mod journals;
 #[cfg(test)]
 mod runs;
-#[cfg(test)]
-mod sessions;
