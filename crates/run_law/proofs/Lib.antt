@@ -1,0 +1,5 @@
+pub mod LineLemmas
+pub mod ProgressLemmas
+pub mod JudgeLemmas
+pub mod ExampleLemmas
+pub mod PlaceLemmas
