@@ -12,14 +12,15 @@ The text has these examples, and a file's examples run in their order in a folde
             a line says what the line gives: a value, an error, `frames 2 1 0` (the first sample of each frame), `rows 1 2 / 3 4`
             (the samples of the first frame), `Y 16 U 128 V 128` (its first sample of each plane), or the size, format, rate and
             length of a clip as `info` prints them. Lines without one stand before those below; so does `clips.avs` of the file
+  python    a script of Python, which may import what is in tools/; behind a line that prints, a comment says what it prints
   text      what isn't run
   table     in docs/manual/errors.md each row has an error, and a line or a command (after `$ `) that gives it; in
             docs/manual/avisynth.md each row has lines and their errors, or `LINE` gives `RESULT`, as behind a comment
 
-`./build` is a stub here and `rt ci` isn't run, since the gate does both. A command whose tool isn't installed is skipped with a
-line, and so is what fails after it in the same file, which may need what it makes. `in.mkv`, the
-reader's own file, is two seconds of a moving picture with a tone, which ffmpeg makes: H.264 with one keyframe, as many files
-have them seconds apart; mpv has no screen.
+`./build` is a stub here and `rt ci` isn't run, since the gate does both, nor is `tools/preview.py`, which doesn't end by itself. A
+command whose tool isn't installed is skipped with a line, and so is what fails after it in the same file, which may need what it
+makes. `in.mkv`, the reader's own file, is two seconds of a moving picture with a tone, which ffmpeg makes: H.264 with one keyframe, as
+many files have them seconds apart; mpv has no screen.
 
 Links to files and headings are looked up too; and each function, filter and error that the sources name has its place in the
 manual.
@@ -66,6 +67,7 @@ class Room:
         os.mkdir(os.path.join(folder, "bin"))
         os.symlink(PROGRAM, os.path.join(folder, "bin", "avsserve"))
         shutil.copytree(os.path.join(ROOT, "examples"), os.path.join(folder, "examples"))
+        os.symlink(os.path.join(ROOT, "tools"), os.path.join(folder, "tools"))
         with open(os.path.join(folder, "build"), "w", encoding="utf-8") as file:
             file.write("#!/bin/sh\necho bin/avsserve\n")
         os.chmod(os.path.join(folder, "build"), 0o755)
@@ -111,7 +113,7 @@ def missing(command):
 
 def can_run(where, command):
     lacks = missing(command)
-    if re.search(r"^(rt ci|\./build)$", command.strip(), re.MULTILINE):
+    if re.search(r"^(rt ci|\./build|tools/preview\.py .*)$", command.strip(), re.MULTILINE):
         return False
     for it in lacks:
         skipped.add(f"manual: {where}: skipped, {it} is not installed")
@@ -303,6 +305,15 @@ def run_differences(room, where, text):
     return count
 
 
+def run_python(room, where, lines):
+    room.write("example.py", "\n".join(lines) + "\n")
+    status, found = room.shell("PYTHONPATH=tools python3 -B example.py")
+    wanted = [code_and_result(it)[1] for it in lines if it.lstrip().startswith("print(")]
+    if status != 0 or found.splitlines() != wanted:
+        fail(where, f"the script ends with status {status} and prints: {found.strip()[-2000:]}\n  the text says: " + "\n".join(wanted))
+    return len(wanted)
+
+
 def blocks(text):
     """The fenced blocks of a text, each with its number of line and its word."""
     opened = None
@@ -331,6 +342,8 @@ def run_file(path, mkv):
                     count += 1
                 elif word == "avs":
                     count += run_avs(room, where, lines)
+                elif word == "python":
+                    count += run_python(room, where, lines)
                 elif word != "text":
                     fail(where, f"a block of no known kind: {word!r}")
             except subprocess.TimeoutExpired:

@@ -48,6 +48,13 @@ else
     echo "moment: docs/pictures/make.sh skipped, ffmpeg is not installed"
     docs/pictures/diagrams.py "$room/pictures"
 fi
+# The pictures of the page differ with each Chromium, so they aren't compared.
+if have ffmpeg && have chromium; then
+    runs docs/pictures/page.py "$room"
+    runs bench/preview.py --small
+else
+    echo "moment: docs/pictures/page.py and bench/preview.py skipped, chromium or ffmpeg is not installed"
+fi
 # Another ffmpeg may compress a picture in another way, so the samples count.
 samples() { ffmpeg -nostdin -v error -i "$1" -f rawvideo -pix_fmt rgb24 -; }
 for made in "$room"/pictures/*; do
