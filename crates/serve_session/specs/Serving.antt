@@ -63,7 +63,8 @@ module _ {P : Type 0} (player : of_player.Ghosts P) where
     Why p q old new [] Stopped = ⊥
     Why p q old new (n ∷ ns) Stopped = player.stops p n q
     Why p q old new asked Write = SinkFailed sink old new × MakesOne p q asked
-    Why p q old new asked Memory = q ≡ p
+    Why p q old new [] Memory = ⊥
+    Why p q old new (n ∷ ns) Memory = (q ≡ p) × (new ≡ old)
 
     pub record Unanswered (p q : P) (old new : K) (request : Request) (stop : PlayStop) : Type 0 where
       pub cut : (at : ℕ → List ℕ) → player.stands_for p at

@@ -215,8 +215,8 @@ module _ {S L K : Type 0} (of : of_source.Ghosts S) (list : of_source.Ghosts L) 
       why_write (n ∷ ms) why = why
 
       why_memory : (ms : List ℕ) → Why (played of) sink mid q part.here new ms of_play.Memory → q ≡ mid
-      why_memory [] why = why
-      why_memory (n ∷ ms) why = why
+      why_memory [] why = absurd why
+      why_memory (n ∷ ms) why = why.0
 
       write_ends : (told : SessionStop) → Why (played of) sink mid q part.here new (frame_asked frames request) of_play.Write → told ≡ Stopped of_stop.Write → Ended told
       write_ends told why is = subst (λ x. Ended x) (sym is)
