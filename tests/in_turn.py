@@ -3,9 +3,9 @@
 
     tests/in_turn.py memory|faults [--step N] [--jobs N] [--only CASE]
 
-`memory` refuses each allocation of renders, of sessions, of `info` and of `selftest`, one in each run: the status is 0 or 6, or
+`memory` refuses each allocation of renders, of sessions, of replays, of `info` and of `selftest`, one in each run: the status is 0 or 6, or
 that of a read that fails in the same run. With --step N it refuses every Nth one, and with --only CASE, as "info both.avs" or
-"session both.avs -", those of that case alone. `faults` refuses each open, read, seek and write of renders and sessions in turn,
+"session both.avs -", those of that case alone. `faults` refuses each open, read, seek and write of renders, sessions and replays in turn,
 and each thread, with pieces of one byte, so that every place of every file has its turn. Each run ends with the status and the
 line that docs/manual/errors.md gives, has written the beginning of the right stream, in whole frames and answers but where the
 write failed, and has closed what it opened.
@@ -95,7 +95,9 @@ FILES = {
     "every.avs": EVERY.encode(), "more.avs": MORE.encode(), "three.avs": THREE.encode(),
     "list.txt": LIST + b"\nquit\nframe 0\n",
 }
-RENDER, SESSION = "render", "session"
+RENDER, SESSION, REPLAY = "render", "session", "replay"
+# What begins a line of a journal.
+EVENTS = "workers window hit claim evict publish abandon enter leave take deliver fail".split()
 
 
 class Case:
@@ -143,8 +145,9 @@ def answer_ends(answers):
 
 
 def says(err, line):
-    """Whether standard error has this line, and before it nothing but lines of a report."""
-    return err.endswith(line) and all(" made " in report for report in err[: len(err) - len(line)].splitlines())
+    """Whether standard error has this line, and before it nothing but a report or a journal, perhaps cut short in a line."""
+    told = err[: len(err) - len(line)].splitlines()
+    return err.endswith(line) and all(" made " in it or it.split(" ")[0] in EVENTS or it is told[-1] for it in told)
 
 
 def fault_of(ended, whole, statuses, ends):
@@ -220,6 +223,7 @@ def memory(tally, step):
     cases += [Case([RENDER, "both.avs"]), Case([RENDER, "both.avs", "--plain"])]
     cases += [Case([RENDER, "every.avs", *more]) for more in (["--plain"], ["--threads", "3"], ["--cache", "1"])]
     cases += [Case(["info", name]) for name in ("every.avs", "both.avs")]
+    cases += [Case([RENDER, "both.avs", "--journal"]), Case([REPLAY, "one.avs", "one.journal"])]
     cases += [Case([SESSION, "twice.avs", "list.txt", "--cache", cache]) for cache in ("1", "256")]
     cases += [Case([SESSION, "both.avs", "-"]), Case([SESSION, "every.avs", "list.txt"])]
     for case in cases:
@@ -241,12 +245,16 @@ def faults(tally, step):
         for kind, statuses, piece in (("open", {0, 4}, 0), ("seek", {0, 4}, 0), ("read", {0, 4}, 0), ("read", {0, 4}, 1),
                                       ("write", {0, 5}, 0), ("write", {0, 5}, 1), ("thread", {0}, 0)):
             tally.each(case, kind, statuses, step, piece)
-        tally.each(Case([*case.words, "--report"]), "say", {0, 5}, step, 0)
+        for told in ("--report", "--journal"):
+            tally.each(Case([*case.words, told]), "say", {0, 5}, step, 0)
     for words in ([SESSION, "three.avs", "list.txt", "--cache", "1"], [SESSION, "twice.avs", "-"]):
         for kind, statuses, piece in (("open", {0, 4}, 0), ("seek", {0, 4}, 0), ("read", {0, 4}, 0), ("read", {0, 4}, 1),
                                       ("write", {0, 5}, 0), ("write", {0, 5}, 1)):
             tally.each(Case(words), kind, statuses, step, piece)
         tally.each(Case(words, "write:2"), "say", {5}, step, 0)
+    replay = Case([REPLAY, "one.avs", "one.journal"])
+    for kind, statuses, piece in (("open", {0, 4}, 0), ("read", {0, 4}, 0), ("read", {0, 4}, 1), ("write", {0, 5}, 0), ("write", {0, 5}, 1)):
+        tally.each(replay, kind, statuses, step, piece)
 
 
 def main():
@@ -269,6 +277,9 @@ def main():
         for name, data in FILES.items():
             with open(os.path.join(folder, name), "wb") as file:
                 file.write(data)
+        with open(os.path.join(folder, "one.journal"), "wb") as file:
+            words = [PROGRAM, RENDER, "one.avs", "--journal"]
+            subprocess.run(words, cwd=folder, stdout=subprocess.DEVNULL, stderr=file, check=True)
         tally = Tally(folder, options.jobs, options.only)
         {"memory": memory, "faults": faults}[options.what](tally, options.step)
     print(f"in_turn: {tally.runs} runs, {tally.wrong} wrong")

@@ -34,7 +34,7 @@ def run(*words, folder=ROOT, **more):
 
 def usage():
     """What the program says of its arguments, a line for each command."""
-    return run(PROGRAM).stderr.strip().removeprefix("usage: avsserve ").split(" | ")
+    return re.split(r" \| (?=\w)", run(PROGRAM).stderr.strip().removeprefix("usage: avsserve "))
 
 
 def sections(page):
@@ -75,7 +75,7 @@ def check_page():
     synopsis = re.sub(r"\.B avsserve (\w+)\n", r"\1 ", "\n".join(parts["SYNOPSIS"])).split("\n.br\n")
     same("avsserve.1: synopsis", synopsis, usage())
     options = terms(parts["OPTIONS"])
-    same("avsserve.1: options", [it for it in options if it != "--"], re.findall(r"\[(.*?)\]", usage()[0]))
+    same("avsserve.1: options", [it for it in options if it != "--"], " | ".join(re.findall(r"\[(.*?)\]", usage()[0])).split(" | "))
     for option in ("--cache", "--threads"):
         text = " ".join(next(options[it] for it in options if it.startswith(option)))
         least, most = map(int, re.search(r"(\d+) to (\d+)", text).groups())
@@ -110,7 +110,7 @@ def check_completion():
             open(os.path.join(folder, name), "w", encoding="utf-8").close()
         os.mkdir(os.path.join(folder, "sub"))
         same("completion: commands", completed(folder, ""), sorted(it.split()[0] for it in usage()))
-        same("completion: options", completed(folder, "render", "-"), sorted(re.findall(r"\[(--\w+)", usage()[0])))
+        same("completion: options", completed(folder, "render", "-"), sorted(re.findall(r"--\w+", usage()[0])))
         same("completion: scripts", completed(folder, "info", ""), ["one.avs", "sub"])
         same("completion: scripts", completed(folder, "render", "--plain", "o"), ["one.avs"])
         same("completion: a number", completed(folder, "render", "--cache", ""), [])

@@ -9,7 +9,7 @@ room=$(mktemp -d)
 trap 'rm -rf "$room"' EXIT
 cp examples/tiny.y4m "$room"
 cd "$room"
-usage='usage: avsserve render SCRIPT [--cache C] [--threads T] [--report] [--plain] | info SCRIPT | selftest NUMBER | session SCRIPT LIST [--cache C]'
+usage='usage: avsserve render SCRIPT [--cache C] [--threads T] [--report | --journal] [--plain] | info SCRIPT | selftest NUMBER | session SCRIPT LIST [--cache C] | replay SCRIPT JOURNAL [--cache C]'
 for script in s.avs -x.avs --plain --report -- render ' s.avs ' $'a\nb.avs' s.avs=8; do
     echo 'Y4MSource("tiny.y4m").Reverse' >"./$script"
 done
@@ -52,6 +52,8 @@ accepts render - <s.avs
 accepts render render --plain
 accepts render s.avs --report
 accepts render --report s.avs --plain
+accepts render s.avs --journal
+accepts render --journal s.avs --plain
 accepts render -- --report
 accepts render --report -- --report
 accepts render ' s.avs '
@@ -89,10 +91,14 @@ refuses render s.avs --cache --
 refuses render s.avs --threads=1 --threads=1
 refuses render s.avs --plain --plain
 refuses render s.avs --report --report
+refuses render s.avs --journal --journal
+refuses render s.avs --report --journal
+refuses render --journal s.avs --report
 refuses info
 refuses info s.avs --plain
 refuses info s.avs --cache 8
 refuses info s.avs --report
+refuses info s.avs --journal
 refuses selftest
 refuses selftest x
 refuses selftest 4294967296
@@ -116,9 +122,25 @@ refuses session s.avs -l.txt
 refuses session s.avs l.txt --cache 0
 refuses session s.avs l.txt --cache 257
 refuses session s.avs l.txt --cache 8 --cache 8
-for option in --threads=1 --plain --report --cache --cach=8; do
+for option in --threads=1 --plain --report --journal --cache --cach=8; do
     refuses session s.avs l.txt "$option"
+    refuses replay s.avs j.txt "$option"
 done
+# replays, of a script and a journal, with a cache alone
+"$program" render s.avs --journal >out.y4m 2>j.txt
+cp j.txt ./-j.txt
+"$program" replay s.avs j.txt >wanted.y4m
+accepts replay s.avs j.txt --cache 256
+accepts replay --cache=64 s.avs j.txt
+accepts replay s.avs - <j.txt
+accepts replay -- s.avs -j.txt
+refuses replay
+refuses replay s.avs
+refuses replay s.avs j.txt j.txt
+refuses replay s.avs -j.txt
+refuses replay s.avs j.txt --cache 0
+refuses replay s.avs j.txt --cache 257
+refuses replay s.avs j.txt --cache 8 --cache 8
 # words that are empty, that have blanks around them, that are no text, and too many of them
 refuses ""
 refuses " render" s.avs

@@ -13,8 +13,8 @@ use Rattle.clap.specs.Faults.{built_fault, default_fault, defaults_fault, entere
 use Rattle.clap.specs.declared.error.kind.ErrorKind.TheVariants.{UnknownArgument, InvalidSubcommand, MissingSubcommand}
 use Rattle.clap.proofs.FaultLemmas.{stopped_fault}
 use Rattle.command_line.specs.Words.{Text, Options, Given, Kind, operand, end_of_options, long, short, kind_of, takes_value, given_by}
-use Rattle.command_line.specs.Command.{command_in, info_with, named, render_options, render_with, self_test_with, session_options, session_with}
-use Rattle.command_line.specs.Parser.{command_of_rows, operand_app, parser_app, render_app, session_app, values_in}
+use Rattle.command_line.specs.Command.{cached_options, command_in, info_with, named, render_options, render_with, replay_with, self_test_with, session_with}
+use Rattle.command_line.specs.Parser.{cached_app, command_of_rows, operand_app, parser_app, render_app, values_in}
 use Rattle.command_line.specs.declared.command.Command.{Command}
 use Rattle.command_line.proofs.LookLemmas.{Looks, looks, first_char}
 use Rattle.command_line.proofs.RowLemmas.{values_are}
@@ -38,10 +38,16 @@ info_leaf = leaf (operand_app (codes "info")).top
 abbrev test_leaf : Shape
 test_leaf = leaf (operand_app (codes "selftest")).top
 
-abbrev session_leaf : Shape
-session_leaf = leaf session_app.top
+abbrev cached_leaf : Text → Shape
+cached_leaf name = leaf (cached_app name).top
 
-subs_are : (built parser_app).subs ≡ render_leaf ∷ info_leaf ∷ test_leaf ∷ session_leaf ∷ []
+abbrev session_leaf : Shape
+session_leaf = cached_leaf (codes "session")
+
+abbrev replay_leaf : Shape
+replay_leaf = cached_leaf (codes "replay")
+
+subs_are : (built parser_app).subs ≡ render_leaf ∷ info_leaf ∷ test_leaf ∷ session_leaf ∷ replay_leaf ∷ []
 subs_are = refl
 
 -- ---- arguments without default values
@@ -96,34 +102,39 @@ abbrev RenderAt : Text → Type 0
 RenderAt = At rules render_options
 
 render_at : (name : Text) → RenderAt name
-render_at name = go (bytes_eq (codes "cache") name) refl (bytes_eq (codes "threads") name) refl (bytes_eq (codes "plain") name) refl (bytes_eq (codes "report") name) refl
+render_at name = go (bytes_eq (codes "cache") name) refl (bytes_eq (codes "threads") name) refl (bytes_eq (codes "plain") name) refl (bytes_eq (codes "report") name) refl (bytes_eq (codes "journal") name) refl
   where
     go : (a : Bool) → bytes_eq (codes "cache") name ≡ a → (b : Bool) → bytes_eq (codes "threads") name ≡ b → (d : Bool) → bytes_eq (codes "plain") name ≡ d
-        → (e : Bool) → bytes_eq (codes "report") name ≡ e → RenderAt name
-    go true is b n d m e k = subst RenderAt (is_literal (codes "cache") name is) record {
+        → (e : Bool) → bytes_eq (codes "report") name ≡ e → (f : Bool) → bytes_eq (codes "journal") name ≡ f → RenderAt name
+    go true is b n d m e k f l = subst RenderAt (is_literal (codes "cache") name is) record {
       known = λ takes given. ap (λ t. Some (option_built (codes "cache") t)) (let same : true ≡ takes = cc in same);
       by_id = λ given. refl;
       unknown = λ none. absurd (cc);
     }
-    go false n true is d m e k = subst RenderAt (is_literal (codes "threads") name is) record {
+    go false n true is d m e k f l = subst RenderAt (is_literal (codes "threads") name is) record {
       known = λ takes given. ap (λ t. Some (option_built (codes "threads") t)) (let same : true ≡ takes = cc in same);
       by_id = λ given. refl;
       unknown = λ none. absurd (cc);
     }
-    go false n false m true is e k = subst RenderAt (is_literal (codes "plain") name is) record {
+    go false n false m true is e k f l = subst RenderAt (is_literal (codes "plain") name is) record {
       known = λ takes given. ap (λ t. Some (option_built (codes "plain") t)) (let same : false ≡ takes = cc in same);
       by_id = λ given. absurd (cc);
       unknown = λ none. absurd (cc);
     }
-    go false n false m false k true is = subst RenderAt (is_literal (codes "report") name is) record {
+    go false n false m false k true is f l = subst RenderAt (is_literal (codes "report") name is) record {
       known = λ takes given. ap (λ t. Some (option_built (codes "report") t)) (let same : false ≡ takes = cc in same);
       by_id = λ given. absurd (cc);
       unknown = λ none. absurd (cc);
     }
-    go false n false m false k false l = record {
-      known = λ takes given. let bad : None ≡ Some takes = rw (n, m, k, l) at given in absurd (cc);
-      by_id = λ given. let bad : None ≡ Some true = rw (n, m, k, l) at given in absurd (cc);
-      unknown = λ none. rw (n, m, k, l) refl;
+    go false n false m false k false l true is = subst RenderAt (is_literal (codes "journal") name is) record {
+      known = λ takes given. ap (λ t. Some (option_built (codes "journal") t)) (let same : false ≡ takes = cc in same);
+      by_id = λ given. absurd (cc);
+      unknown = λ none. absurd (cc);
+    }
+    go false n false m false k false l false o = record {
+      known = λ takes given. let bad : None ≡ Some takes = rw (n, m, k, l, o) at given in absurd (cc);
+      by_id = λ given. let bad : None ≡ Some true = rw (n, m, k, l, o) at given in absurd (cc);
+      unknown = λ none. rw (n, m, k, l, o) refl;
     }
 
 render_fits : Fits render_leaf render_options
@@ -134,41 +145,43 @@ render_fits = record {
   unknown = λ name. (render_at name).unknown;
   by_id = λ name. (render_at name).by_id;
   no_short = λ c. refl;
-  defaults = λ rows. (no_defaults rows rules (refl, (refl, (refl, (refl, (refl, tt)))))).0;
-  same = λ rows. (no_defaults rows rules (refl, (refl, (refl, (refl, (refl, tt)))))).1;
+  defaults = λ rows. (no_defaults rows rules (refl, (refl, (refl, (refl, (refl, (refl, tt))))))).0;
+  same = λ rows. (no_defaults rows rules (refl, (refl, (refl, (refl, (refl, (refl, tt))))))).1;
   checked = λ rows. refl;
 }
 
-abbrev SessionAt : Text → Type 0
-SessionAt = At session_leaf.rules session_options
+-- of a command whose only option is a cache
+module _ (command : Text) where
+  abbrev CachedAt : Text → Type 0
+  CachedAt = At (cached_leaf command).rules cached_options
 
-session_at : (name : Text) → SessionAt name
-session_at name = go (bytes_eq (codes "cache") name) refl
-  where
-    go : (a : Bool) → bytes_eq (codes "cache") name ≡ a → SessionAt name
-    go true is = subst SessionAt (is_literal (codes "cache") name is) record {
-      known = λ takes given. ap (λ t. Some (option_built (codes "cache") t)) (let same : true ≡ takes = cc in same);
-      by_id = λ given. refl;
-      unknown = λ none. absurd (cc);
-    }
-    go false n = record {
-      known = λ takes given. let bad : None ≡ Some takes = rw n at given in absurd (cc);
-      by_id = λ given. let bad : None ≡ Some true = rw n at given in absurd (cc);
-      unknown = λ none. rw n refl;
-    }
+  cached_at : (name : Text) → CachedAt name
+  cached_at name = go (bytes_eq (codes "cache") name) refl
+    where
+      go : (a : Bool) → bytes_eq (codes "cache") name ≡ a → CachedAt name
+      go true is = subst CachedAt (is_literal (codes "cache") name is) record {
+        known = λ takes given. ap (λ t. Some (option_built (codes "cache") t)) (let same : true ≡ takes = cc in same);
+        by_id = λ given. refl;
+        unknown = λ none. absurd (cc);
+      }
+      go false n = record {
+        known = λ takes given. let bad : None ≡ Some takes = rw n at given in absurd (cc);
+        by_id = λ given. let bad : None ≡ Some true = rw n at given in absurd (cc);
+        unknown = λ none. rw n refl;
+      }
 
-session_fits : Fits session_leaf session_options
-session_fits = record {
-  positional_is = refl;
-  operand_is = refl;
-  known = λ name. (session_at name).known;
-  unknown = λ name. (session_at name).unknown;
-  by_id = λ name. (session_at name).by_id;
-  no_short = λ c. refl;
-  defaults = λ rows. (no_defaults rows session_leaf.rules (refl, (refl, tt))).0;
-  same = λ rows. (no_defaults rows session_leaf.rules (refl, (refl, tt))).1;
-  checked = λ rows. refl;
-}
+  cached_fits : Fits (cached_leaf command) cached_options
+  cached_fits = record {
+    positional_is = refl;
+    operand_is = refl;
+    known = λ name. (cached_at name).known;
+    unknown = λ name. (cached_at name).unknown;
+    by_id = λ name. (cached_at name).by_id;
+    no_short = λ c. refl;
+    defaults = λ rows. (no_defaults rows (cached_leaf command).rules (refl, (refl, tt))).0;
+    same = λ rows. (no_defaults rows (cached_leaf command).rules (refl, (refl, tt))).1;
+    checked = λ rows. refl;
+  }
 
 -- ---- the first word
 
@@ -302,7 +315,7 @@ module _ (t : Shape) (subs : List Shape) where
 -- ---- all the words
 
 abbrev leaves : List Shape
-leaves = render_leaf ∷ info_leaf ∷ test_leaf ∷ session_leaf ∷ []
+leaves = render_leaf ∷ info_leaf ∷ test_leaf ∷ session_leaf ∷ replay_leaf ∷ []
 
 abbrev built_top : Shape
 built_top = (built parser_app).top
@@ -348,8 +361,12 @@ test_agrees words utf8 = agrees_named (codes "selftest") test_leaf [] self_test_
     (fault_is built_top leaves (codes "selftest") test_leaf refl refl refl words) (rows_are built_top leaves (codes "selftest") test_leaf refl refl refl words)
 
 session_agrees : (words : List Text) → All IsUtf8 words → Agrees (codes "session" ∷ words)
-session_agrees words utf8 = agrees_named (codes "session") session_leaf session_options session_with session_fits words utf8 refl
+session_agrees words utf8 = agrees_named (codes "session") session_leaf cached_options session_with (cached_fits (codes "session")) words utf8 refl
     (fault_is built_top leaves (codes "session") session_leaf refl refl refl words) (rows_are built_top leaves (codes "session") session_leaf refl refl refl words)
+
+replay_agrees : (words : List Text) → All IsUtf8 words → Agrees (codes "replay" ∷ words)
+replay_agrees words utf8 = agrees_named (codes "replay") replay_leaf cached_options replay_with (cached_fits (codes "replay")) words utf8 refl
+    (fault_is built_top leaves (codes "replay") replay_leaf refl refl refl words) (rows_are built_top leaves (codes "replay") replay_leaf refl refl refl words)
 
 -- a word that is no literal is none the other way round either
 other_word : (word literal : Text) → bytes_eq word literal ≡ false → bytes_eq literal word ≡ false
@@ -370,20 +387,22 @@ agrees [] utf8 = record {
 }
 agrees (name ∷ words) utf8 =
     go (bytes_eq name (codes "render")) refl (bytes_eq name (codes "info")) refl (bytes_eq name (codes "selftest")) refl (bytes_eq name (codes "session")) refl
+    (bytes_eq name (codes "replay")) refl
   where
     rest : All IsUtf8 words
     rest k d lt = utf8 (suc k) d (omega arith)
 
     go : (a : Bool) → bytes_eq name (codes "render") ≡ a → (b : Bool) → bytes_eq name (codes "info") ≡ b → (d : Bool) → bytes_eq name (codes "selftest") ≡ d
-        → (e : Bool) → bytes_eq name (codes "session") ≡ e → Agrees (name ∷ words)
-    go true is b n d m e k = subst (λ t. Agrees (t ∷ words)) (sym (is_literal name (codes "render") is)) (render_agrees words rest)
-    go false n true is d m e k = subst (λ t. Agrees (t ∷ words)) (sym (is_literal name (codes "info") is)) (info_agrees words rest)
-    go false n false m true is e k = subst (λ t. Agrees (t ∷ words)) (sym (is_literal name (codes "selftest") is)) (test_agrees words rest)
-    go false n false m false k true is = subst (λ t. Agrees (t ∷ words)) (sym (is_literal name (codes "session") is)) (session_agrees words rest)
-    go false n false m false k false l =
+        → (e : Bool) → bytes_eq name (codes "session") ≡ e → (f : Bool) → bytes_eq name (codes "replay") ≡ f → Agrees (name ∷ words)
+    go true is b n d m e k f l = subst (λ t. Agrees (t ∷ words)) (sym (is_literal name (codes "render") is)) (render_agrees words rest)
+    go false n true is d m e k f l = subst (λ t. Agrees (t ∷ words)) (sym (is_literal name (codes "info") is)) (info_agrees words rest)
+    go false n false m true is e k f l = subst (λ t. Agrees (t ∷ words)) (sym (is_literal name (codes "selftest") is)) (test_agrees words rest)
+    go false n false m false k true is f l = subst (λ t. Agrees (t ∷ words)) (sym (is_literal name (codes "session") is)) (session_agrees words rest)
+    go false n false m false k false l true is = subst (λ t. Agrees (t ∷ words)) (sym (is_literal name (codes "replay") is)) (replay_agrees words rest)
+    go false n false m false k false l false o =
         let none : subcommand_met (map label_of leaves) idle name ≡ None =
-        rw (other_word name (codes "render") n, other_word name (codes "info") m, other_word name (codes "selftest") k, other_word name (codes "session") l) refl in
+        rw (other_word name (codes "render") n, other_word name (codes "info") m, other_word name (codes "selftest") k, other_word name (codes "session") l, other_word name (codes "replay") o) refl in
         record {
           accepted = λ empty. absurd (name_fails built_top leaves name (utf8 0 name (omega arith)) none words empty);
-          refused = λ no. rw (n, m, k, l) refl;
+          refused = λ no. rw (n, m, k, l, o) refl;
         }

@@ -6,7 +6,9 @@ use Rattle.std.specs.Str.{bytes_eq}
 use Rattle.std.specs.Str.Parse.{digits_value}
 use Rattle.command_line.specs.declared.command.Command.{Command}
 use Rattle.command_line.specs.declared.command.RenderOptions.{RenderOptions}
-use Rattle.command_line.specs.declared.command.Command.TheVariants.{Render, Info, SelfTest, Session}
+use Rattle.command_line.specs.declared.command.Command.TheVariants.{Render, Info, SelfTest, Session, Replay}
+use Rattle.command_line.specs.declared.command.Tells.{Tells}
+use Rattle.command_line.specs.declared.command.Tells.TheVariants.{Nothing, Report, Journal}
 use Rattle.command_line.specs.Words.{Text, Options, given_by, values_of}
 
 -- ---- values
@@ -44,13 +46,24 @@ flag_among [] = Some false
 flag_among (word ∷ []) = Some true
 flag_among _ = None
 
+-- what is told, by the flags for a report and for a journal, which exclude each other
+abbrev pub tells_by : Bool → Bool → Option Tells
+tells_by false false = Some Nothing
+tells_by true false = Some Report
+tells_by false true = Some Journal
+tells_by true true = None
+
 -- ---- commands, by the values of each name
 
 abbrev pub options_with : (Text → List Text) → Option RenderOptions
 options_with values = option_and_then (λ cache.
     option_and_then (λ threads.
     option_and_then (λ plain.
-    option_map (λ report. record { cache = cache; threads = threads; plain = plain; report = report })
+    option_and_then (λ report.
+    option_and_then (λ journal.
+    option_map (λ tells. record { cache = cache; threads = threads; plain = plain; tells = tells })
+    (tells_by report journal))
+    (flag_among (values (codes "journal"))))
     (flag_among (values (codes "report"))))
     (flag_among (values (codes "plain"))))
     (number_among 1 16 (values (codes "threads"))))
@@ -67,23 +80,32 @@ abbrev pub self_test_with : (Text → List Text) → Option Command
 self_test_with values =
     option_map SelfTest (option_and_then (number_in 0 4294967295) (only (values (codes "operand"))))
 
-abbrev pub session_with : (Text → List Text) → Option Command
-session_with values = option_and_then (λ names. option_map (Session names.0 names.1)
+-- two names, and a cache
+abbrev pub cached_with : (Text → List Text) → Option (Text × Text × Option ℕ)
+cached_with values = option_and_then (λ names. option_map (λ cache. (names.0, names.1, cache))
     (number_among 1 256 (values (codes "cache"))))
     (both (values (codes "operand")))
 
-abbrev pub render_options : Options
-render_options = (codes "cache", true) ∷ (codes "threads", true) ∷ (codes "plain", false) ∷ (codes "report", false) ∷ []
+abbrev pub session_with : (Text → List Text) → Option Command
+session_with values = option_map (λ given. Session given.0 given.1 given.2) (cached_with values)
 
-abbrev pub session_options : Options
-session_options = (codes "cache", true) ∷ []
+abbrev pub replay_with : (Text → List Text) → Option Command
+replay_with values = option_map (λ given. Replay given.0 given.1 given.2) (cached_with values)
+
+abbrev pub render_options : Options
+render_options = (codes "cache", true) ∷ (codes "threads", true) ∷ (codes "plain", false) ∷ (codes "report", false)
+    ∷ (codes "journal", false) ∷ []
+
+abbrev pub cached_options : Options
+cached_options = (codes "cache", true) ∷ []
 
 -- the options of the command of this name, and what the values of each name ask for
 abbrev pub named : Text → Option (Options × ((Text → List Text) → Option Command))
 named name = if bytes_eq name (codes "render") then Some (render_options, render_with)
     else if bytes_eq name (codes "info") then Some ([], info_with)
     else if bytes_eq name (codes "selftest") then Some ([], self_test_with)
-    else if bytes_eq name (codes "session") then Some (session_options, session_with)
+    else if bytes_eq name (codes "session") then Some (cached_options, session_with)
+    else if bytes_eq name (codes "replay") then Some (cached_options, replay_with)
     else None
 
 -- ---- the words

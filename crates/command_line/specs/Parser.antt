@@ -27,15 +27,15 @@ flag_rule name = record (new_rule name) {
 }
 
 abbrev pub render_app : App
-render_app = with_rule (with_rule (with_rule (with_rule (with_rule (new_app (codes "render")) operand_rule)
+render_app = with_rule (with_rule (with_rule (with_rule (with_rule (with_rule (new_app (codes "render")) operand_rule)
     (valued_rule (codes "cache"))) (valued_rule (codes "threads"))) (flag_rule (codes "plain")))
-    (flag_rule (codes "report"))
+    (flag_rule (codes "report"))) (flag_rule (codes "journal"))
 
 abbrev pub operand_app : Text → App
 operand_app name = with_rule (new_app name) operand_rule
 
-abbrev pub session_app : App
-session_app = with_rule (operand_app (codes "session")) (valued_rule (codes "cache"))
+abbrev pub cached_app : Text → App
+cached_app name = with_rule (operand_app name) (valued_rule (codes "cache"))
 
 abbrev pub with_settings : Shape → Shape
 with_settings s = record s {
@@ -50,8 +50,9 @@ abbrev pub settings_app : App
 settings_app = on_top with_settings (new_app (codes "avsserve"))
 
 abbrev pub parser_app : App
-parser_app = with_subcommand (with_subcommand (with_subcommand (with_subcommand settings_app render_app.top)
-    (operand_app (codes "info")).top) (operand_app (codes "selftest")).top) session_app.top
+parser_app = with_subcommand (with_subcommand (with_subcommand (with_subcommand (with_subcommand settings_app
+    render_app.top) (operand_app (codes "info")).top) (operand_app (codes "selftest")).top)
+    (cached_app (codes "session")).top) (cached_app (codes "replay")).top
 
 -- ---- the matches
 

@@ -1,4 +1,4 @@
-// `Command`: a render, `info`, the self test or a session, with its options.
+// `Command`: a render, `info`, the self test, a session or a replay, with its options.
 use fv_io::Text;
 
 /// What the words of the command line ask for.
@@ -24,6 +24,23 @@ pub enum Command {
         /// The capacity of the cache in frames, 1 to 256, where it was given.
         cache: Option<u32>,
     },
+    /// Whether a text is a journal of the clip of a script.
+    Replay {
+        script: Text,
+        journal: Text,
+        /// The capacity of the cache in frames, 1 to 256, where it was given.
+        cache: Option<u32>,
+    },
+}
+
+/// What a render tells on standard error after its last frame.
+#[derive(Clone, Copy, Debug, PartialEq, Eq)]
+pub enum Tells {
+    Nothing,
+    /// The counts of its journal.
+    Report,
+    /// Its journal.
+    Journal,
 }
 
 /// The options of a render.
@@ -35,6 +52,5 @@ pub struct RenderOptions {
     pub threads: Option<u32>,
     /// One worker alone, and windows of one frame.
     pub plain: bool,
-    /// Whether the journal's counts are told after the last frame.
-    pub report: bool,
+    pub tells: Tells,
 }

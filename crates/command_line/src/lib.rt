@@ -9,5 +9,5 @@ mod numbers;
 mod parser;
 mod words;
 
-pub use command::{Command, RenderOptions};
+pub use command::{Command, RenderOptions, Tells};
 pub use words::command_of;

@@ -3,7 +3,7 @@ ghost use Rattle.std.specs.Prelude.{◌≡◌, false, IfOk};
 ghost use Rattle.clap.specs.Walk.{rule_of};
 ghost use Rattle.clap.specs.Simple.{app_of};
 ghost use Rattle.clap.specs.declared.builder.command.Command.TheViews.{out-Command as fields_of};
-ghost use Rattle.command_line.specs.Parser.{operand_rule, valued_rule, flag_rule, operand_app, parser_app, render_app, session_app, settings_app};
+ghost use Rattle.command_line.specs.Parser.{operand_rule, valued_rule, flag_rule, cached_app, operand_app, parser_app, render_app, settings_app};
 
 use clap::{Arg, ArgAction, Command as Parser};
 use std::alloc::{AllocError, Global};
@@ -58,7 +58,8 @@ fn render_parser<'a>(alloc: Global) -> Result<Parser<'a>, AllocError>
         .arg(valued(alloc, "cache"))?
         .arg(valued(alloc, "threads"))?
         .arg(flag(alloc, "plain"))?
-        .arg(flag(alloc, "report"))
+        .arg(flag(alloc, "report"))?
+        .arg(flag(alloc, "journal"))
 }
 
 // The words of a command without options.
@@ -69,12 +70,12 @@ fn operand_parser<'a>(alloc: Global, name: &'a str) -> Result<Parser<'a>, AllocE
     Parser::new(alloc, name).arg(operand(alloc))
 }
 
-// The words of a session.
-fn session_parser<'a>(alloc: Global) -> Result<Parser<'a>, AllocError>
-    ensures app { IfOk result (λ parser. app_of parser ≡ session_app) }
+// The words of a command whose only option is a cache.
+fn cached_parser<'a>(alloc: Global, name: &'a str) -> Result<Parser<'a>, AllocError>
+    ensures app { IfOk result (λ parser. app_of parser ≡ cached_app name.entry.now) }
     ensures own { IfOk result (λ parser. (fields_of parser).has_globals ≡ false) }
 {
-    operand_parser(alloc, "session")?.arg(valued(alloc, "cache"))
+    operand_parser(alloc, name)?.arg(valued(alloc, "cache"))
 }
 
 /// The commands and their options.
@@ -85,5 +86,6 @@ pub(crate) fn parser<'a>(alloc: Global) -> Result<Parser<'a>, AllocError>
         .subcommand(render_parser(alloc)?)?
         .subcommand(operand_parser(alloc, "info")?)?
         .subcommand(operand_parser(alloc, "selftest")?)?
-        .subcommand(session_parser(alloc)?)
+        .subcommand(cached_parser(alloc, "session")?)?
+        .subcommand(cached_parser(alloc, "replay")?)
 }

@@ -5,10 +5,11 @@ ghost use Rattle.std.specs.Str.{IsUtf8};
 ghost use Rattle.clap.specs.Matches.{found_of};
 ghost use Rattle.clap.specs.Simple.{subcommand_rows_of};
 ghost use Rattle.clap.specs.Walk.{rows_of};
-ghost use Rattle.command_line.specs.Command.{command_in, options_with, render_with, info_with, self_test_with, session_with, flag_among, only, both};
+ghost use Rattle.command_line.specs.Command.{command_in, options_with, render_with, info_with, self_test_with, cached_with, session_with, replay_with};
+ghost use Rattle.command_line.specs.Command.{flag_among, tells_by, only, both};
 ghost use Rattle.command_line.specs.Parser.{texts_of, values_in, command_of_rows};
 
-use crate::command::{Command, RenderOptions};
+use crate::command::{Command, RenderOptions, Tells};
 use crate::numbers::{number_among, number_in};
 use crate::parser::parser;
 use clap::ArgMatches;
@@ -55,7 +56,19 @@ fn flag_among(values: Option<&[&str]>) -> Option<bool>
     }
 }
 
-// The options of a render. None comes where one is given twice, or its value is out of range.
+// What is told, by two flags. None comes where both are given.
+fn tells_by(report: bool, journal: bool) -> Option<Tells>
+    ensures { result ≡ tells_by report journal }
+{
+    match (report, journal) {
+        (false, false) => Some(Tells::Nothing),
+        (true, false) => Some(Tells::Report),
+        (false, true) => Some(Tells::Journal),
+        (true, true) => None,
+    }
+}
+
+// The options of a render. None comes where one is given twice, its value is out of range, or two exclude each other.
 fn options_of(matches: &ArgMatches) -> Option<RenderOptions>
     ensures { result ≡ options_with (values_in (rows_of (found_of matches.now))) }
 {
@@ -63,7 +76,10 @@ fn options_of(matches: &ArgMatches) -> Option<RenderOptions>
         cache: number_among(1, 256, values_of(matches, "cache"))?,
         threads: number_among(1, 16, values_of(matches, "threads"))?,
         plain: flag_among(values_of(matches, "plain"))?,
-        report: flag_among(values_of(matches, "report"))?,
+        tells: tells_by(
+            flag_among(values_of(matches, "report"))?,
+            flag_among(values_of(matches, "journal"))?,
+        )?,
     })
 }
 
@@ -98,20 +114,46 @@ fn self_test_of(matches: &ArgMatches) -> Option<Command>
     Some(Command::SelfTest { number })
 }
 
-fn session_of(alloc: Global, matches: &ArgMatches) -> Result<Option<Command>, AllocError>
-    ensures { IfOk result (λ command. command ≡ session_with (values_in (rows_of (found_of matches.now)))) }
+// Two names and a cache.
+fn cached_of(
+    alloc: Global,
+    matches: &ArgMatches,
+) -> Result<Option<(Text, Text, Option<u32>)>, AllocError>
+    ensures { IfOk result (λ given. given ≡ cached_with (values_in (rows_of (found_of matches.now)))) }
 {
-    let Some((script, list)) = both(values_of(matches, "operand")) else {
+    let Some((first, second)) = both(values_of(matches, "operand")) else {
         return Ok(None);
     };
     let Some(cache) = number_among(1, 256, values_of(matches, "cache")) else {
         return Ok(None);
     };
-    let script = Text::from_str(alloc, script)?;
-    let list = Text::from_str(alloc, list)?;
+    let first = Text::from_str(alloc, first)?;
+    let second = Text::from_str(alloc, second)?;
+    Ok(Some((first, second, cache)))
+}
+
+fn session_of(alloc: Global, matches: &ArgMatches) -> Result<Option<Command>, AllocError>
+    ensures { IfOk result (λ command. command ≡ session_with (values_in (rows_of (found_of matches.now)))) }
+{
+    let Some((script, list, cache)) = cached_of(alloc, matches)? else {
+        return Ok(None);
+    };
     Ok(Some(Command::Session {
         script,
         list,
+        cache,
+    }))
+}
+
+fn replay_of(alloc: Global, matches: &ArgMatches) -> Result<Option<Command>, AllocError>
+    ensures { IfOk result (λ command. command ≡ replay_with (values_in (rows_of (found_of matches.now)))) }
+{
+    let Some((script, journal, cache)) = cached_of(alloc, matches)? else {
+        return Ok(None);
+    };
+    Ok(Some(Command::Replay {
+        script,
+        journal,
         cache,
     }))
 }
@@ -131,6 +173,8 @@ fn command_from(alloc: Global, matches: &ArgMatches) -> Result<Option<Command>, 
         Ok(self_test_of(matches))
     } else if name == "session" {
         session_of(alloc, matches)
+    } else if name == "replay" {
+        replay_of(alloc, matches)
     } else {
         Ok(None)
     }

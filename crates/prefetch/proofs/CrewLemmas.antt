@@ -168,6 +168,38 @@ keys_back (k ∷ ks) = ap (λ l. k ∷ l) (keys_back ks)
 there_bare : (o : Option (Option Picture)) (x : Picture) → o ≡ Some (Some x) → option_map (option_map bare) o ≡ Some (Some tt)
 there_bare o x is = subst (λ z. option_map (option_map bare) z ≡ Some (Some tt)) (sym is) refl
 
+-- the run of a window
+module _ {I : Type 0} (c2 : CoreValue I) (run : IsRun c2) where
+  abbrev pub run_state : State (Unit {0})
+  run_state = state_of c2 run.got run.entered
+
+  pub run_ran : after_window (crew_machine c2.fixed.plan c2.fixed.root c2.fixed.capacity c2.fixed.workers (keys_of c2.table)) (keys_of c2.table) (keys_alone c2.fixed.opening) (record { first = c2.fixed.first; count = c2.fixed.count; events = c2.journal }) ≡ Some run_state
+  run_ran = ap (λ ks. replay (keys_machine (record c2.fixed { opening = ks })) (opening_of c2) c2.journal) (keys_back c2.fixed.opening) ∙ run.runs
+
+  -- it is whole where no stop is kept, each output is delivered, and each worker's work is whole
+  pub whole_of_run : c2.stop ≡ None → ((j : ℕ) → j < c2.fixed.count → (x : Picture) × (slice_get c2.outputs.frames j ≡ Some (Some x)))
+      → ((w : ℕ) → w < c2.fixed.workers → (outputs : List ℕ) × Deliveries c2.fixed.plan c2.fixed.root w outputs (own_events w c2.journal))
+      → IsWholeWindow c2.fixed.plan c2.fixed.root c2.fixed.capacity c2.fixed.workers (keys_of c2.table) (keys_alone c2.fixed.opening) (record { first = c2.fixed.first; count = c2.fixed.count; events = c2.journal }) run_state
+  whole_of_run running delivered work = record {
+    runs = run_ran;
+    running = running;
+    delivered = λ j less. let one = delivered j less in slice_get-map (option_map bare) c2.outputs.frames j ∙ there_bare (slice_get c2.outputs.frames j) one.0 one.1;
+    work = work;
+  }
+
+-- and then it is a window of the core with which it began
+pub crew_window : {I : Type 0} (c c2 d : CoreValue I) (first count : ℕ) → c2.fixed ≡ (begun c first count).fixed → keys_of c2.table ≡ keys_of c.table → d ≡ ended c2 → (run : IsRun c2) (events : List Event) → events ≡ c2.journal
+    → IsWholeWindow c2.fixed.plan c2.fixed.root c2.fixed.capacity c2.fixed.workers (keys_of c2.table) (keys_alone c2.fixed.opening) (record { first = c2.fixed.first; count = c2.fixed.count; events = c2.journal }) (run_state c2 run)
+    → IsCrewWindow c first count events d
+crew_window {I = I} c c2 d first count fixed places ends_it run events journal whole =
+    let there = subst (λ (z : Fixed × List Place). IsWholeWindow z.0.plan z.0.root z.0.capacity z.0.workers z.1 (keys_alone z.0.opening) (record { first = z.0.first; count = z.0.count; events = c2.journal }) (run_state c2 run)) (λ i. (fixed i, places i)) whole in
+    record {
+      state = run_state c2 run;
+      whole = subst (λ es. IsWholeWindow c.fixed.plan c.fixed.root c.fixed.capacity c.fixed.workers (keys_of c.table) (keys_alone (keys_of c.cache)) (record { first = first; count = count; events = es }) (run_state c2 run)) (sym journal) there;
+      left = sym (keys_again c2.cache) ∙ ap (λ (z : CoreValue I). keys_alone (keys_of z.cache)) (sym ends_it);
+      places = ap (λ (z : CoreValue I). keys_of z.table) ends_it ∙ places;
+    }
+
 module _ {I : Type 0} (holds : I → Option Info) (feed : I → Option (List Picture)) (faults : I → ℕ) (ends : I → ℕ → ℕ → ℕ → Type 0) (c c1 c2 : CoreValue I) (first count : ℕ) (plan : IsPlan c.fixed.plan) (root : c.fixed.root < length c.fixed.plan)
     (begins : c1 ≡ begun c first count) (worked : WorkIsDone feed faults ends c1 c2) (run : IsRun c2) where
   fixed : c2.fixed ≡ (begun c first count).fixed
@@ -192,13 +224,6 @@ module _ {I : Type 0} (holds : I → Option Info) (feed : I → Option (List Pic
   places : keys_of c2.table ≡ keys_of c.table
   places = worked.stands.places ∙ ap (λ (z : CoreValue I). keys_of z.table) begins
 
-  -- the run of the window
-  abbrev state : State (Unit {0})
-  state = state_of c2 run.got run.entered
-
-  ran : after_window (crew_machine c2.fixed.plan c2.fixed.root c2.fixed.capacity c2.fixed.workers (keys_of c2.table)) (keys_of c2.table) (keys_alone c2.fixed.opening) (record { first = c2.fixed.first; count = c2.fixed.count; events = c2.journal }) ≡ Some state
-  ran = ap (λ ks. replay (keys_machine (record c2.fixed { opening = ks })) (opening_of c2) c2.journal) (keys_back c2.fixed.opening) ∙ run.runs
-
   module _ (stopped : c2.stop ≡ first_stop c2.journal) where
     module _ (running : first_stop c2.journal ≡ None) (some : 0 < c2.fixed.workers) where
       each_whole : (w : ℕ) → w < c2.fixed.workers → DeliversAll c2.fixed.plan c2.fixed.root c2.fixed.count w c2.journal (own_events w c2.journal)
@@ -210,18 +235,13 @@ module _ {I : Type 0} (holds : I → Option Info) (feed : I → Option (List Pic
           let taken = (workers_tell I).taken c2 run in
           (workers_tell I).delivered c2 run (λ w low. work_delivered c2.fixed.plan c2.fixed.root w plan2 root2 c2.fixed.count c2.journal (own_events w c2.journal) (each_whole w low)) j (omega arith)
 
-      whole_run : IsWholeWindow c2.fixed.plan c2.fixed.root c2.fixed.capacity c2.fixed.workers (keys_of c2.table) (keys_alone c2.fixed.opening) (record { first = c2.fixed.first; count = c2.fixed.count; events = c2.journal }) state
-      whole_run = record {
-        runs = ran;
-        running = stopped ∙ running;
-        delivered = λ j less. let one = delivered j less in slice_get-map (option_map bare) c2.outputs.frames j ∙ there_bare (slice_get c2.outputs.frames j) one.0 one.1;
-        work = λ w less. let d = each_whole w less in (d.outputs, d.delivered);
-      }
+      whole_run : IsWholeWindow c2.fixed.plan c2.fixed.root c2.fixed.capacity c2.fixed.workers (keys_of c2.table) (keys_alone c2.fixed.opening) (record { first = c2.fixed.first; count = c2.fixed.count; events = c2.journal }) (run_state c2 run)
+      whole_run = whole_of_run c2 run (stopped ∙ running) delivered (λ w less. let d = each_whole w less in (d.outputs, d.delivered))
 
     cut_run : (why : WindowStop) → first_stop c2.journal ≡ Some why → IsCutWindow c2.fixed.plan c2.fixed.root c2.fixed.capacity c2.fixed.workers (keys_of c2.table) why (keys_alone c2.fixed.opening) (record { first = c2.fixed.first; count = c2.fixed.count; events = c2.journal })
     cut_run why at =
         let f = failure_of c2.journal why at in
-        record { state = state; runs = ran; stopped = stopped ∙ at; named = named_by (keys_machine c2.fixed) (opening_of c2) state c2.journal f.0 why run.runs f.1; work = each_work }
+        record { state = run_state c2 run; runs = run_ran c2 run; stopped = stopped ∙ at; named = named_by (keys_machine c2.fixed) (opening_of c2) (run_state c2 run) c2.journal f.0 why run.runs f.1; work = each_work }
 
   fits : (book : Book) (numbers : List ℕ) (w : ℕ) (why : WindowStop) → Contains c2.journal (Fail w why) → Stands feed faults book numbers c2 → StopFits feed faults book numbers c2.fixed.plan c2.table why
   fits book numbers w (Read i) h v = v.failed i (read_by c2.journal w i h)
@@ -245,15 +265,9 @@ module _ {I : Type 0} (holds : I → Option Info) (feed : I → Option (List Pic
     ends_by : (o : Option WindowStop) → finished.stop ≡ o → WindowEnds holds feed faults ends c (IsCrewWindow c first count) (IsCutCrew c first count) first count finished o d
     ends_by None is =
         let running = sym stopped ∙ is in
-        let several : 0 < c2.fixed.workers = subst (λ (z : Fixed). 0 < z.workers) (sym fixed) some in
-        let whole = subst (λ (z : Fixed × List Place). IsWholeWindow z.0.plan z.0.root z.0.capacity z.0.workers z.1 (keys_alone z.0.opening) (record { first = z.0.first; count = z.0.count; events = c2.journal }) state) (λ i. (fixed i, places i)) (whole_run (sym stop ∙ stopped) running several) in (
+        let several : 0 < c2.fixed.workers = subst (λ (z : Fixed). 0 < z.workers) (sym fixed) some in (
           window_delivered holds feed faults ends c c1 c2 d first count plan begins worked.stands.fixed ends_it finished stays worked.stands.right frames size shapes (steady (sym stop ∙ is)) (λ j less. delivered (sym stop ∙ stopped) running several j (subst (λ (z : Fixed). j < z.count) (sym fixed) less)),
-          record {
-            state = state;
-            whole = subst (λ es. IsWholeWindow c.fixed.plan c.fixed.root c.fixed.capacity c.fixed.workers (keys_of c.table) (keys_alone (keys_of c.cache)) (record { first = first; count = count; events = es }) state) (sym events) whole;
-            left = sym (keys_again c2.cache) ∙ ap (λ (z : CoreValue I). keys_alone (keys_of z.cache)) (sym ends_it);
-            places = ap (λ (z : CoreValue I). keys_of z.table) ends_it ∙ places;
-          },
+          crew_window c c2 d first count fixed places ends_it run finished.events.items events (whole_run (sym stop ∙ stopped) running several),
         )
     ends_by (Some why) is =
         let at = sym stopped ∙ is in

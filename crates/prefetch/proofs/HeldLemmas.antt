@@ -30,18 +30,18 @@ module _ {I : Type 0} where
 
   module _ (holds : I → Option Info) (plan : List Application) where
     -- they are the sources of their nodes
-    held_theirs : (es : List (Place × Slot I)) → AllFree es → PlacesDiffer es → HoldTheirs holds plan es → held_in holds es ≡ map (λ p. opened_at plan p.node) (keys_of es)
+    held_theirs : (es : List (Place × Slot I)) → AllFree es → PlacesDiffer es → HoldTheirs holds plan es → held_in holds es ≡ map (λ p. (p, opened_at plan p.node)) (keys_of es)
     unfolding IsDistinct
     held_theirs [] free differ theirs = refl
     held_theirs ((p, Free x) ∷ es) free differ theirs =
         let first : holds x ≡ opened_at plan p.node = theirs p x (rw (place_itself p) refl) in
         let rest = held_theirs es free differ.1 (later_hold (λ q y. holds y ≡ opened_at plan q.node) p (Free x) es differ.0 theirs) in
-        λ i. first i ∷ rest i
+        λ i. (p, first i) ∷ rest i
     held_theirs ((p, Leased w) ∷ es) free differ theirs = absurd free
 
     -- so two tables of the same places keep the same
     pub held_again : (es fs : List (Place × Slot I)) → keys_of fs ≡ keys_of es → AllFree es → PlacesDiffer es → HoldTheirs holds plan es → AllFree fs → PlacesDiffer fs → HoldTheirs holds plan fs → held_in holds fs ≡ held_in holds es
-    held_again es fs same free differ theirs free' differ' theirs' = held_theirs fs free' differ' theirs' ∙ (ap (map (λ p. opened_at plan p.node)) same ∙ sym (held_theirs es free differ theirs))
+    held_again es fs same free differ theirs free' differ' theirs' = held_theirs fs free' differ' theirs' ∙ (ap (map (λ p. (p, opened_at plan p.node))) same ∙ sym (held_theirs es free differ theirs))
 
   module _ (faults : I → ℕ) where
     -- the counts are those of the places in a table before

@@ -8,6 +8,7 @@ pub mod HeldLemmas
 pub mod WorkLemmas
 pub mod CrewLemmas
 pub mod CrewTogether
+pub mod AloneLemmas
 pub mod OnceLemmas
 pub mod AskedLemmas
 pub mod CrossingLemmas

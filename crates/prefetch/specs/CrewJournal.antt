@@ -13,6 +13,7 @@ use Rattle.serve_machine.specs.Machine.{Machine}
 use Rattle.serve_machine.specs.Lifted.{keys_machine}
 use Rattle.serve_machine.specs.Renders.{after_window, all_events, has_evicted, publications, IsReached}
 use Rattle.serve_shared.specs.Shares.{IsWork}
+use Rattle.prefetch.specs.Journal.{IsWholeJournal}
 
 -- keys without their frames, the most recently used first
 abbrev pub KeyCache : Type 0
@@ -66,6 +67,11 @@ module _ (plan : List Application) (root capacity workers : ℕ) (places : List 
     pub record AreCrewFirst (windows : List WindowEvents) (n : ℕ) : Type 0 where
       pub left : KeyCache
       pub whole : AreWhole windows n left
+
+    -- by one worker the windows of all outputs are the serial run, and whole as those of a crew are
+    pub record IsAloneJournal (windows : List WindowEvents) : Type 0 where
+      pub serial : IsWholeJournal plan root capacity size total windows
+      pub crew : AreCrewFirst windows total
 
     -- whole windows with n outputs, and after them one that this stop cut short
     pub record AreCrewCut (why : WindowStop) (windows : List WindowEvents) (n : ℕ) : Type 0 where

@@ -1,4 +1,4 @@
--- Windows by one worker: their events are those of the serial run.
+-- Windows by one worker: their events are those of the serial run, which are a run of the machine too.
 use Rattle.std.specs.Prelude.{◌≡◌, ℕ, ◌≤◌, true, List}
 use Rattle.std.specs.Map.{keys_of}
 use Rattle.serve_events.specs.declared.event.Event.{Event}
@@ -8,6 +8,7 @@ use Rattle.serve_events.specs.SerialRun.{Serial, serial_window, windows_after}
 use Rattle.serve_events.specs.Windows.{WindowEvents}
 use Rattle.serve_events.specs.Work.{FailedWork}
 use Rattle.serve_core.specs.CoreValue.{CoreValue}
+use Rattle.prefetch.specs.Crew.{IsCrewWindow}
 use Rattle.prefetch.specs.Windows.{frames_at}
 
 module _ {I : Type 0} (c : CoreValue I) where
@@ -18,6 +19,11 @@ module _ {I : Type 0} (c : CoreValue I) where
   pub record IsSerialWindow (first count : ℕ) (events : List Event) (d : CoreValue I) : Type 0 where
     pub events_are : events ≡ (window_of first count).events
     pub keys_are : keys_of d.cache ≡ (window_of first count).keys
+
+  -- the window is the serial run's, and a run of the machine in which each worker does whole work
+  pub record IsAloneWindow (first count : ℕ) (events : List Event) (d : CoreValue I) : Type 0 where
+    pub serial : IsSerialWindow first count events d
+    pub crew : IsCrewWindow c first count events d
 
   pub record IsCutSerial (why : WindowStop) (events : List Event) : Type 0 where
     pub cut : FailedWork c.fixed.plan c.fixed.root 0 why events

@@ -17,8 +17,8 @@ use Rattle.serve_worker.specs.Alone.{AllFree, held_in, counts_in}
 use Rattle.prefetch.specs.declared.stops.RenderStop.{RenderStop}
 use Rattle.prefetch.specs.declared.stops.RenderStop.TheVariants.{Stopped, Write, Memory}
 use Rattle.prefetch.specs.Clips.{pictures_from}
-use Rattle.prefetch.specs.Journal.{AreFirst, AreCut, IsWholeJournal}
-use Rattle.prefetch.specs.CrewJournal.{AreCrewFirst, AreCrewCut}
+use Rattle.prefetch.specs.Journal.{AreFirst, AreCut}
+use Rattle.prefetch.specs.CrewJournal.{AreCrewFirst, AreCrewCut, IsAloneJournal}
 
 -- the frames that are there
 abbrev pub given : {A : Type 0} → List (Option A) → List A
@@ -114,10 +114,10 @@ module _ {I : Type 0} (holds : I → Option Info) (feed : I → Option (List Pic
       RenderEnds IsFirst IsCut windows d Write = FailedAfter IsFirst windows d
       RenderEnds IsFirst IsCut windows d Memory = EndedBetween IsFirst windows d
 
-      -- by one worker the journal is the serial run, or the beginning of it
+      -- by one worker the journal is the serial run, and its windows are a crew's too, or it is the beginning of that run
       abbrev pub RendersAll : ℕ → List WindowEvents → CoreValue I → Type 0
-      RendersAll size windows d = AllRendered (IsWholeJournal c.fixed.plan c.fixed.root c.fixed.capacity size
-          (frames_at c.fixed.plan c.fixed.root)) windows d
+      RendersAll size windows d = AllRendered (IsAloneJournal c.fixed.plan c.fixed.root c.fixed.capacity c.fixed.workers
+          (keys_of c.table) size (frames_at c.fixed.plan c.fixed.root)) windows d
 
       abbrev pub RenderStops : ℕ → List WindowEvents → CoreValue I → RenderStop → Type 0
       RenderStops size windows d stop = RenderEnds

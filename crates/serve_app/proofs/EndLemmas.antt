@@ -1,16 +1,20 @@
 -- What a run leaves, whatever the words ask for.
-use Rattle.std.proofs.Common.{◌≡◌, ◌⊎◌, ℕ, ◌≤◌, Bool, true, false, List, Option, Some, None, Result, Ok, Err, OnOk, inl, inr, refl, sym, ◌∙◌, ap₂, subst, arith}
+use Rattle.std.proofs.Common.{◌≡◌, ◌⊎◌, ℕ, ◌≤◌, List, Option, Some, None, Result, Ok, Err, OnOk, inl, inr, refl, sym, ◌∙◌, ap, ap₂, subst, arith}
+use Rattle.std.specs.List.{AllByRecursion}
 use Rattle.fv_io.specs.declared.files.Files as of_files
 use Rattle.fv_io.specs.declared.sink.Sink.{Ghosts}
 use Rattle.fv_io.specs.Files.{KeepsFiles, FilesFailed}
 use Rattle.fv_io.specs.Sink.{Puts, IsLater}
-use Rattle.fv_io.specs.World.{InWorld}
+use Rattle.fv_io.specs.World.{World, InWorld}
 use Rattle.fv_io.proofs.CallerLemmas.{gets_none}
 use Rattle.clip_graph.specs.Plan.{Application}
 use Rattle.command_line.specs.Command.{command_in}
 use Rattle.command_line.specs.declared.command.Command.{Command}
 use Rattle.command_line.specs.declared.command.Command.TheVariants as c
 use Rattle.command_line.specs.declared.command.RenderOptions.{RenderOptions}
+use Rattle.command_line.specs.declared.command.Tells.{Tells}
+use Rattle.command_line.specs.declared.command.Tells.TheVariants as of_tells
+use Rattle.run_text.specs.Lines.{LineFits, journal_lines, journal_text}
 use Rattle.serve_events.specs.declared.windows.Record.{Record}
 use Rattle.serve_events.specs.Windows.{windows_of}
 use Rattle.serve_text.specs.Lines.{Says, usage_line}
@@ -22,15 +26,19 @@ use Rattle.serve_stream.specs.Rendered.{PutsHead, PutsNoHead}
 use Rattle.serve_stream.specs.Streams.{stop_in, TellsStop, HeadShows}
 use Rattle.serve_stream.specs.declared.staff.Staff.{Staff}
 use Rattle.serve_stream.specs.declared.stream.Whole.{Whole}
-use Rattle.serve_app.specs.Headline.{Quiet, Headline, JournalEnds, InfoEnds, SessionEnds, Ends}
-use Rattle.serve_app.specs.Journals.{cache_of, IsRunOf, IsReport, ScriptCuts}
+use Rattle.serve_app.specs.declared.entry.Telling.{Telling}
+use Rattle.serve_app.specs.declared.entry.Telling.TheVariants as telling
+use Rattle.serve_app.specs.Headline.{Quiet, Headline, JournalEnds, InfoEnds, SessionEnds, ReplayEnds, Ends}
+use Rattle.serve_app.specs.Journals.{cache_of, IsScriptRendered, IsRunOf, IsReport, IsJournalText, IsLawful, ScriptCuts}
 use Rattle.serve_app.specs.Playing.{PutsClip}
 use Rattle.serve_app.specs.Reads.{ReadsOnce}
 use Rattle.serve_app.specs.Renders.{IsScriptRender}
-use Rattle.serve_app.specs.Run.{graph_in, HasLog, RenderDoes, Does, LeavesNone, Finishes}
+use Rattle.serve_app.specs.Run.{told_in, HasLog, IsToldOf, RenderDoes, Does, LeavesNone, Finishes}
 use Rattle.serve_app.specs.SelfTest.{SelfTestEnds}
 use Rattle.serve_app.specs.Stop.{HasInfo}
-use Rattle.serve_app.proofs.RunLemmas.{headline_of_whole, headline_of_cut, headline_of_stop, info_of_whole, info_of_stop, self_test_of_whole, self_test_of_stop, journal_of_whole, journal_of_stop, unheaded, headed_of, zero_or_five, wrote_of}
+use Rattle.serve_app.proofs.RunLemmas.{headline_of_whole, cut_in, headline_of_cut, headline_of_stop, info_of_whole, info_of_stop, self_test_of_whole, self_test_of_stop, journal_of_whole, journal_of_stop, unheaded, headed_of, zero_or_five, wrote_of}
+use Rattle.serve_app.proofs.LawfulLemmas.{lawful_by}
+use Rattle.serve_app.proofs.ReplayEnds.{replay_whole, replay_stop}
 use Rattle.serve_app.proofs.SessionEnds.{session_whole, session_stop}
 
 module _ {F S K E : Type 0} (files : of_files.Ghosts F S) (sink : Ghosts K) (lines : Ghosts E) (f g : F) (out new : K) (err said : E) (by : RenderOptions → Staff) (words : List (List ℕ)) (journal : Option Record) where
@@ -43,7 +51,7 @@ module _ {F S K E : Type 0} (files : of_files.Ghosts F S) (sink : Ghosts K) (lin
   not_one status (inr more) one = omega (arith, more, one)
 
   ends_of_render : (script : List ℕ) (options : RenderOptions) (status : ℕ) → command_in words ≡ Some (c.Render script options)
-      → Headline files sink lines f g out new err said script (cache_of options.cache) (by options) journal options.report status
+      → Headline files sink lines f g out new err said script (cache_of options.cache) (by options) journal options.tells status
       → JournalEnds files sink lines f g out new err said script (cache_of options.cache) (by options) journal status
       → (journal ≡ None → PutsNoHead sink out new (HasInfo (files.world f) script) (status ≡ 5)) → ((log : Record) → journal ≡ Some log → PutsHead sink out new (HasInfo (files.world f) script)) → Leaves
       → Ends files sink lines f g out new err said by words status journal
@@ -52,8 +60,8 @@ module _ {F S K E : Type 0} (files : of_files.Ghosts F S) (sink : Ghosts K) (lin
         (let both : Some (c.Render script options) ≡ Some (c.Render other others) = sym asked ∙ is in
         let same : script ≡ other = cc in
         let alike : options ≡ others = cc in
-        subst (λ (o : RenderOptions). Headline files sink lines f g out new err said other (cache_of o.cache) (by o) journal o.report status) alike
-        (subst (λ s. Headline files sink lines f g out new err said s (cache_of options.cache) (by options) journal options.report status) same ends));
+        subst (λ (o : RenderOptions). Headline files sink lines f g out new err said other (cache_of o.cache) (by o) journal o.tells status) alike
+        (subst (λ s. Headline files sink lines f g out new err said s (cache_of options.cache) (by options) journal options.tells status) same ends));
     journal_of = λ other others is.
         (let both : Some (c.Render script options) ≡ Some (c.Render other others) = sym asked ∙ is in
         let same : script ≡ other = cc in
@@ -62,6 +70,7 @@ module _ {F S K E : Type 0} (files : of_files.Ghosts F S) (sink : Ghosts K) (lin
         (subst (λ s. JournalEnds files sink lines f g out new err said s (cache_of options.cache) (by options) journal status) same ended));
     info = λ other is. (let both : Some (c.Render script options) ≡ Some (c.Info other) = sym asked ∙ is in absurd (cc));
     session = λ other list cache is. (let both : Some (c.Render script options) ≡ Some (c.Session other list cache) = sym asked ∙ is in absurd (cc));
+    replay = λ other name cache is. (let both : Some (c.Render script options) ≡ Some (c.Replay other name cache) = sym asked ∙ is in absurd (cc));
     self_test = λ number is. (let both : Some (c.Render script options) ≡ Some (c.SelfTest number) = sym asked ∙ is in absurd (cc));
     refused = λ none. (let both : Some (c.Render script options) ≡ None = sym asked ∙ none in absurd (cc));
     usage = λ one. absurd (not_one status (let causes = ends.causes in causes.known) one);
@@ -83,6 +92,7 @@ module _ {F S K E : Type 0} (files : of_files.Ghosts F S) (sink : Ghosts K) (lin
     info = λ other is. (let same : script ≡ other = (let both : Some (c.Info script) ≡ Some (c.Info other) = sym asked ∙ is in cc) in
         subst (λ s. InfoEnds files sink lines f g out new err said s status) same ends);
     session = λ other list cache is. (let both : Some (c.Info script) ≡ Some (c.Session other list cache) = sym asked ∙ is in absurd (cc));
+    replay = λ other name cache is. (let both : Some (c.Info script) ≡ Some (c.Replay other name cache) = sym asked ∙ is in absurd (cc));
     self_test = λ number is. (let both : Some (c.Info script) ≡ Some (c.SelfTest number) = sym asked ∙ is in absurd (cc));
     refused = λ none. (let both : Some (c.Info script) ≡ None = sym asked ∙ none in absurd (cc));
     usage = λ one. absurd (not_one status (let causes = ends.causes in causes.known) one);
@@ -105,6 +115,7 @@ module _ {F S K E : Type 0} (files : of_files.Ghosts F S) (sink : Ghosts K) (lin
     journal_of = λ other others is. (let both : Some (c.SelfTest number) ≡ Some (c.Render other others) = sym asked ∙ is in absurd (cc));
     info = λ other is. (let both : Some (c.SelfTest number) ≡ Some (c.Info other) = sym asked ∙ is in absurd (cc));
     session = λ other list cache is. (let both : Some (c.SelfTest number) ≡ Some (c.Session other list cache) = sym asked ∙ is in absurd (cc));
+    replay = λ other name cache is. (let both : Some (c.SelfTest number) ≡ Some (c.Replay other name cache) = sym asked ∙ is in absurd (cc));
     self_test = λ other is. (let same : number ≡ other = (let both : Some (c.SelfTest number) ≡ Some (c.SelfTest other) = sym asked ∙ is in cc) in
         (subst (λ n. SelfTestEnds sink lines out new err said n status) same ends, stay));
     refused = λ none. (let both : Some (c.SelfTest number) ≡ None = sym asked ∙ none in absurd (cc));
@@ -130,6 +141,7 @@ module _ {F S K E : Type 0} (files : of_files.Ghosts F S) (sink : Ghosts K) (lin
         subst (λ n. SessionEnds files sink lines f g out new err said other names (cache_of n) journal status) as_much
         (subst (λ l. SessionEnds files sink lines f g out new err said other l (cache_of cache) journal status) alike
         (subst (λ s. SessionEnds files sink lines f g out new err said s list (cache_of cache) journal status) same ends)));
+    replay = λ other name held is. (let both : Some (c.Session script list cache) ≡ Some (c.Replay other name held) = sym asked ∙ is in absurd (cc));
     self_test = λ number is. (let both : Some (c.Session script list cache) ≡ Some (c.SelfTest number) = sym asked ∙ is in absurd (cc));
     refused = λ none. (let both : Some (c.Session script list cache) ≡ None = sym asked ∙ none in absurd (cc));
     usage = λ one. absurd (not_one status (let causes = ends.causes in causes.known) one);
@@ -140,119 +152,223 @@ module _ {F S K E : Type 0} (files : of_files.Ghosts F S) (sink : Ghosts K) (lin
     later_lines = leaves.2;
   }
 
+  ends_of_replay : (script name : List ℕ) (cache : Option ℕ) (status : ℕ) → command_in words ≡ Some (c.Replay script name cache)
+      → ReplayEnds files sink lines f g out new err said script name (cache_of cache) status → journal ≡ None → Leaves → Ends files sink lines f g out new err said by words status journal
+  ends_of_replay script name cache status asked ends empty leaves = record {
+    render = λ other others is. (let both : Some (c.Replay script name cache) ≡ Some (c.Render other others) = sym asked ∙ is in absurd (cc));
+    journal_of = λ other others is. (let both : Some (c.Replay script name cache) ≡ Some (c.Render other others) = sym asked ∙ is in absurd (cc));
+    info = λ other is. (let both : Some (c.Replay script name cache) ≡ Some (c.Info other) = sym asked ∙ is in absurd (cc));
+    session = λ other list held is. (let both : Some (c.Replay script name cache) ≡ Some (c.Session other list held) = sym asked ∙ is in absurd (cc));
+    replay = λ other names held is.
+        (let both : Some (c.Replay script name cache) ≡ Some (c.Replay other names held) = sym asked ∙ is in
+        let same : script ≡ other = cc in
+        let alike : name ≡ names = cc in
+        let as_much : cache ≡ held = cc in
+        subst (λ n. ReplayEnds files sink lines f g out new err said other names (cache_of n) status) as_much
+        (subst (λ l. ReplayEnds files sink lines f g out new err said other l (cache_of cache) status) alike
+        (subst (λ s. ReplayEnds files sink lines f g out new err said s name (cache_of cache) status) same ends)));
+    self_test = λ number is. (let both : Some (c.Replay script name cache) ≡ Some (c.SelfTest number) = sym asked ∙ is in absurd (cc));
+    refused = λ none. (let both : Some (c.Replay script name cache) ≡ None = sym asked ∙ none in absurd (cc));
+    usage = λ one. absurd (not_one status (let causes = ends.causes in causes.known) one);
+    no_journal = λ none other others is. (let both : Some (c.Replay script name cache) ≡ Some (c.Render other others) = sym asked ∙ is in absurd (cc));
+    some_journal = λ log there. (let both : None ≡ Some log = sym empty ∙ there in absurd (cc));
+    keeps = leaves.0;
+    later = leaves.1;
+    later_lines = leaves.2;
+  }
+
   -- a render by what was done and what was said of it
   module _ (script : List ℕ) (options : RenderOptions) where
     abbrev Reading : Type 0
     Reading = ReadsOnce (files.world f) script (files.faults f) (files.faults g) (files.fetched f) (files.fetched g)
 
-    abbrev Rendered : ℕ → Type 0
-    Rendered status = Headline files sink lines f g out new err said script (cache_of options.cache) (by options) journal options.report status
+    abbrev capacity : ℕ
+    capacity = cache_of options.cache
 
-    quietly : (frames status : ℕ) → InWorld (files.world f) (λ world. PutsClip sink world script out new frames) → Reading → options.report ≡ false → status ≡ 0 → said ≡ err → Rendered status
-    quietly frames status whole reads unasked zero quiet =
-        subst Rendered (sym zero) (headline_of_whole files sink lines f g out new err said script (cache_of options.cache) (by options) journal options.report frames whole reads
-        (subst (Quiet files sink lines f g out new err said script (cache_of options.cache) (by options) journal) (sym unasked) quiet))
+    abbrev Rendered : Tells → ℕ → Type 0
+    Rendered tells status = Headline files sink lines f g out new err said script capacity (by options) journal tells status
 
-    reported : (frames status : ℕ) (text : List ℕ) → InWorld (files.world f) (λ world. PutsClip sink world script out new frames) → Reading → options.report ≡ true
-        → IsReport (files.world f) script (cache_of options.cache) (by options) journal text → ((status ≡ 0) × Puts lines err said text) ⊎ ((status ≡ 5) × CutsReport lines err said text) → Rendered status
-    reported frames status text whole reads asked is (inl put) =
-        subst Rendered (sym put.0) (headline_of_whole files sink lines f g out new err said script (cache_of options.cache) (by options) journal options.report frames whole reads
-        (subst (Quiet files sink lines f g out new err said script (cache_of options.cache) (by options) journal) (sym asked) (record { text = text; is = is; put = put.1 })))
-    reported frames status text whole reads asked is (inr cut) =
-        subst Rendered (sym cut.0) (subst (λ b. Headline files sink lines f g out new err said script (cache_of options.cache) (by options) journal b 5) (sym asked)
-        (headline_of_cut files sink lines f g out new err said script (cache_of options.cache) (by options) journal frames whole reads text is cut.1))
+    abbrev Well : Tells → Type 0
+    Well tells = Quiet files sink lines f g out new err said script capacity (by options) journal tells
 
-    -- the report is that of the journal
-    report_is : (log : Record) (plan : List Application) → journal ≡ Some log → IsRunOf (files.world f) script (cache_of options.cache) (by options) journal plan
-        → IsReport (files.world f) script (cache_of options.cache) (by options) journal (report plan (windows_of log))
-    report_is log plan there is =
-        let run = is.run in
+    abbrev OfPlan : List Application → ℕ → Type 0
+    OfPlan plan workers = IsRunOf (files.world f) script capacity (by options) journal plan workers
+
+    abbrev Reported : List ℕ → Type 0
+    Reported text = IsReport (files.world f) script capacity (by options) journal text
+
+    abbrev Printed : List ℕ → Type 0
+    Printed text = IsJournalText (files.world f) script capacity (by options) journal text
+
+    abbrev Putting : ℕ → Type 0
+    Putting frames = InWorld (files.world f) (λ world. PutsClip sink world script out new frames)
+
+    whole_by : (tells : Tells) (frames status : ℕ) → Putting frames → Reading → status ≡ 0 → Well tells → Rendered tells status
+    whole_by tells frames status whole reads zero well =
+        subst (Rendered tells) (sym zero) (headline_of_whole files sink lines f g out new err said script capacity (by options) journal tells frames whole reads well)
+
+    reported : (frames status : ℕ) (text : List ℕ) → Putting frames → Reading → Reported text → ((status ≡ 0) × Puts lines err said text) ⊎ ((status ≡ 5) × CutsReport lines err said text)
+        → Rendered of_tells.Report status
+    reported frames status text whole reads is (inl put) = whole_by of_tells.Report frames status whole reads put.0 (record { text = text; is = is; put = put.1 })
+    reported frames status text whole reads is (inr cut) =
+        subst (Rendered of_tells.Report) (sym cut.0) (headline_of_cut files sink lines f g out new err said script capacity (by options) journal of_tells.Report frames whole reads
+        (inr (cut_in files sink lines f g out new err said script capacity (by options) journal Reported frames whole text is cut.1)))
+
+    printed : (frames status : ℕ) (text : List ℕ) → Putting frames → Reading → (is : Printed text) → (status ≡ 0 → IsLawful (files.world f) script capacity (by options) is)
+        → ((status ≡ 0) × Puts lines err said text) ⊎ ((status ≡ 5) × CutsReport lines err said text) → Rendered of_tells.Journal status
+    printed frames status text whole reads is lawful (inl put) =
+        whole_by of_tells.Journal frames status whole reads put.0 (record { text = text; is = is; put = put.1; lawful = lawful put.0 })
+    printed frames status text whole reads is lawful (inr cut) =
+        subst (Rendered of_tells.Journal) (sym cut.0) (headline_of_cut files sink lines f g out new err said script capacity (by options) journal of_tells.Journal frames whole reads
+        (inr (cut_in files sink lines f g out new err said script capacity (by options) journal Printed frames whole text is cut.1)))
+
+    same_log : (log : Record) → journal ≡ Some log → (run : IsScriptRendered (files.world f) script capacity (by options) journal) → log ≡ (let serial = run.rendered in serial.log)
+    same_log log there run =
         let serial = run.rendered in
         let both : Some log ≡ Some serial.log = sym there ∙ serial.there in
-        let same : log ≡ serial.log = cc in
-        record { run = run; text_is = ap₂ (λ (p : List Application) (l : Record). report p (windows_of l)) (sym is.plan_is) same }
+        cc
 
-  ends_of_done : (script : List ℕ) (options : RenderOptions) (done : Result (Option (List Application)) Stop) (log : Option Record) (status : ℕ) → journal ≡ log → command_in words ≡ Some (c.Render script options)
+    -- the report, or the text, is that of the journal
+    report_is : (log : Record) (plan : List Application) (workers : ℕ) → journal ≡ Some log → OfPlan plan workers → Reported (report plan (windows_of log))
+    report_is log plan workers there is = record { run = is.run; text_is = ap₂ (λ (p : List Application) (l : Record). report p (windows_of l)) (sym is.plan_is) (same_log log there is.run) }
+
+    text_is : (log : Record) (plan : List Application) (workers : ℕ) → journal ≡ Some log → OfPlan plan workers → Printed (journal_text workers (windows_of log))
+    text_is log plan workers there is = record { run = is.run; text_is = ap₂ (λ (w : ℕ) (l : Record). journal_text w (windows_of l)) (sym is.workers_are) (same_log log there is.run) }
+
+    lawful_is : (log : Record) (plan : List Application) (workers : ℕ) (there : journal ≡ Some log) (is : OfPlan plan workers) → AllByRecursion LineFits (journal_lines workers (windows_of log))
+        → IsLawful (files.world f) script capacity (by options) (text_is log plan workers there is)
+    unfolding text_is
+    lawful_is log plan workers there is fits =
+        lawful_by (files.world f) script capacity (by options) journal is.run workers (windows_of log) is.workers_are (ap windows_of (same_log log there is.run)) fits
+
+    -- what was told
+    tells_of : (tells : Telling) (frames : ℕ) (log : Option Record) (status : ℕ) → journal ≡ log → Putting frames → Reading → IsToldOf files sink f g out new journal script options (by options) tells
+        → Finishes lines err said (Ok tells) log status → Rendered options.tells status
+    tells_of telling.Nothing frames log status there whole reads (asked, serial) (zero, quiet) =
+        subst (λ t. Rendered t status) (sym asked) (whole_by of_tells.Nothing frames status whole reads zero quiet)
+    tells_of (telling.Report plan) frames None status there whole reads of said_so = absurd said_so
+    tells_of (telling.Report plan) frames (Some log) status there whole reads (asked, workers, is) said_so =
+        subst (λ t. Rendered t status) (sym asked) (reported frames status (report plan (windows_of log)) whole reads (report_is log plan workers there is) said_so.ends)
+    tells_of (telling.Journal workers) frames None status there whole reads of said_so = absurd said_so
+    tells_of (telling.Journal workers) frames (Some log) status there whole reads (asked, plan, is) said_so =
+        subst (λ t. Rendered t status) (sym asked) (printed frames status (journal_text workers (windows_of log)) whole reads (text_is log plan workers there is)
+        (λ zero. lawful_is log plan workers there is (said_so.fits zero)) (let put = said_so.put in put.ends))
+
+    run_of : (tells : Telling) → IsToldOf files sink f g out new journal script options (by options) tells → IsScriptRendered (files.world f) script capacity (by options) journal
+    run_of telling.Nothing (asked, serial) = serial
+    run_of (telling.Report plan) (asked, workers, is) = is.run
+    run_of (telling.Journal workers) (asked, plan, is) = is.run
+
+  -- a text is put whole or cut short, or nothing is told
+  zero_or_cut : (tells : Telling) (log : Option Record) (status : ℕ) → Finishes lines err said (Ok tells) log status → (status ≡ 0) ⊎ (status ≡ 5)
+  zero_or_cut telling.Nothing log status said_so = inl said_so.0
+  zero_or_cut (telling.Report plan) None status said_so = absurd said_so
+  zero_or_cut (telling.Report plan) (Some log) status said_so = zero_or_five status _ _ said_so.ends
+  zero_or_cut (telling.Journal workers) None status said_so = absurd said_so
+  zero_or_cut (telling.Journal workers) (Some log) status said_so = zero_or_five status _ _ (let put = said_so.put in put.ends)
+
+  ends_of_done : (script : List ℕ) (options : RenderOptions) (done : Result Telling Stop) (log : Option Record) (status : ℕ) → journal ≡ log → command_in words ≡ Some (c.Render script options)
       → RenderDoes files sink f g out new journal script options (by options) done → ScriptCuts (files.world f) script (cache_of options.cache) (by options) sink out new (TellsStop (stop_in done)) journal
       → HeadShows sink out new (HasInfo (files.world f) script) (stop_in done) journal
       → Finishes lines err said done log status → Leaves → Ends files sink lines f g out new err said by words status journal
-  ends_of_done script options (Ok None) log status there asked (unasked, whole, reads, serial) cut head (none, quiet) leaves =
-      ends_of_render script options status asked (quietly script options whole.0 status whole.1 reads unasked none quiet)
-      (journal_of_whole files sink lines f g out new err said script (cache_of options.cache) (by options) journal status (inl none) serial cut)
-      (unheaded sink out new _ None journal status head (λ bad. absurd (cc))) (headed_of sink out new _ None journal head) leaves
-  ends_of_done script options (Ok (Some plan)) None status there asked done cut head said_so leaves = absurd said_so
-  ends_of_done script options (Ok (Some plan)) (Some log) status there asked (with_report, whole, reads, is) cut head said_so leaves =
-      ends_of_render script options status asked (reported script options whole.0 status (report plan (windows_of log)) whole.1 reads with_report (report_is script options log plan there is) said_so.ends)
-      (journal_of_whole files sink lines f g out new err said script (cache_of options.cache) (by options) journal status (zero_or_five status _ _ said_so.ends) is.run cut)
+  ends_of_done script options (Ok tells) log status there asked (whole, reads, of) cut head said_so leaves =
+      ends_of_render script options status asked (tells_of script options tells whole.0 log status there whole.1 reads of said_so)
+      (journal_of_whole files sink lines f g out new err said script (cache_of options.cache) (by options) journal status (zero_or_cut tells log status said_so) (run_of script options tells of) cut)
       (unheaded sink out new _ None journal status head (λ bad. absurd (cc))) (headed_of sink out new _ None journal head) leaves
   ends_of_done script options (Err stop) log status there asked shown cut head (is, says) leaves =
-      ends_of_render script options status asked (subst (Rendered script options) (sym is) (headline_of_stop files sink lines f g out new err said script (cache_of options.cache) (by options) journal options.report stop shown says))
+      ends_of_render script options status asked (subst (Rendered script options options.tells) (sym is) (headline_of_stop files sink lines f g out new err said script (cache_of options.cache) (by options) journal options.tells stop shown says))
       (journal_of_stop files sink lines f g out new err said script (cache_of options.cache) (by options) journal stop status is says cut)
       (unheaded sink out new _ (Some stop) journal status head (wrote_of stop status is)) (headed_of sink out new _ (Some stop) journal head) leaves
 
   -- by what was done and what was said of it
-  pub ends_of : (command : Command) (done : Result (Option (List Application)) Stop) (status : ℕ) → command_in words ≡ Some command → Does files sink f g out new journal by command done → LeavesNone command journal
+  pub ends_of : (command : Command) (done : Result Telling Stop) (status : ℕ) → command_in words ≡ Some command → Does files sink f g out new journal by command done → LeavesNone command journal
       → Finishes lines err said done journal status → Leaves → Ends files sink lines f g out new err said by words status journal
   ends_of (c.Render script options) done status asked (does, cut, head) empty said_so leaves = ends_of_done script options done journal status refl asked does cut head said_so leaves
-  ends_of (c.Info script) (Ok None) status asked done empty said_so leaves =
+  ends_of (c.Info script) (Ok telling.Nothing) status asked done empty said_so leaves =
       ends_of_info script status asked (subst (λ n. InfoEnds files sink lines f g out new err said script n) (sym said_so.0)
       (info_of_whole files sink lines f g out new err said script done.0 done.1 done.2 said_so.1)) empty leaves
-  ends_of (c.Info script) (Ok (Some plan)) status asked done empty said_so leaves = absurd done
+  ends_of (c.Info script) (Ok (telling.Report plan)) status asked done empty said_so leaves = absurd done
+  ends_of (c.Info script) (Ok (telling.Journal workers)) status asked done empty said_so leaves = absurd done
   ends_of (c.Info script) (Err stop) status asked done empty said_so leaves =
       ends_of_info script status asked (subst (λ n. InfoEnds files sink lines f g out new err said script n) (sym said_so.0)
       (info_of_stop files sink lines f g out new err said script stop done said_so.1)) empty leaves
-  ends_of (c.SelfTest number) (Ok None) status asked done empty said_so leaves =
+  ends_of (c.SelfTest number) (Ok telling.Nothing) status asked done empty said_so leaves =
       ends_of_self_test number status asked (subst (λ n. SelfTestEnds sink lines out new err said number n) (sym said_so.0)
       (self_test_of_whole sink lines out new err said number done.0 said_so.1)) done.1 empty leaves
-  ends_of (c.SelfTest number) (Ok (Some plan)) status asked done empty said_so leaves = absurd done
+  ends_of (c.SelfTest number) (Ok (telling.Report plan)) status asked done empty said_so leaves = absurd done
+  ends_of (c.SelfTest number) (Ok (telling.Journal workers)) status asked done empty said_so leaves = absurd done
   ends_of (c.SelfTest number) (Err stop) status asked done empty said_so leaves =
       ends_of_self_test number status asked (subst (λ n. SelfTestEnds sink lines out new err said number n) (sym said_so.0)
       (self_test_of_stop sink lines out new err said number stop done.0 said_so.1)) done.1 empty leaves
-  ends_of (c.Session script list cache) (Ok None) status asked done empty said_so leaves =
+  ends_of (c.Session script list cache) (Ok telling.Nothing) status asked done empty said_so leaves =
       ends_of_session script list cache status asked (subst (λ n. SessionEnds files sink lines f g out new err said script list (cache_of cache) journal n) (sym said_so.0)
       (session_whole files sink lines f g out new err said script list (cache_of cache) journal done said_so.1)) leaves
-  ends_of (c.Session script list cache) (Ok (Some plan)) status asked done empty said_so leaves = absurd done
+  ends_of (c.Session script list cache) (Ok (telling.Report plan)) status asked done empty said_so leaves = absurd done
+  ends_of (c.Session script list cache) (Ok (telling.Journal workers)) status asked done empty said_so leaves = absurd done
   ends_of (c.Session script list cache) (Err stop) status asked done empty said_so leaves =
       ends_of_session script list cache status asked (subst (λ n. SessionEnds files sink lines f g out new err said script list (cache_of cache) journal n) (sym said_so.0)
       (session_stop files sink lines f g out new err said script list (cache_of cache) journal stop done said_so.1)) leaves
+  ends_of (c.Replay script name cache) (Ok telling.Nothing) status asked done empty said_so leaves =
+      ends_of_replay script name cache status asked (subst (λ n. ReplayEnds files sink lines f g out new err said script name (cache_of cache) n) (sym said_so.0)
+      (replay_whole files sink lines f g out new err said script name (cache_of cache) done said_so.1)) empty leaves
+  ends_of (c.Replay script name cache) (Ok (telling.Report plan)) status asked done empty said_so leaves = absurd done
+  ends_of (c.Replay script name cache) (Ok (telling.Journal workers)) status asked done empty said_so leaves = absurd done
+  ends_of (c.Replay script name cache) (Err stop) status asked done empty said_so leaves =
+      ends_of_replay script name cache status asked (subst (λ n. ReplayEnds files sink lines f g out new err said script name (cache_of cache) n) (sym said_so.0)
+      (replay_stop files sink lines f g out new err said script name (cache_of cache) stop done said_so.1)) empty leaves
 
 -- what a render leaves is what the command shows
 module _ {F S K : Type 0} (files : of_files.Ghosts F S) (sink : Ghosts K) (f g : F) (out new : K) (journal : Option Record) (by : RenderOptions → Staff) where
-  by_report : (script : List ℕ) (options : RenderOptions) (report : Bool) (done : Result Whole Stop) → options.report ≡ report
+  by_telling : (script : List ℕ) (options : RenderOptions) (tells : Tells) (done : Result Whole Stop) → options.tells ≡ tells
       → IsScriptRender (files.world f) script (cache_of options.cache) (by options) (FilesFailed files f g) sink out new journal done
       → OnOk done (ReadsOnce (files.world f) script (files.faults f) (files.faults g) (files.fetched f) (files.fetched g))
-      → RenderDoes files sink f g out new journal script options (by options) (graph_in report done)
-  by_report script options true (Ok all) asked is reads = (asked, (all.frames, is.whole), reads, is.rendered)
-  by_report script options false (Ok all) asked is reads = (asked, (all.frames, is.whole), reads, (let of = is.rendered in of.run))
-  by_report script options true (Err stop) asked is reads = is.stop
-  by_report script options false (Err stop) asked is reads = is.stop
+      → RenderDoes files sink f g out new journal script options (by options) (told_in tells done)
+  by_telling script options of_tells.Nothing (Ok all) asked is reads = ((all.frames, is.whole), reads, (asked, (let of = is.rendered in of.run)))
+  by_telling script options of_tells.Report (Ok all) asked is reads = ((all.frames, is.whole), reads, (asked, all.workers, is.rendered))
+  by_telling script options of_tells.Journal (Ok all) asked is reads = ((all.frames, is.whole), reads, (asked, all.graph, is.rendered))
+  by_telling script options tells (Err stop) asked is reads = is.stop
 
-  same_stop : (report : Bool) (done : Result Whole Stop) → stop_in done ≡ stop_in (graph_in report done)
-  same_stop true (Ok all) = refl
-  same_stop false (Ok all) = refl
-  same_stop true (Err stop) = refl
-  same_stop false (Err stop) = refl
+  same_stop : (tells : Tells) (done : Result Whole Stop) → stop_in done ≡ stop_in (told_in tells done)
+  same_stop tells (Ok all) = refl
+  same_stop tells (Err stop) = refl
 
   pub render_does : (script : List ℕ) (options : RenderOptions) (done : Result Whole Stop)
       → IsScriptRender (files.world f) script (cache_of options.cache) (by options) (FilesFailed files f g) sink out new journal done
       → OnOk done (ReadsOnce (files.world f) script (files.faults f) (files.faults g) (files.fetched f) (files.fetched g))
-      → Does files sink f g out new journal by (c.Render script options) (graph_in options.report done)
+      → Does files sink f g out new journal by (c.Render script options) (told_in options.tells done)
   render_does script options done is reads =
-      let same = same_stop options.report done in (
-        by_report script options options.report done refl is reads,
+      let same = same_stop options.tells done in (
+        by_telling script options options.tells done refl is reads,
         rw same at is.cut,
         rw same at is.head,
       )
 
--- a report is asked for only of a journal that is there
+-- a report or a journal is told only where there is a journal
 module _ {F S K : Type 0} (files : of_files.Ghosts F S) (sink : Ghosts K) (f g : F) (out new : K) (journal : Option Record) (by : RenderOptions → Staff) where
-  pub has_log : (command : Command) (done : Result (Option (List Application)) Stop) → Does files sink f g out new journal by command done → HasLog done journal
-  has_log command (Ok None) does = tt
+  abbrev IsSome : Type 0
+  IsSome = (log : Record) × (journal ≡ Some log)
+
+  some_log : (tells : Telling) → IsSome → HasLog (Ok tells) journal
+  some_log telling.Nothing (log, there) = tt
+  some_log (telling.Report plan) (log, there) = subst (HasLog (Ok (telling.Report plan))) (sym there) tt
+  some_log (telling.Journal workers) (log, there) = subst (HasLog (Ok (telling.Journal workers))) (sym there) tt
+
+  log_of : {told : Option World} {script : List ℕ} {capacity : ℕ} {staff : Staff} → IsScriptRendered told script capacity staff journal → IsSome
+  log_of run = let serial = run.rendered in (serial.log, serial.there)
+
+  pub has_log : (command : Command) (done : Result Telling Stop) → Does files sink f g out new journal by command done → HasLog done journal
+  has_log command (Ok telling.Nothing) does = tt
   has_log command (Err stop) does = tt
-  has_log (c.Render script options) (Ok (Some plan)) does = let is = does.0.3 in let run = is.run in let serial = run.rendered in subst (HasLog (Ok (Some plan))) (sym serial.there) tt
-  has_log (c.Info script) (Ok (Some plan)) does = absurd does
-  has_log (c.SelfTest number) (Ok (Some plan)) does = absurd does
-  has_log (c.Session script list cache) (Ok (Some plan)) does = absurd does
+  has_log (c.Render script options) (Ok (telling.Report plan)) ((whole, reads, (asked, workers, is)), cut, head) = some_log (telling.Report plan) (log_of is.run)
+  has_log (c.Render script options) (Ok (telling.Journal workers)) ((whole, reads, (asked, plan, is)), cut, head) = some_log (telling.Journal workers) (log_of is.run)
+  has_log (c.Info script) (Ok (telling.Report plan)) does = absurd does
+  has_log (c.Info script) (Ok (telling.Journal workers)) does = absurd does
+  has_log (c.SelfTest number) (Ok (telling.Report plan)) does = absurd does
+  has_log (c.SelfTest number) (Ok (telling.Journal workers)) does = absurd does
+  has_log (c.Session script list cache) (Ok (telling.Report plan)) does = absurd does
+  has_log (c.Session script list cache) (Ok (telling.Journal workers)) does = absurd does
+  has_log (c.Replay script name cache) (Ok (telling.Report plan)) does = absurd does
+  has_log (c.Replay script name cache) (Ok (telling.Journal workers)) does = absurd does
 
 module _ {F S K E : Type 0} (files : of_files.Ghosts F S) (sink : Ghosts K) (lines : Ghosts E) (f : F) (out : K) (err said : E) (by : RenderOptions → Staff) (words : List (List ℕ)) where
   -- what is left untouched
@@ -277,12 +393,18 @@ module _ {F S K E : Type 0} (files : of_files.Ghosts F S) (sink : Ghosts K) (lin
     steady = tt;
     fetched = tt;
   }
+  memory_done (c.Replay script name cache) = record {
+    replay = record { whole = tt; clip = tt; stop = (tt, refl) };
+    steady = tt;
+    fetched = tt;
+  }
 
   none_left : (command : Command) → LeavesNone command None
   none_left (c.Render script options) = tt
   none_left (c.Info script) = refl
   none_left (c.SelfTest number) = refl
   none_left (c.Session script list cache) = tt
+  none_left (c.Replay script name cache) = refl
 
   pub ends_of_memory : (command : Option Command) → command_in words ≡ command → (status : ℕ) → Finishes lines err said (Err Memory) None status
       → Ends files sink lines f f out out err said by words status None
@@ -291,6 +413,7 @@ module _ {F S K E : Type 0} (files : of_files.Ghosts F S) (sink : Ghosts K) (lin
     journal_of = λ other others is. (let both : None ≡ Some (c.Render other others) = sym none ∙ is in absurd (cc));
     info = λ other is. (let both : None ≡ Some (c.Info other) = sym none ∙ is in absurd (cc));
     session = λ other list cache is. (let both : None ≡ Some (c.Session other list cache) = sym none ∙ is in absurd (cc));
+    replay = λ other name cache is. (let both : None ≡ Some (c.Replay other name cache) = sym none ∙ is in absurd (cc));
     self_test = λ number is. (let both : None ≡ Some (c.SelfTest number) = sym none ∙ is in absurd (cc));
     refused = λ is. record { line = inr said_so; files_stay = refl; out_stays = refl };
     usage = λ one. none;
@@ -310,6 +433,7 @@ module _ {F S K E : Type 0} (files : of_files.Ghosts F S) (sink : Ghosts K) (lin
     journal_of = λ other others is. (let both : None ≡ Some (c.Render other others) = sym none ∙ is in absurd (cc));
     info = λ other is. (let both : None ≡ Some (c.Info other) = sym none ∙ is in absurd (cc));
     session = λ other list cache is. (let both : None ≡ Some (c.Session other list cache) = sym none ∙ is in absurd (cc));
+    replay = λ other name cache is. (let both : None ≡ Some (c.Replay other name cache) = sym none ∙ is in absurd (cc));
     self_test = λ number is. (let both : None ≡ Some (c.SelfTest number) = sym none ∙ is in absurd (cc));
     refused = λ is. record { line = inl (refl, says); files_stay = refl; out_stays = refl };
     usage = λ one. none;

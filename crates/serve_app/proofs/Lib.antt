@@ -1,11 +1,14 @@
 mod BookLemmas
 mod ClosingLemmas
 mod EndLemmas
+mod LawfulLemmas
 mod MeaningLemmas
 mod OptionLemmas
 mod PickLemmas
 mod PlayLemmas
 mod ReadsLemmas
+mod ReplayEnds
+mod ReplayLemmas
 mod RunLemmas
 mod SessionEnds
 mod SessionLemmas

@@ -5,10 +5,11 @@ use Rattle.std.proofs.lemmas.Bool.{leb-true}
 use Rattle.std.specs.Str.Parse.{digits_value}
 use Rattle.std.specs.Str.{bytes_eq}
 use Rattle.command_line.specs.Words.{Text, values_of, given_by}
-use Rattle.command_line.specs.Command.{is_number, in_range, number_in, only, number_among, flag_among, options_with, render_with, info_with, self_test_with, session_with, both, render_options, session_options, command_by, command_in}
+use Rattle.command_line.specs.Command.{is_number, in_range, number_in, only, number_among, flag_among, options_with, render_with, info_with, self_test_with, cached_with, session_with, replay_with, both, tells_by, render_options, cached_options, command_by, command_in}
 use Rattle.command_line.specs.declared.command.Command.{Command}
 use Rattle.command_line.specs.declared.command.Command.TheVariants as c
 use Rattle.command_line.specs.declared.command.RenderOptions.{RenderOptions}
+use Rattle.command_line.specs.declared.command.Tells.{Tells}
 use Rattle.serve_stream.specs.Staff.{AreThreads}
 use Rattle.serve_app.specs.Journals.{cache_of}
 use Rattle.serve_app.specs.Run.{AreFit, IsFit}
@@ -56,20 +57,37 @@ are_threads : (threads : Option ℕ) → AreAmong 1 16 threads → AreThreads th
 are_threads None fits = tt
 are_threads (Some n) fits = fits
 
-fit_by : (options : RenderOptions) (cache threads : Option ℕ) (plain report : Bool) → record { cache = cache; threads = threads; plain = plain; report = report } ≡ options → 0 < cache_of cache → AreThreads threads → AreFit options
-fit_by options cache threads plain report is held few = subst AreFit is (held, few)
+fit_by : (options : RenderOptions) (cache threads : Option ℕ) (plain : Bool) (tells : Tells) → record { cache = cache; threads = threads; plain = plain; tells = tells } ≡ options → 0 < cache_of cache → AreThreads threads → AreFit options
+fit_by options cache threads plain tells is held few = subst AreFit is (held, few)
 
-by_options : (values : Text → List Text) (options : RenderOptions) → options_with values ≡ Some options → AreFit options
-by_options values options is =
-    let plains = flag_among (values (codes "plain")) in
-    let reports = flag_among (values (codes "report")) in
-    let cache = of_and_then (λ cache. option_and_then (λ threads. option_and_then (λ plain. option_map (λ report. record { cache = cache; threads = threads; plain = plain; report = report }) reports) plains) (number_among 1 16 (values (codes "threads")))) (number_among 1 256 (values (codes "cache"))) options is in
-    let threads = of_and_then (λ threads. option_and_then (λ plain. option_map (λ report. record { cache = cache.0; threads = threads; plain = plain; report = report }) reports) plains) (number_among 1 16 (values (codes "threads"))) options cache.1.1 in
-    let plain = of_and_then (λ plain. option_map (λ report. record { cache = cache.0; threads = threads.0; plain = plain; report = report }) reports) plains options threads.1.1 in
-    let report = of_map (λ report. record { cache = cache.0; threads = threads.0; plain = plain.0; report = report }) reports options plain.1.1 in
-    let held : 0 < cache_of cache.0 = holds_one cache.0 (among 1 256 (values (codes "cache")) cache.0 cache.1.0) in
-    let few : AreThreads threads.0 = are_threads threads.0 (among 1 16 (values (codes "threads")) threads.0 threads.1.0) in
-    fit_by options cache.0 threads.0 plain.0 report.0 report.1.1 held few
+module _ (values : Text → List Text) where
+  -- the options that are left, once the ones before them are known
+  abbrev after_journal : Option ℕ → Option ℕ → Bool → Bool → Bool → Option RenderOptions
+  after_journal cache threads plain report journal = option_map (λ tells. record { cache = cache; threads = threads; plain = plain; tells = tells }) (tells_by report journal)
+
+  abbrev after_report : Option ℕ → Option ℕ → Bool → Bool → Option RenderOptions
+  after_report cache threads plain report = option_and_then (after_journal cache threads plain report) (flag_among (values (codes "journal")))
+
+  abbrev after_plain : Option ℕ → Option ℕ → Bool → Option RenderOptions
+  after_plain cache threads plain = option_and_then (after_report cache threads plain) (flag_among (values (codes "report")))
+
+  abbrev after_threads : Option ℕ → Option ℕ → Option RenderOptions
+  after_threads cache threads = option_and_then (after_plain cache threads) (flag_among (values (codes "plain")))
+
+  abbrev after_cache : Option ℕ → Option RenderOptions
+  after_cache cache = option_and_then (after_threads cache) (number_among 1 16 (values (codes "threads")))
+
+  by_options : (options : RenderOptions) → options_with values ≡ Some options → AreFit options
+  by_options options is =
+      let cache = of_and_then after_cache (number_among 1 256 (values (codes "cache"))) options is in
+      let threads = of_and_then (after_threads cache.0) (number_among 1 16 (values (codes "threads"))) options cache.1.1 in
+      let plain = of_and_then (after_plain cache.0 threads.0) (flag_among (values (codes "plain"))) options threads.1.1 in
+      let report = of_and_then (after_report cache.0 threads.0 plain.0) (flag_among (values (codes "report"))) options plain.1.1 in
+      let journal = of_and_then (after_journal cache.0 threads.0 plain.0 report.0) (flag_among (values (codes "journal"))) options report.1.1 in
+      let tells = of_map (λ tells. record { cache = cache.0; threads = threads.0; plain = plain.0; tells = tells }) (tells_by report.0 journal.0) options journal.1.1 in
+      let held : 0 < cache_of cache.0 = holds_one cache.0 (among 1 256 (values (codes "cache")) cache.0 cache.1.0) in
+      let few : AreThreads threads.0 = are_threads threads.0 (among 1 16 (values (codes "threads")) threads.0 threads.1.0) in
+      fit_by options cache.0 threads.0 plain.0 tells.0 tells.1.1 held few
 
 by_render : (values : Text → List Text) (command : Command) → render_with values ≡ Some command → IsFit command
 by_render values command is =
@@ -87,30 +105,43 @@ by_self_test values command is =
     let number = of_map c.SelfTest (option_and_then (number_in 0 4294967295) (only (values (codes "operand")))) command is in
     subst IsFit number.1.1 tt
 
+-- a cache that was given beside two names holds a frame
+cached_held : (values : Text → List Text) (given : Text × Text × Option ℕ) → cached_with values ≡ Some given → 0 < cache_of given.2
+cached_held values given is =
+    let names = of_and_then (λ names. option_map (λ cache. (names.0, names.1, cache)) (number_among 1 256 (values (codes "cache")))) (both (values (codes "operand"))) given is in
+    let cache = of_map (λ cache. ((names.0).0, (names.0).1, cache)) (number_among 1 256 (values (codes "cache"))) given names.1.1 in
+    subst (λ (g : Text × Text × Option ℕ). 0 < cache_of g.2) cache.1.1 (holds_one cache.0 (among 1 256 (values (codes "cache")) cache.0 cache.1.0))
+
 by_session : (values : Text → List Text) (command : Command) → session_with values ≡ Some command → IsFit command
 by_session values command is =
-    let names = of_and_then (λ names. option_map (c.Session names.0 names.1) (number_among 1 256 (values (codes "cache")))) (both (values (codes "operand"))) command is in
-    let cache = of_map (c.Session (names.0).0 (names.0).1) (number_among 1 256 (values (codes "cache"))) command names.1.1 in
-    let held : 0 < cache_of cache.0 = holds_one cache.0 (among 1 256 (values (codes "cache")) cache.0 cache.1.0) in
-    subst IsFit cache.1.1 held
+    let given = of_map (λ (g : Text × Text × Option ℕ). c.Session g.0 g.1 g.2) (cached_with values) command is in
+    subst IsFit given.1.1 (cached_held values given.0 given.1.0)
 
-by_name : (first second third fourth : Bool) (words : List Text) (command : Command)
-    → command_by (if first then Some (render_options, render_with) else if second then Some ([], info_with) else if third then Some ([], self_test_with) else if fourth then Some (session_options, session_with) else None) words ≡ Some command → IsFit command
-by_name true second third fourth words command is =
+by_replay : (values : Text → List Text) (command : Command) → replay_with values ≡ Some command → IsFit command
+by_replay values command is =
+    let given = of_map (λ (g : Text × Text × Option ℕ). c.Replay g.0 g.1 g.2) (cached_with values) command is in
+    subst IsFit given.1.1 (cached_held values given.0 given.1.0)
+
+by_name : (first second third fourth fifth : Bool) (words : List Text) (command : Command)
+    → command_by (if first then Some (render_options, render_with) else if second then Some ([], info_with) else if third then Some ([], self_test_with) else if fourth then Some (cached_options, session_with) else if fifth then Some (cached_options, replay_with) else None) words ≡ Some command → IsFit command
+by_name true second third fourth fifth words command is =
     let given = of_and_then (λ given. render_with (values_of given)) (given_by render_options words) command is in
     by_render (values_of given.0) command given.1.1
-by_name false true third fourth words command is =
+by_name false true third fourth fifth words command is =
     let given = of_and_then (λ given. info_with (values_of given)) (given_by [] words) command is in
     by_info (values_of given.0) command given.1.1
-by_name false false true fourth words command is =
+by_name false false true fourth fifth words command is =
     let given = of_and_then (λ given. self_test_with (values_of given)) (given_by [] words) command is in
     by_self_test (values_of given.0) command given.1.1
-by_name false false false true words command is =
-    let given = of_and_then (λ given. session_with (values_of given)) (given_by session_options words) command is in
+by_name false false false true fifth words command is =
+    let given = of_and_then (λ given. session_with (values_of given)) (given_by cached_options words) command is in
     by_session (values_of given.0) command given.1.1
-by_name false false false false words command is = absurd (cc)
+by_name false false false false true words command is =
+    let given = of_and_then (λ given. replay_with (values_of given)) (given_by cached_options words) command is in
+    by_replay (values_of given.0) command given.1.1
+by_name false false false false false words command is = absurd (cc)
 
 pub is_fit : (words : List Text) (command : Command) → command_in words ≡ Some command → IsFit command
 is_fit [] command is = absurd (cc)
 is_fit (name ∷ words) command is =
-    by_name (bytes_eq name (codes "render")) (bytes_eq name (codes "info")) (bytes_eq name (codes "selftest")) (bytes_eq name (codes "session")) words command is
+    by_name (bytes_eq name (codes "render")) (bytes_eq name (codes "info")) (bytes_eq name (codes "selftest")) (bytes_eq name (codes "session")) (bytes_eq name (codes "replay")) words command is

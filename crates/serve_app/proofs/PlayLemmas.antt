@@ -1,5 +1,5 @@
 -- A clip that was put, and what a script means.
-use Rattle.std.proofs.Common.{◌≡◌, ◌∙◌, ◌⊎◌, ℕ, zero, suc, arith, Bool, true, false, IsTrue, List, [], ◌∷◌, ◌++◌, length, map, get_or, slice_get, Option, Some, None, Result, Ok, Err, refl, inl, inr, sym, ap, ap₂, subst}
+use Rattle.std.proofs.Common.{◌≡◌, ◌∙◌, ◌⊎◌, ℕ, zero, suc, ◌<◌, arith, Bool, true, false, IsTrue, List, [], ◌∷◌, ◌++◌, length, map, get_or, slice_get, Option, Some, None, Result, Ok, Err, refl, inl, inr, sym, ap, ap₂, subst}
 use Rattle.std.proofs.lemmas.List.{take_all, length-map}
 use Rattle.std.proofs.lemmas.List.FromFn.{length-range_with_len}
 use Rattle.std.specs.List.{range_with_len}
@@ -50,7 +50,7 @@ use Rattle.serve_stream.specs.declared.stream.Whole.{Whole}
 use Rattle.serve_stream.specs.Staff.{hands}
 use Rattle.serve_stream.specs.Streamed.{IsStreamed}
 use Rattle.serve_stream.specs.Journals.{IsRendered, PutsCount, FailsWithin, CutsShort}
-use Rattle.serve_app.specs.Journals.{IsPlanOf, IsScriptRendered, IsRunOf, ScriptCuts}
+use Rattle.serve_app.specs.Journals.{AreHands, IsPlanOf, IsScriptRendered, IsRunOf, ScriptCuts}
 use Rattle.serve_app.specs.Renders.{IsScriptRender}
 use Rattle.serve_app.specs.Playing.{Tells, EndsBefore, PutsClip, PutsInfo}
 use Rattle.serve_stream.specs.Rendered.{PutsWholeFrames}
@@ -232,26 +232,28 @@ module _ {S : Type 0} (of : of_source.Ghosts S) (told : Bool) (world : World) (s
     stream_shown faults table failed fails (of_stop.Script kind name line) shown = absurd shown
     stream_shown faults table failed fails (of_stop.Input name fault) shown = absurd shown
     stream_shown faults table failed fails (of_stop.Changed name frame want got) shown = (in_told told world (λ w. ⊥) (none_of shown.0), shown.1)
-    stream_shown faults table failed fails (of_stop.List name fault) shown = absurd shown
+    stream_shown faults table failed fails (of_stop.File name fault) shown = absurd shown
     stream_shown faults table failed fails of_stop.Read shown = (fails shown.0, some_frames shown.1)
     stream_shown faults table failed fails of_stop.Write shown = (shown.0, record { prefix = λ clip is. shown.1 clip (of_script clip is); has_one = has_one })
     stream_shown faults table failed fails of_stop.Memory shown = some_frames shown
 
-    pub plan_of : IsPlan plan → IsPlanOf (told_of told world) script plan root
-    plan_of is = record { is_plan = is; crew = crew; means = in_told told world (λ w. meaning_in w script ≡ m.clip plan root crew) means }
+    pub plan_of : IsPlan plan → root < length plan → IsPlanOf (told_of told world) script plan root
+    plan_of is inside = record { is_plan = is; inside = inside; crew = crew; means = in_told told world (λ w. meaning_in w script ≡ m.clip plan root crew) means }
 
     module _ (capacity : ℕ) (staff : Staff) where
       -- and of the journal
-      script_rendered : (journal : Option Record) → IsPlan plan → IsRendered plan root capacity (hands staff crew) journal
+      script_rendered : (journal : Option Record) → IsPlan plan → root < length plan → AreHands (hands staff crew) → IsRendered plan root capacity (hands staff crew) journal
           → IsScriptRendered (told_of told world) script capacity staff journal
       unfolding plan_of
-      script_rendered journal is rendered = record { plan = plan; root = root; is_plan = plan_of is; rendered = rendered }
+      script_rendered journal is inside are_hands rendered = record { plan = plan; root = root; is_plan = plan_of is inside; are_hands = are_hands; rendered = rendered }
 
-      -- and of the graph that was kept
-      pub script_run : (journal : Option Record) → IsPlan plan → IsRendered plan root capacity (hands staff crew) journal → (kept : List Application) → kept ≡ plan
-          → IsRunOf (told_of told world) script capacity staff journal kept
-      unfolding script_rendered
-      script_run journal is rendered kept is_kept = record { run = script_rendered journal is rendered; plan_is = sym is_kept }
+      -- and of the graph that was kept, and of the workers
+      pub script_run : (journal : Option Record) → IsPlan plan → root < length plan → AreHands (hands staff crew) → IsRendered plan root capacity (hands staff crew) journal
+          → (kept : List Application) → kept ≡ plan → (workers : ℕ) → workers ≡ (hands staff crew).workers
+          → IsRunOf (told_of told world) script capacity staff journal kept workers
+      unfolding script_rendered plan_of
+      script_run journal is inside are_hands rendered kept is_kept workers are_workers =
+          record { run = script_rendered journal is inside are_hands rendered; plan_is = sym is_kept; workers_are = sym are_workers }
 
       count_of : (n : ℕ)
           → PutsCount plan root capacity (hands staff crew) sink out put (IsClipOf plan root (book_told of sources)) n ⊎ FailsWithin plan root capacity (hands staff crew) sink out put (IsClipOf plan root (book_told of sources)) n
@@ -259,14 +261,14 @@ module _ {S : Type 0} (of : of_source.Ghosts S) (told : Bool) (world : World) (s
       count_of n (inl some) = inl (record { part = some.part; info_is = some.info_is; count = some.count; begins = λ clip is. some.begins clip (of_script clip is); put = some.put })
       count_of n (inr cut) = inr (record { failed = cut.failed; cut = λ clip is. cut.cut clip (of_script clip is) })
 
-      pub script_cuts : (answer : Option Stop) (journal : Option Record) → IsPlan plan
+      pub script_cuts : (answer : Option Stop) (journal : Option Record) → IsPlan plan → root < length plan
           → CutsShort plan root capacity (hands staff crew) sink out put (IsClipOf plan root (book_told of sources)) (TellsStop answer plan) journal
           → ScriptCuts (told_of told world) script capacity staff sink out put (TellsStop answer) journal
       unfolding plan_of
-      script_cuts answer None is cut = tt
-      script_cuts answer (Some log) is cut =
+      script_cuts answer None is inside cut = tt
+      script_cuts answer (Some log) is inside cut =
           let short = cut.2 in
-          record { plan = plan; root = root; is_plan = plan_of is; stop = cut.0; ends = cut.1; cut = record { n = short.n; few = short.few; windows = short.windows; put = count_of short.n short.put } }
+          record { plan = plan; root = root; is_plan = plan_of is inside; stop = cut.0; ends = cut.1; cut = record { n = short.n; few = short.few; windows = short.windows; put = count_of short.n short.put } }
 
     -- the info of the plan is that of the clip
     info_of_clip : (info : Info) → info ≡ (application_at plan root).info → HasInfo (told_of told world) script info
@@ -283,21 +285,21 @@ module _ {S : Type 0} (of : of_source.Ghosts S) (told : Bool) (world : World) (s
 
     -- all of it
     pub script_render : {I : Type 0} (faults : I → ℕ) (table : List (Place × Slot I)) (failed : Type 0) → (SomeFailed faults table → failed)
-        → (capacity : ℕ) (staff : Staff) (journal : Option Record) (done : Result Whole Stop) → IsPlan plan
+        → (capacity : ℕ) (staff : Staff) (journal : Option Record) (done : Result Whole Stop) → IsPlan plan → root < length plan → AreHands (hands staff crew)
         → IsStreamed faults plan root capacity (hands staff crew) (book_told of sources) sink out put journal table done
         → IsScriptRender (told_of told world) script capacity staff failed sink out put journal done
-    script_render faults table failed fails capacity staff journal (Ok all) is streamed = record {
+    script_render faults table failed fails capacity staff journal (Ok all) is inside are_hands streamed = record {
       whole = all_frames all.frames streamed.frames streamed.put;
       stop = tt;
-      rendered = script_run capacity staff journal is streamed.rendered all.graph streamed.graph;
-      cut = script_cuts capacity staff None journal is streamed.cut;
+      rendered = script_run capacity staff journal is inside are_hands streamed.rendered all.graph streamed.graph all.workers streamed.workers;
+      cut = script_cuts capacity staff None journal is inside streamed.cut;
       head = script_head None journal streamed.head;
     }
-    script_render faults table failed fails capacity staff journal (Err stop) is streamed = record {
+    script_render faults table failed fails capacity staff journal (Err stop) is inside are_hands streamed = record {
       whole = tt;
       stop = stream_shown faults table failed fails stop streamed.stop;
       rendered = tt;
-      cut = script_cuts capacity staff (Some stop) journal is streamed.cut;
+      cut = script_cuts capacity staff (Some stop) journal is inside streamed.cut;
       head = script_head (Some stop) journal streamed.head;
     }
 
@@ -319,7 +321,7 @@ before_stops told world script sink out failed before now (of_stop.Script kind n
 before_stops told world script sink out failed before now (of_stop.Input name fault) tells ends fails =
     (in_told told world (λ w. meaning_in w script ≡ m.wrong (input name fault)) tells, refl)
 before_stops told world script sink out failed before now (of_stop.Changed name frame want got) tells ends fails = absurd ends
-before_stops told world script sink out failed before now (of_stop.List name fault) tells ends fails = absurd ends
+before_stops told world script sink out failed before now (of_stop.File name fault) tells ends fails = absurd ends
 before_stops told world script sink out failed before now of_stop.Read tells ends fails = (fails ends, inl refl)
 before_stops told world script sink out failed before now of_stop.Write tells ends fails = absurd ends
 before_stops told world script sink out failed before now of_stop.Memory tells ends fails = inl refl
@@ -333,7 +335,7 @@ before_tells told world script sink out failed before now (of_stop.Script kind n
 before_tells told world script sink out failed before now (of_stop.Input name fault) tells ends fails =
     before_stops told world script sink out failed before now (of_stop.Input name fault) tells ends fails
 before_tells told world script sink out failed before now (of_stop.Changed name frame want got) tells ends fails = absurd ends
-before_tells told world script sink out failed before now (of_stop.List name fault) tells ends fails = absurd ends
+before_tells told world script sink out failed before now (of_stop.File name fault) tells ends fails = absurd ends
 before_tells told world script sink out failed before now of_stop.Read tells ends fails = (fails ends, refl)
 before_tells told world script sink out failed before now of_stop.Write tells ends fails = absurd ends
 before_tells told world script sink out failed before now of_stop.Memory tells ends fails = refl

@@ -1,5 +1,5 @@
 -- What a run leaves, from what its parts show.
-use Rattle.std.proofs.Common.{◌≡◌, ◌⊎◌, ℕ, ◌≤◌, Bool, true, false, List, [], Option, Some, None, Result, Ok, Err, inl, inr, refl, sym, ◌∙◌, ap, ap₂, subst, codes, arith}
+use Rattle.std.proofs.Common.{◌≡◌, ◌⊎◌, ℕ, ◌≤◌, List, [], Option, Some, None, Result, Ok, Err, inl, inr, refl, sym, ◌∙◌, ap, ap₂, subst, codes, arith}
 use Rattle.fv_io.specs.declared.files.Files as of_files
 use Rattle.fv_io.specs.declared.sink.Sink.{Ghosts}
 use Rattle.fv_io.specs.Files.{FilesFailed}
@@ -13,7 +13,7 @@ use Rattle.y4m_stream.specs.Stream.{stream}
 use Rattle.avs_meaning.specs.Faults.{Fault, input}
 use Rattle.avs_meaning.specs.Faults as of_fault
 use Rattle.serve_text.specs.declared.stop.Stop.{Stop}
-use Rattle.serve_text.specs.declared.stop.ListFault.{ListFault}
+use Rattle.serve_text.specs.declared.stop.FileFault.{FileFault}
 use Rattle.serve_text.specs.declared.stop.Stop.TheVariants as of_stop
 use Rattle.serve_text.specs.declared.stop.Stop.TheVariants.{Script, Input, Changed, Read, Write, Memory}
 use Rattle.serve_text.specs.StopKinds.{status_of_stop}
@@ -27,11 +27,15 @@ use Rattle.serve_app.specs.Stop.{IsOfScript, ScriptHasClip, HasFault, HasChanged
 use Rattle.serve_stream.specs.Streams.{file_at, TellsStop, HeadShows}
 use Rattle.serve_text.specs.Lines.{Says, stop_line, read_line, memory_line}
 use Rattle.serve_stream.specs.declared.staff.Staff.{Staff}
-use Rattle.serve_app.specs.Headline.{EndsByScript, EndsByInput, EndsByChange, EndsBy, WriteFails, Causes, PutsWhole, Quiet, Unwritten, Headline, JournalEnds, InfoEnds}
-use Rattle.serve_app.specs.Journals.{IsScriptRendered, IsReport, ScriptCuts}
+use Rattle.command_line.specs.declared.command.Tells.{Tells}
+use Rattle.command_line.specs.declared.command.Tells.TheVariants as of_tells
+use Rattle.serve_app.specs.declared.entry.Telling.{Telling}
+use Rattle.serve_app.specs.declared.entry.Telling.TheVariants as telling
+use Rattle.serve_app.specs.Headline.{EndsByScript, EndsByInput, EndsByChange, EndsBy, WriteFails, Causes, PutsWhole, EndsInText, Quiet, Unwritten, Headline, JournalEnds, InfoEnds}
+use Rattle.serve_app.specs.Journals.{IsScriptRendered, ScriptCuts}
 use Rattle.serve_text.specs.Reports.{CutsReport, Reports}
 use Rattle.serve_app.specs.SelfTest.{IsLineOf, IsSelfLine, PutsSelfLine, SelfTestShows, SelfTestEnds}
-use Rattle.serve_app.specs.Run.{Finishes}
+use Rattle.serve_app.specs.Run.{Prints, Finishes}
 use Rattle.clip_graph.specs.Plan.{Application}
 use Rattle.serve_text.specs.Report.{report}
 use Rattle.serve_events.specs.declared.event.WindowStop.{WindowStop}
@@ -54,7 +58,7 @@ pub never_zero : (stop : Stop) → status_of_stop stop ≡ 0 → ⊥
 never_zero (Script kind name line) is = omega (arith, is)
 never_zero (Input name fault) is = omega (arith, is)
 never_zero (Changed name frame want got) is = omega (arith, is)
-never_zero (of_stop.List name fault) is = omega (arith, is)
+never_zero (of_stop.File name fault) is = omega (arith, is)
 never_zero Read is = omega (arith, is)
 never_zero Write is = omega (arith, is)
 never_zero Memory is = omega (arith, is)
@@ -63,7 +67,7 @@ pub known_of : (stop : Stop) → (status_of_stop stop ≡ 0) ⊎ (2 ≤ status_o
 known_of (Script kind name line) = inr (omega arith, omega arith)
 known_of (Input name fault) = inr (omega arith, omega arith)
 known_of (Changed name frame want got) = inr (omega arith, omega arith)
-known_of (of_stop.List name fault) = inr (omega arith, omega arith)
+known_of (of_stop.File name fault) = inr (omega arith, omega arith)
 known_of Read = inr (omega arith, omega arith)
 known_of Write = inr (omega arith, omega arith)
 known_of Memory = inr (omega arith, omega arith)
@@ -79,18 +83,18 @@ module _ {F S K E : Type 0} (files : of_files.Ghosts F S) (sink : Ghosts K) (lin
   memory_of (Script kind name line) says is = absurd (omega (arith, is))
   memory_of (Input name fault) says is = absurd (omega (arith, is))
   memory_of (Changed name frame want got) says is = absurd (omega (arith, is))
-  memory_of (of_stop.List name fault) says is = absurd (omega (arith, is))
+  memory_of (of_stop.File name fault) says is = absurd (omega (arith, is))
   memory_of Read says is = absurd (omega (arith, is))
   memory_of Write says is = absurd (omega (arith, is))
   memory_of Memory says is = says
 
   -- what a stop shows, whatever was to be put, and by what one of a list shows
-  module _ (OfList : List ℕ → ListFault → Type 0) where
+  module _ (OfList : List ℕ → FileFault → Type 0) where
     abbrev pub Cause : Stop → Type 0
     Cause (Script kind name line) = IsScriptFault (files.world f) script kind name line × PutsNothing sink out new
     Cause (Input name fault) = HasFault (files.world f) script (input name fault) × PutsNothing sink out new
     Cause (Changed name frame want got) = HasChanged (files.world f)
-    Cause (of_stop.List name fault) = OfList name fault
+    Cause (of_stop.File name fault) = OfList name fault
     Cause Read = FilesFailed files f g
     Cause Write = SinkFailed sink out new × ScriptHasClip (files.world f) script
     Cause Memory = Unit {0}
@@ -99,7 +103,7 @@ module _ {F S K E : Type 0} (files : of_files.Ghosts F S) (sink : Ghosts K) (lin
     script_of (Script kind name line) shown says is = record { kind = kind; name = name; at = line; is = shown.0; line = says; put = shown.1 }
     script_of (Input name fault) shown says is = absurd (omega (arith, is))
     script_of (Changed name frame want got) shown says is = absurd (omega (arith, is))
-    script_of (of_stop.List name fault) shown says is = absurd (omega (arith, is))
+    script_of (of_stop.File name fault) shown says is = absurd (omega (arith, is))
     script_of Read shown says is = absurd (omega (arith, is))
     script_of Write shown says is = absurd (omega (arith, is))
     script_of Memory shown says is = absurd (omega (arith, is))
@@ -108,7 +112,7 @@ module _ {F S K E : Type 0} (files : of_files.Ghosts F S) (sink : Ghosts K) (lin
     read_of (Script kind name line) shown says is = absurd (omega (arith, is))
     read_of (Input name fault) shown says is = absurd (omega (arith, is))
     read_of (Changed name frame want got) shown says is = absurd (omega (arith, is))
-    read_of (of_stop.List name fault) shown says is = absurd (omega (arith, is))
+    read_of (of_stop.File name fault) shown says is = absurd (omega (arith, is))
     read_of Read shown says is = (shown, says)
     read_of Write shown says is = absurd (omega (arith, is))
     read_of Memory shown says is = absurd (omega (arith, is))
@@ -117,14 +121,14 @@ module _ {F S K E : Type 0} (files : of_files.Ghosts F S) (sink : Ghosts K) (lin
     write_of (Script kind name line) shown says is = absurd (omega (arith, is))
     write_of (Input name fault) shown says is = absurd (omega (arith, is))
     write_of (Changed name frame want got) shown says is = absurd (omega (arith, is))
-    write_of (of_stop.List name fault) shown says is = absurd (omega (arith, is))
+    write_of (of_stop.File name fault) shown says is = absurd (omega (arith, is))
     write_of Read shown says is = absurd (omega (arith, is))
     write_of Write shown says is = (shown.0, shown.1, says)
     write_of Memory shown says is = absurd (omega (arith, is))
 
     -- the status that is due, where a list's fault has that of the fault
     module _ (due : World → Meaning → ℕ) (of_fault_is : (world : World) (fault : Fault) → due world (a_fault fault) ≡ status_of_fault fault)
-        (of_list_is : (name : List ℕ) (fault : ListFault) → OfList name fault → (world : World) (meaning : Meaning) → files.world f ≡ Some world → Means world script meaning → 3 ≡ due world meaning) where
+        (of_list_is : (name : List ℕ) (fault : FileFault) → OfList name fault → (world : World) (meaning : Meaning) → files.world f ≡ Some world → Means world script meaning → 3 ≡ due world meaning) where
       by_fault : (world : World) (fault : Fault) (meaning : Meaning) → HasFault (files.world f) script fault → files.world f ≡ Some world → Means world script meaning → status_of_fault fault ≡ due world meaning
       by_fault world fault meaning has is means = sym (of_fault_is world fault) ∙ ap (due world) (means_one_thing world script (a_fault fault) meaning (has world is) means)
 
@@ -133,7 +137,7 @@ module _ {F S K E : Type 0} (files : of_files.Ghosts F S) (sink : Ghosts K) (lin
       complete_of (Script kind name line) shown says world meaning is means no_fault no_failure = inl (by_fault world (of_fault.script kind name line) meaning shown.0 is means)
       complete_of (Input name fault) shown says world meaning is means no_fault no_failure = inl (by_fault world (input name fault) meaning shown.0 is means)
       complete_of (Changed name frame want got) shown says world meaning is means no_fault no_failure = absurd (shown world is)
-      complete_of (of_stop.List name fault) shown says world meaning is means no_fault no_failure = inl (of_list_is name fault shown world meaning is means)
+      complete_of (of_stop.File name fault) shown says world meaning is means no_fault no_failure = inl (of_list_is name fault shown world meaning is means)
       complete_of Read shown says world meaning is means no_fault no_failure = absurd (no_fault shown)
       complete_of Write shown says world meaning is means no_fault no_failure = absurd (no_failure (shown.0, shown.1, says))
       complete_of Memory shown says world meaning is means no_fault no_failure = inr refl
@@ -156,7 +160,7 @@ module _ {F S K E : Type 0} (files : of_files.Ghosts F S) (sink : Ghosts K) (lin
   Fails = WriteFails files sink lines f g out new err said script
 
   -- no list is read
-  abbrev pub NoList : List ℕ → ListFault → Type 0
+  abbrev pub NoList : List ℕ → FileFault → Type 0
   NoList name fault = ⊥
 
   module _ (Well ByInput Failed : Type 0) where
@@ -216,17 +220,17 @@ module _ {F S K E : Type 0} (files : of_files.Ghosts F S) (sink : Ghosts K) (lin
   InputFails = EndsByInput files sink lines f g out new err said script ⊎ EndsByChange files sink lines f g out new err said script (EndsInFrame sink out new)
 
   module _ (capacity : ℕ) (staff : Staff) (journal : Option Record) where
-    abbrev Well : Bool → Type 0
+    abbrev Well : Tells → Type 0
     Well asked = Quiet files sink lines f g out new err said script capacity staff journal asked
 
-    abbrev Failed : Bool → Type 0
+    abbrev pub Failed : Tells → Type 0
     Failed asked = Unwritten files sink lines f g out new err said script capacity staff journal asked
 
-    abbrev Ended : Bool → ℕ → Type 0
+    abbrev Ended : Tells → ℕ → Type 0
     Ended asked status = Headline files sink lines f g out new err said script capacity staff journal asked status
 
     -- the whole text was put, and what is on `err` shows the status
-    headline_by : (asked : Bool) (status frames : ℕ) → InWorld (files.world f) (λ world. PutsClip sink world script out new frames) → ReadsThem → ((status ≡ 0) ⊎ (status ≡ 5))
+    headline_by : (asked : Tells) (status frames : ℕ) → InWorld (files.world f) (λ world. PutsClip sink world script out new frames) → ReadsThem → ((status ≡ 0) ⊎ (status ≡ 5))
         → Caused (Well asked) InputFails (Failed asked) status → Ended asked status
     headline_by asked status frames whole reads which causes = record {
       whole = λ zero. whole_of frames whole;
@@ -238,14 +242,17 @@ module _ {F S K E : Type 0} (files : of_files.Ghosts F S) (sink : Ghosts K) (lin
       causes = causes;
     }
 
-    pub headline_of_whole : (asked : Bool) (frames : ℕ) → InWorld (files.world f) (λ world. PutsClip sink world script out new frames) → ReadsThem → Well asked → Ended asked 0
+    pub headline_of_whole : (asked : Tells) (frames : ℕ) → InWorld (files.world f) (λ world. PutsClip sink world script out new frames) → ReadsThem → Well asked → Ended asked 0
     headline_of_whole asked frames whole reads quiet = headline_by asked 0 frames whole reads (inl refl)
         (causes_of_whole (Well asked) InputFails (Failed asked) script_status (zero_due (Well asked) InputFails (Failed asked) (has_clip frames whole)) quiet)
 
-    pub headline_of_cut : (frames : ℕ) → InWorld (files.world f) (λ world. PutsClip sink world script out new frames) → ReadsThem
-        → (text : List ℕ) → IsReport (files.world f) script capacity staff journal text → CutsReport lines err said text → Ended true 5
-    headline_of_cut frames whole reads text is cut =
-        headline_by true 5 frames whole reads (inr refl) (causes_of_cut (Well true) InputFails (Failed true) (inr (record { whole = whole_of frames whole; text = text; is = is; cut = cut })))
+    -- a text was cut short after it
+    pub cut_in : (IsText : List ℕ → Type 0) (frames : ℕ) → InWorld (files.world f) (λ world. PutsClip sink world script out new frames) → (text : List ℕ) → IsText text → CutsReport lines err said text
+        → EndsInText files sink lines f g out new err said script capacity staff journal IsText
+    cut_in IsText frames whole text is cut = record { whole = whole_of frames whole; text = text; is = is; cut = cut }
+
+    pub headline_of_cut : (asked : Tells) (frames : ℕ) → InWorld (files.world f) (λ world. PutsClip sink world script out new frames) → ReadsThem → Failed asked → Ended asked 5
+    headline_of_cut asked frames whole reads failed = headline_by asked 5 frames whole reads (inr refl) (causes_of_cut (Well asked) InputFails (Failed asked) failed)
 
   module _ (stop : Stop) where
     abbrev Shown : Type 0
@@ -255,7 +262,7 @@ module _ {F S K E : Type 0} (files : of_files.Ghosts F S) (sink : Ghosts K) (lin
   cause_of (Script kind name line) shown = shown
   cause_of (Input name fault) shown = shown
   cause_of (Changed name frame want got) shown = shown.0
-  cause_of (of_stop.List name fault) shown = absurd shown
+  cause_of (of_stop.File name fault) shown = absurd shown
   cause_of Read shown = shown.0
   cause_of Write shown = (shown.0, (let front = shown.1 in front.has_one))
   cause_of Memory shown = tt
@@ -264,7 +271,7 @@ module _ {F S K E : Type 0} (files : of_files.Ghosts F S) (sink : Ghosts K) (lin
   input_of (Script kind name line) shown says is = absurd (omega (arith, is))
   input_of (Input name fault) shown says is = inl (record { name = name; fault = fault; is = shown.0; line = says; put = shown.1 })
   input_of (Changed name frame want got) shown says is = inr (record { name = name; frame = frame; want = want; got = got; is = shown.0; line = says; put = shown.1 })
-  input_of (of_stop.List name fault) shown says is = absurd shown
+  input_of (of_stop.File name fault) shown says is = absurd shown
   input_of Read shown says is = absurd (omega (arith, is))
   input_of Write shown says is = absurd (omega (arith, is))
   input_of Memory shown says is = absurd (omega (arith, is))
@@ -273,7 +280,7 @@ module _ {F S K E : Type 0} (files : of_files.Ghosts F S) (sink : Ghosts K) (lin
   prefix_of (Script kind name line) shown clip is = none_is_prefix sink out new clip shown.1
   prefix_of (Input name fault) shown clip is = none_is_prefix sink out new clip shown.1
   prefix_of (Changed name frame want got) shown clip is = absurd (shown.0 is.world is.told_is)
-  prefix_of (of_stop.List name fault) shown clip is = absurd shown
+  prefix_of (of_stop.File name fault) shown clip is = absurd shown
   prefix_of Read shown clip is = frames_are_prefix sink out new clip _ _ is shown.1
   prefix_of Write shown clip is = (let front = shown.1 in front.prefix clip is)
   prefix_of Memory shown clip is = frames_are_prefix sink out new clip _ _ is shown
@@ -292,7 +299,7 @@ module _ {F S K E : Type 0} (files : of_files.Ghosts F S) (sink : Ghosts K) (lin
       by_stop (Script kind name line) shown = shown.1
       by_stop (Input name fault) shown = shown.1
       by_stop (Changed name frame want got) shown = absurd (shown.0 world is)
-      by_stop (of_stop.List name fault) shown = absurd shown
+      by_stop (of_stop.File name fault) shown = absurd shown
       by_stop Read shown = no_frames shown.1
       by_stop Write shown = absurd (no_clip (let front = shown.1 in front.has_one))
       by_stop Memory shown = no_frames shown
@@ -301,17 +308,18 @@ module _ {F S K E : Type 0} (files : of_files.Ghosts F S) (sink : Ghosts K) (lin
   frames_of (Script kind name line) shown which = absurd (omega (arith, which))
   frames_of (Input name fault) shown which = absurd (omega (arith, which))
   frames_of (Changed name frame want got) shown which = absurd (omega (arith, which))
-  frames_of (of_stop.List name fault) shown which = absurd shown
+  frames_of (of_stop.File name fault) shown which = absurd shown
   frames_of Read shown which = shown.1
   frames_of Write shown which = absurd (omega (arith, which))
   frames_of Memory shown which = shown
 
   module _ (capacity : ℕ) (staff : Staff) (journal : Option Record) where
-    fails_by : (asked : Bool) → Fails → Failed capacity staff journal asked
-    fails_by true failed = inl failed
-    fails_by false failed = failed
+    fails_by : (asked : Tells) → Fails → Failed capacity staff journal asked
+    fails_by of_tells.Nothing failed = failed
+    fails_by of_tells.Report failed = inl failed
+    fails_by of_tells.Journal failed = inl failed
 
-    pub headline_of_stop : (asked : Bool) (stop : Stop) → Shown stop → Says lines err said (stop_line stop) → Ended capacity staff journal asked (status_of_stop stop)
+    pub headline_of_stop : (asked : Tells) (stop : Stop) → Shown stop → Says lines err said (stop_line stop) → Ended capacity staff journal asked (status_of_stop stop)
     headline_of_stop asked stop shown says = record {
       whole = λ zero. absurd (never_zero stop zero);
       prefix = prefix_of stop shown;
@@ -358,7 +366,7 @@ module _ {F S K E : Type 0} (files : of_files.Ghosts F S) (sink : Ghosts K) (lin
   info_cause (Script kind name line) shown = shown
   info_cause (Input name fault) shown = shown
   info_cause (Changed name frame want got) shown = absurd shown
-  info_cause (of_stop.List name fault) shown = absurd shown
+  info_cause (of_stop.File name fault) shown = absurd shown
   info_cause Read shown = shown.0
   info_cause Write shown = (shown.0, shown.1)
   info_cause Memory shown = tt
@@ -370,7 +378,7 @@ module _ {F S K E : Type 0} (files : of_files.Ghosts F S) (sink : Ghosts K) (lin
   info_prefix (Script kind name line) shown text is = nothing_cut text shown.1
   info_prefix (Input name fault) shown text is = nothing_cut text shown.1
   info_prefix (Changed name frame want got) shown text is = absurd shown
-  info_prefix (of_stop.List name fault) shown text is = absurd shown
+  info_prefix (of_stop.File name fault) shown text is = absurd shown
   info_prefix Read shown text is = nothing_cut text shown.1
   info_prefix Write shown text is = shown.2 text is
   info_prefix Memory shown text is = nothing_cut text shown
@@ -379,7 +387,7 @@ module _ {F S K E : Type 0} (files : of_files.Ghosts F S) (sink : Ghosts K) (lin
   info_nothing (Script kind name line) shown world is none = shown.1
   info_nothing (Input name fault) shown world is none = shown.1
   info_nothing (Changed name frame want got) shown world is none = absurd shown
-  info_nothing (of_stop.List name fault) shown world is none = absurd shown
+  info_nothing (of_stop.File name fault) shown world is none = absurd shown
   info_nothing Read shown world is none = shown.1
   info_nothing Write shown world is none = (let one = shown.1 world is in absurd (none one.0 one.1))
   info_nothing Memory shown world is none = shown
@@ -388,7 +396,7 @@ module _ {F S K E : Type 0} (files : of_files.Ghosts F S) (sink : Ghosts K) (lin
   info_unwritten (Script kind name line) shown which = shown.1
   info_unwritten (Input name fault) shown which = shown.1
   info_unwritten (Changed name frame want got) shown which = absurd shown
-  info_unwritten (of_stop.List name fault) shown which = absurd shown
+  info_unwritten (of_stop.File name fault) shown which = absurd shown
   info_unwritten Read shown which = shown.1
   info_unwritten Write shown which = absurd (omega (arith, which))
   info_unwritten Memory shown which = shown
@@ -397,7 +405,7 @@ module _ {F S K E : Type 0} (files : of_files.Ghosts F S) (sink : Ghosts K) (lin
   info_input (Script kind name line) shown says is = absurd (omega (arith, is))
   info_input (Input name fault) shown says is = record { name = name; fault = fault; is = shown.0; line = says; put = shown.1 }
   info_input (Changed name frame want got) shown says is = absurd shown
-  info_input (of_stop.List name fault) shown says is = absurd shown
+  info_input (of_stop.File name fault) shown says is = absurd shown
   info_input Read shown says is = absurd (omega (arith, is))
   info_input Write shown says is = absurd (omega (arith, is))
   info_input Memory shown says is = absurd (omega (arith, is))
@@ -443,7 +451,7 @@ module _ {K E : Type 0} (sink : Ghosts K) (lines : Ghosts E) (out new : K) (err 
   self_test_of_stop (Script kind name line) shown says = absurd shown
   self_test_of_stop (Input name fault) shown says = absurd shown
   self_test_of_stop (Changed name frame want got) shown says = absurd shown
-  self_test_of_stop (of_stop.List name fault) shown says = absurd shown
+  self_test_of_stop (of_stop.File name fault) shown says = absurd shown
   self_test_of_stop Read shown says = absurd shown
   self_test_of_stop Write shown says = record {
     whole = λ is. absurd (omega (arith, is));
@@ -462,17 +470,24 @@ module _ {K E : Type 0} (sink : Ghosts K) (lines : Ghosts E) (out new : K) (err 
     memory = λ is. says;
   }
 
--- a report that was put, or cut short
-pub finishes_reported : {E : Type 0} (lines : Ghosts E) (err said : E) (done : Result (Option (List Application)) Stop) (journal : Option Record) (status : ℕ) (asked : Option (List Application)) (plan : List Application) (log : Record)
-    → done ≡ Ok asked → asked ≡ Some plan → journal ≡ Some log → Reports lines err said (report plan (windows_of log)) status → Finishes lines err said done journal status
-finishes_reported lines err said done journal status asked plan log is some there reports = rw (is, some, there) reports
+-- a report or a journal that was put, or cut short
+module _ {E : Type 0} (lines : Ghosts E) (err said : E) (done : Result Telling Stop) (journal : Option Record) (status : ℕ) (tells : Telling) where
+  pub finishes_reported : (plan : List Application) (log : Record) → done ≡ Ok tells → tells ≡ telling.Report plan → journal ≡ Some log → Reports lines err said (report plan (windows_of log)) status
+      → Finishes lines err said done journal status
+  finishes_reported plan log is report there reports = rw (is, report, there) reports
+
+  pub finishes_printed : (workers : ℕ) (log : Record) → done ≡ Ok tells → tells ≡ telling.Journal workers → journal ≡ Some log → Prints lines err said workers log status
+      → Finishes lines err said done journal status
+  finishes_printed workers log is text there prints = rw (is, text, there) prints
 
 -- the line that names a cause leaves no fewer faults
-pub said_later : {E : Type 0} (lines : Ghosts E) (err said : E) (done : Result (Option (List Application)) Stop) (journal : Option Record) (status : ℕ) → Finishes lines err said done journal status
+pub said_later : {E : Type 0} (lines : Ghosts E) (err said : E) (done : Result Telling Stop) (journal : Option Record) (status : ℕ) → Finishes lines err said done journal status
     → IsLater lines err said
-said_later lines err said (Ok None) journal status is = rw is.1 (omega arith)
-said_later lines err said (Ok (Some plan)) None status is = absurd is
-said_later lines err said (Ok (Some plan)) (Some log) status is = is.later
+said_later lines err said (Ok telling.Nothing) journal status is = rw is.1 (omega arith)
+said_later lines err said (Ok (telling.Report plan)) None status is = absurd is
+said_later lines err said (Ok (telling.Report plan)) (Some log) status is = is.later
+said_later lines err said (Ok (telling.Journal workers)) None status is = absurd is
+said_later lines err said (Ok (telling.Journal workers)) (Some log) status is = let put = is.put in put.later
 said_later lines err said (Err stop) journal status is = let says = is.1 in says.later
 
 -- the line of a stream that a digest holds

@@ -10,10 +10,10 @@ use Rattle.clip_graph.specs.Plan.{Application}
 use Rattle.prefetch.specs.Rendered.{PutsNothing}
 use Rattle.serve_events.specs.declared.event.WindowStop.{WindowStop}
 use Rattle.serve_events.specs.declared.windows.Record.{Record}
-use Rattle.serve_text.specs.Lines.{Says, stop_line, file_line, list_kind}
+use Rattle.serve_text.specs.Lines.{Says, stop_line, file_line, file_kind}
 use Rattle.serve_text.specs.StopKinds.{status_of_stop}
-use Rattle.serve_text.specs.declared.stop.ListFault.{ListFault}
-use Rattle.serve_text.specs.declared.stop.ListFault.TheVariants as of_list
+use Rattle.serve_text.specs.declared.stop.FileFault.{FileFault}
+use Rattle.serve_text.specs.declared.stop.FileFault.TheVariants as of_file
 use Rattle.serve_text.specs.declared.stop.Stop.{Stop}
 use Rattle.serve_text.specs.declared.stop.Stop.TheVariants as of_stop
 use Rattle.serve_text.specs.declared.stop.Stop.TheVariants.{Script, Input, Changed, Read, Write, Memory}
@@ -55,19 +55,20 @@ module _ {F S K E : Type 0} (files : of_files.Ghosts F S) (sink : Ghosts K) (lin
   abbrev Shows : Stop → Type 0
   Shows stop = SessionShows (files.world f) script list sink out new (FilesFailed files f g) stop
 
-  abbrev OfList : List ℕ → ListFault → Type 0
+  abbrev OfList : List ℕ → FileFault → Type 0
   OfList name fault = (name ≡ list) × IsListFault (files.world f) script list sink out new fault
 
-  of_list_is : (name : List ℕ) (fault : ListFault) → OfList name fault → (world : World) (meaning : Meaning) → files.world f ≡ Some world → Means world script meaning → 3 ≡ due world meaning
-  of_list_is name of_list.NotThere (same, (has, none, put)) world meaning is means = sym (ap status_of_list (none world is)) ∙ by_clip world meaning is means has
-  of_list_is name of_list.LineTooLong (same, all) world meaning is means = by_end (Some of_fault.LineTooLong) all world meaning is means
-  of_list_is name of_list.TooManyLines (same, all) world meaning is means = by_end (Some of_fault.TooManyLines) all world meaning is means
+  of_list_is : (name : List ℕ) (fault : FileFault) → OfList name fault → (world : World) (meaning : Meaning) → files.world f ≡ Some world → Means world script meaning → 3 ≡ due world meaning
+  of_list_is name of_file.NotThere (same, (has, none, put)) world meaning is means = sym (ap status_of_list (none world is)) ∙ by_clip world meaning is means has
+  of_list_is name of_file.LineTooLong (same, all) world meaning is means = by_end (Some of_fault.LineTooLong) all world meaning is means
+  of_list_is name of_file.TooManyLines (same, all) world meaning is means = by_end (Some of_fault.TooManyLines) all world meaning is means
+  of_list_is name of_file.JournalTooLong (same, never) world meaning is means = absurd never
 
   cause_of : (stop : Stop) → Shows stop → Cause files sink lines f g out new err said script OfList stop
   cause_of (Script kind name line) shown = shown
   cause_of (Input name fault) shown = shown
   cause_of (Changed name frame want got) shown = shown.0
-  cause_of (of_stop.List name fault) shown = shown
+  cause_of (of_stop.File name fault) shown = shown
   cause_of Read shown = shown
   cause_of Write shown = shown
   cause_of Memory shown = tt
@@ -80,7 +81,7 @@ module _ {F S K E : Type 0} (files : of_files.Ghosts F S) (sink : Ghosts K) (lin
   input_of (Script kind name line) shown says is = absurd (omega (arith, is))
   input_of (Input name fault) shown says is = inl (record { name = name; fault = fault; is = shown.0; line = says; put = shown.1 })
   input_of (Changed name frame want got) shown says is = inr (inr (record { name = name; frame = frame; want = want; got = got; is = shown.0; line = says; put = shown.1 }))
-  input_of (of_stop.List name fault) shown says is = inr (inl (record { fault = fault; is = shown.1; line = subst (λ (n : List ℕ). Says lines err said (file_line n (list_kind fault))) shown.0 says }))
+  input_of (of_stop.File name fault) shown says is = inr (inl (record { fault = fault; is = shown.1; line = subst (λ (n : List ℕ). Says lines err said (file_line n (file_kind fault))) shown.0 says }))
   input_of Read shown says is = absurd (omega (arith, is))
   input_of Write shown says is = absurd (omega (arith, is))
   input_of Memory shown says is = absurd (omega (arith, is))

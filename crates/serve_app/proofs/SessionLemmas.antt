@@ -1,5 +1,5 @@
 -- What a session over files leaves, from what is answered over a graph.
-use Rattle.std.proofs.Common.{◌≡◌, ◌∙◌, ◌⊎◌, ⊎_elim, ℕ, ◌<◌, ◌≤◌, Bool, true, false, IsTrue, List, [], ◌∷◌, ◌++◌, Option, Some, None, Result, Ok, Err, OnSome, OnOk, refl, inl, inr, sym, ap, ap₂, subst, nat_lt, arith}
+use Rattle.std.proofs.Common.{◌≡◌, ◌∙◌, ◌⊎◌, ⊎_elim, ℕ, ◌<◌, ◌≤◌, Bool, true, false, IsTrue, List, [], ◌∷◌, ◌++◌, length, Option, Some, None, Result, Ok, Err, OnSome, OnOk, refl, inl, inr, sym, ap, ap₂, subst, nat_lt, arith}
 use Rattle.std.specs.Prelude.{IsErrOf, drop}
 use Rattle.std.specs.FinMap.{get}
 use Rattle.std.proofs.lemmas.Bool.Decides.{nat_tests}
@@ -43,7 +43,7 @@ use Rattle.avs_meaning.specs.declared.state.SourceClip.{SourceClip}
 use Rattle.avs_state.specs.Sources.{sources_of}
 use Rattle.avs_files.specs.Opened.{told_of, AreOpened}
 use Rattle.serve_text.specs.StopKinds.{status_of_stop}
-use Rattle.serve_text.specs.declared.stop.ListFault.TheVariants as of_list
+use Rattle.serve_text.specs.declared.stop.FileFault.TheVariants as of_file
 use Rattle.serve_text.specs.declared.stop.Stop.{Stop}
 use Rattle.serve_text.specs.declared.stop.Stop.TheVariants as of_stop
 use Rattle.serve_stream.specs.Answered.{AreWindowsIn, TellsSession, numbers_asked, answers_over, AnswerShows, IsAnswered}
@@ -93,11 +93,11 @@ answers_at book plan root capacity asks =
 
 -- ---- a told world
 
-told_some : (told : Bool) (world : World) → IsTrue told → told_of told world ≡ Some world
+pub told_some : (told : Bool) (world : World) → IsTrue told → told_of told world ≡ Some world
 told_some true world known = refl
 told_some false world known = absurd (cc)
 
-given : (bytes : Option (List ℕ)) → (bytes ≡ None → ⊥) → (some : List ℕ) × (bytes ≡ Some some)
+pub given : (bytes : Option (List ℕ)) → (bytes ≡ None → ⊥) → (some : List ℕ) × (bytes ≡ Some some)
 given (Some bytes) there = (bytes, refl)
 given None there = absurd (there refl)
 
@@ -195,7 +195,7 @@ module _ {S : Type 0} (of : of_source.Ghosts S) (told : Bool) (world : World) (s
     shown (Stopped (of_stop.Input file fault)) shows = absurd shows
     shown (Stopped (of_stop.Changed file frame want got)) shows =
         (in_told told world (λ w. ⊥) (none_of of told world script plan root crew listed sources same are means sink out put shows.0), shows.1)
-    shown (Stopped (of_stop.List file fault)) shows = absurd shows
+    shown (Stopped (of_stop.File file fault)) shows = absurd shows
     shown (Stopped of_stop.Read) (inl one) = fails one
     shown (Stopped of_stop.Read) (inr one) = list_fails one
     shown (Stopped of_stop.Write) shows = (shows, has_one of told world script plan root crew listed sources same are means)
@@ -204,17 +204,17 @@ module _ {S : Type 0} (of : of_source.Ghosts S) (told : Bool) (world : World) (s
     shown (ListFault of_fault.LineTooLong) shows = (refl, all_put shows.asks (Some of_fault.LineTooLong) shows.all shows.put)
     shown (ListFault of_fault.TooManyLines) shows = (refl, all_put shows.asks (Some of_fault.TooManyLines) shows.all shows.put)
 
-    plan_is : IsPlan plan → IsPlanOf (told_of told world) script plan root
-    plan_is is = plan_of of told world script plan root crew listed sources same are means sink out put is
+    plan_is : IsPlan plan → root < length plan → IsPlanOf (told_of told world) script plan root
+    plan_is is inside = plan_of of told world script plan root crew listed sources same are means sink out put is inside
 
     some_log : (journal : Option Record) (log : Record) → journal ≡ Some log → journal ≡ None → ⊥
     some_log journal log there none = let both : Some log ≡ None = sym there ∙ none in cc both
 
     -- all of it
-    pub session_of : (journal : Option Record) (done : Result (Unit {0}) SessionStop) → IsPlan plan
+    pub session_of : (journal : Option Record) (done : Result (Unit {0}) SessionStop) → IsPlan plan → root < length plan
         → IsAnswered plan root capacity faults (book_told of sources) lister s t sink out put journal table done
         → IsScriptSession (told_of told world) script name sink out put failed capacity journal (ended_with name done)
-    session_of journal (Ok u) is answered =
+    session_of journal (Ok u) is inside answered =
         let all = answered.all in
         record {
           whole = all_put all.asks None all.all all.put;
@@ -223,10 +223,10 @@ module _ {S : Type 0} (of : of_source.Ghosts S) (told : Bool) (world : World) (s
               (subst (λ (l : List Request). Puts sink out put (answers_over plan root capacity pictures l)) (ap (λ (a : Asked). a.requests) (sym (all.all bytes there_is))) (all.put pictures book)));
           listed = λ log there_is. has_answers;
           unlisted = λ none. absurd (some_log journal answered.log answered.there none);
-          run = record { plan = plan; root = root; is_plan = plan_is is; asks = all.asks; all = in_list (λ asked. asked ≡ record { requests = all.asks; fault = None }) all.all; log = answered.log; there = answered.there; windows_are = all.windows_are };
+          run = record { plan = plan; root = root; is_plan = plan_is is inside; asks = all.asks; all = in_list (λ asked. asked ≡ record { requests = all.asks; fault = None }) all.all; log = answered.log; there = answered.there; windows_are = all.windows_are };
           cut = tt;
         }
-    session_of journal (Err why) is answered =
+    session_of journal (Err why) is inside answered =
         let some = answered.stop in
         record {
           whole = tt;
@@ -236,7 +236,7 @@ module _ {S : Type 0} (of : of_source.Ghosts S) (told : Bool) (world : World) (s
           unlisted = λ none. absurd (some_log journal answered.log answered.there none);
           run = tt;
           cut = subst (λ (o : Option Record). SessionCuts (told_of told world) script name capacity (TellsCut (stop_with name why)) o) (sym answered.there)
-              (record { plan = plan; root = root; is_plan = plan_is is; stop = some.cut; ends = tells_cut why some.cut some.told; windows_are = windows_in some.cut (windows_of answered.log) some.windows_are });
+              (record { plan = plan; root = root; is_plan = plan_is is inside; stop = some.cut; ends = tells_cut why some.cut some.told; windows_are = windows_in some.cut (windows_of answered.log) some.windows_are });
         }
 
 -- ---- a list that was not opened
@@ -272,7 +272,7 @@ module _ {K : Type 0} (told : Bool) (world : World) (script name : List ℕ) (si
   unevaluated before now (of_stop.Input file fault) tells ends fails =
       nothing_yet (of_stop.Input file fault) (in_told told world (λ w. meaning_in w script ≡ m.wrong (input file fault)) tells, refl) (no_answers (input file fault) _ tells)
   unevaluated before now (of_stop.Changed file frame want got) tells ends fails = absurd ends
-  unevaluated before now (of_stop.List file fault) tells ends fails = absurd ends
+  unevaluated before now (of_stop.File file fault) tells ends fails = absurd ends
   unevaluated before now of_stop.Read tells ends fails = nothing_yet of_stop.Read (fails ends) (λ w is text answers. inl refl)
   unevaluated before now of_stop.Write tells ends fails = absurd ends
   unevaluated before now of_stop.Memory tells ends fails = nothing_yet of_stop.Memory tt (λ w is text answers. inr refl)
@@ -282,7 +282,7 @@ module _ {K : Type 0} (told : Bool) (world : World) (script name : List ℕ) (si
       → (IsErrOf {T = X} (Err fault) of_fetch.NotThere → InWorld (told_of told world) (λ w. get w name ≡ None)) → (IsErrOf {T = X} (Err fault) of_fetch.Failed → failed)
       → IsScriptSession (told_of told world) script name sink out out failed capacity None (Err (fetch_stop name fault))
   unopened_list of_fetch.NotThere has none fails =
-      nothing_yet (of_stop.List name of_list.NotThere) (refl, (has, none refl, refl)) (λ w is text answers. let both : None ≡ Some answers.bytes = sym (none refl w is) ∙ answers.bytes_are in absurd (cc))
+      nothing_yet (of_stop.File name of_file.NotThere) (refl, (has, none refl, refl)) (λ w is text answers. let both : None ≡ Some answers.bytes = sym (none refl w is) ∙ answers.bytes_are in absurd (cc))
   unopened_list of_fetch.Failed has none fails = nothing_yet of_stop.Read (fails refl) (λ w is text answers. inl refl)
   unopened_list of_fetch.Memory has none fails = nothing_yet of_stop.Memory tt (λ w is text answers. inr refl)
 

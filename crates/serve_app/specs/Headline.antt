@@ -1,7 +1,8 @@
 -- The headline: what a run of the program promises. A render that ends with status 0 has written exactly the text of
 -- the clip that the script means. Any other ending has written a prefix of that text, or nothing where there is no
 -- clip. Of a session the same is so for the answers to the requests of its list. Each status has the cause that it names.
-use Rattle.std.specs.Prelude.{◌≡◌, ◌⊎◌, ℕ, ◌+◌, ◌≤◌, Bool, true, false, List, Option, Some, None}
+-- The text of a journal that a render has put is one, as a replay of it says.
+use Rattle.std.specs.Prelude.{◌≡◌, ◌⊎◌, ℕ, ◌+◌, ◌≤◌, List, Option, Some, None}
 use Rattle.fv_io.specs.declared.files.Files as of_files
 use Rattle.fv_io.specs.declared.sink.Sink.{Ghosts}
 use Rattle.fv_io.specs.Files.{KeepsFiles, FilesFailed}
@@ -14,16 +15,19 @@ use Rattle.avs_meaning.specs.declared.fault.InputFault.{InputFault}
 use Rattle.avs_meaning.specs.declared.fault.ScriptKind.{ScriptKind}
 use Rattle.command_line.specs.Command.{command_in}
 use Rattle.command_line.specs.declared.command.RenderOptions.{RenderOptions}
+use Rattle.command_line.specs.declared.command.Tells.{Tells}
+use Rattle.command_line.specs.declared.command.Tells.TheVariants as of_tells
 use Rattle.clip_graph.specs.Plan.{Application}
 use Rattle.serve_events.specs.declared.event.WindowStop.{WindowStop}
 use Rattle.serve_events.specs.declared.event.WindowStop.TheVariants.{Read, Changed, Memory}
 use Rattle.serve_events.specs.declared.windows.Record.{Record}
 use Rattle.serve_stream.specs.declared.staff.Staff.{Staff}
-use Rattle.serve_app.specs.Words.{IsRender, IsInfo, IsSelfTest, IsSession}
+use Rattle.serve_app.specs.Words.{IsRender, IsInfo, IsSelfTest, IsSession, IsReplay}
 use Rattle.serve_app.specs.Meaning.{Meaning, MeansClip, Means, script_status}
 use Rattle.serve_app.specs.Info.{IsInfoOf, IsToldInfo}
-use Rattle.serve_app.specs.Journals.{cache_of, IsScriptRendered, IsReport, ScriptCuts}
+use Rattle.serve_app.specs.Journals.{cache_of, IsScriptRendered, IsReport, IsJournalText, IsLawful, ScriptCuts}
 use Rattle.serve_app.specs.Reads.{files_in}
+use Rattle.serve_app.specs.Replays.{HasText, IsVerdictOf, IsToldVerdict, IsJournalFault, replay_status}
 use Rattle.serve_text.specs.Reports.{CutsReport}
 use Rattle.serve_app.specs.SelfTest.{SelfTestEnds}
 use Rattle.serve_app.specs.Sessions.{IsAnswersOf, IsToldAnswers, HasAnswers, AnswersList, IsListFault, IsSessionRun, SessionCuts, FetchesList, session_status}
@@ -32,8 +36,8 @@ use Rattle.serve_stream.specs.Rendered.{PutsWholeFrames, EndsInFrame, PutsHead, 
 use Rattle.serve_app.specs.Stop.{IsOfScript, ScriptHasClip, HasInfo, HasFault, HasChanged, IsScriptFault}
 use Rattle.serve_stream.specs.Answered.{EndsEarly}
 use Rattle.serve_stream.specs.Streams.{file_at}
-use Rattle.serve_text.specs.Lines.{Says, usage_line, read_line, write_line, memory_line, script_line, input_line, file_line, changed_kind, list_kind}
-use Rattle.serve_text.specs.declared.stop.ListFault.{ListFault}
+use Rattle.serve_text.specs.Lines.{Says, usage_line, read_line, write_line, memory_line, script_line, input_line, file_line, changed_kind, file_kind}
+use Rattle.serve_text.specs.declared.stop.FileFault.{FileFault}
 
 module _ {F S K E : Type 0} (files : of_files.Ghosts F S) (sink : Ghosts K) (lines : Ghosts E)
     (f g : F) (out new : K) (err said : E) where
@@ -106,24 +110,33 @@ module _ {F S K E : Type 0} (files : of_files.Ghosts F S) (sink : Ghosts K) (lin
         pub is : IsReport (files.world f) script capacity staff journal text
         pub put : Puts lines err said text
 
-      -- the whole text was put, and then the report was cut short
-      pub record EndsInReport : Type 0 where
+      -- the text of the journal was put, and it is a journal of the script's plan, with the same cache
+      pub record PutsJournal : Type 0 where
+        pub text : List ℕ
+        pub is : IsJournalText (files.world f) script capacity staff journal text
+        pub put : Puts lines err said text
+        pub lawful : IsLawful (files.world f) script capacity staff is
+
+      -- the whole text of the clip was put, and then a text of this kind was cut short
+      pub record EndsInText (IsText : List ℕ → Type 0) : Type 0 where
         pub whole : PutsWhole
         pub text : List ℕ
-        pub is : IsReport (files.world f) script capacity staff journal text
+        pub is : IsText text
         pub cut : CutsReport lines err said text
 
-      -- what is on `err` where all went well, by whether a report is asked for
-      abbrev pub Quiet : Bool → Type 0
-      Quiet true = PutsReport
-      Quiet false = said ≡ err
+      -- what is on `err` where all went well, by what is to be told
+      abbrev pub Quiet : Tells → Type 0
+      Quiet of_tells.Nothing = said ≡ err
+      Quiet of_tells.Report = PutsReport
+      Quiet of_tells.Journal = PutsJournal
 
       -- and what shows that a write failed
-      abbrev pub Unwritten : Bool → Type 0
-      Unwritten true = WriteFails ⊎ EndsInReport
-      Unwritten false = WriteFails
+      abbrev pub Unwritten : Tells → Type 0
+      Unwritten of_tells.Nothing = WriteFails
+      Unwritten of_tells.Report = WriteFails ⊎ EndsInText (IsReport (files.world f) script capacity staff journal)
+      Unwritten of_tells.Journal = WriteFails ⊎ EndsInText (IsJournalText (files.world f) script capacity staff journal)
 
-      pub record Headline (report : Bool) (status : ℕ) : Type 0 where
+      pub record Headline (tells : Tells) (status : ℕ) : Type 0 where
         -- the text: the whole, or a prefix; nothing where there is no clip; whole frames where no write failed
         pub whole : status ≡ 0 → PutsWhole
         pub prefix : (clip : Clip) → IsOfScript (files.world f) script clip → PutsPrefix sink out new (stream clip)
@@ -136,7 +149,7 @@ module _ {F S K E : Type 0} (files : of_files.Ghosts F S) (sink : Ghosts K) (lin
         pub fetched : status ≡ 0 → InWorld (files.world f) (λ world.
             files.fetched g ≡ files.fetched f + files_in world script)
         -- an input that changed did so after whole frames and a part of one
-        pub causes : Causes (Quiet report) (EndsByInput ⊎ EndsByChange (EndsInFrame sink out new)) (Unwritten report)
+        pub causes : Causes (Quiet tells) (EndsByInput ⊎ EndsByChange (EndsInFrame sink out new)) (Unwritten tells)
             script_status status
 
       -- the journal: that of the whole render, or the beginning of it up to a stop, which the status and the line tell
@@ -164,9 +177,9 @@ module _ {F S K E : Type 0} (files : of_files.Ghosts F S) (sink : Ghosts K) (lin
     module _ (list : List ℕ) (capacity : ℕ) (journal : Option Record) where
       -- the list isn't there, or ends with a fault after requests that were answered, and its line is put
       pub record EndsByList : Type 0 where
-        pub fault : ListFault
+        pub fault : FileFault
         pub is : IsListFault (files.world f) script list sink out new fault
-        pub line : Says lines err said (file_line list (list_kind fault))
+        pub line : Says lines err said (file_line list (file_kind fault))
 
       -- by the stop that cut the last window short, as in a render. Where none did, any but a fault of the script
       abbrev pub EndsSession : ℕ → List Application → Option WindowStop → Type 0
@@ -193,6 +206,31 @@ module _ {F S K E : Type 0} (files : of_files.Ghosts F S) (sink : Ghosts K) (lin
         pub causes : Causes (said ≡ err) (EndsByInput ⊎ (EndsByList ⊎ EndsByChange EndsEarly)) WriteFails
             (session_status list) status
 
+    -- a replay of the file of this name, with a cache of so many frames
+    module _ (name : List ℕ) (capacity : ℕ) where
+      -- the file isn't there, or is too long, its line is put, and nothing is on the output
+      pub record EndsByJournal : Type 0 where
+        pub fault : FileFault
+        pub is : IsJournalFault (files.world f) script name fault
+        pub line : Says lines err said (file_line name (file_kind fault))
+        pub put : PutsNothing sink out new
+
+      pub record ReplayEnds (status : ℕ) : Type 0 where
+        -- the line that says whether it is a journal: the whole, or a prefix; nothing where there is no clip or no such
+        -- file, and where no write failed
+        pub whole : status ≡ 0 → InWorld (files.world f) (λ world.
+            (line : List ℕ) × IsVerdictOf world script name capacity line × Puts sink out new line)
+        pub prefix : (line : List ℕ) → IsToldVerdict (files.world f) script name capacity line → PutsPrefix sink out new line
+        pub nothing : InWorld (files.world f) (λ world.
+            (HasText world script name → ⊥) → PutsNothing sink out new)
+        pub unwritten : (status ≡ 4) ⊎ (status ≡ 6) → PutsNothing sink out new
+        -- no fault was counted, so nothing that failed was tried again; the file and those that the script reads were fetched
+        pub steady : status ≡ 0 → files.faults g ≡ files.faults f
+        pub fetched : status ≡ 0 → InWorld (files.world f) (λ world.
+            files.fetched g ≡ files.fetched f + 1 + files_in world script)
+        -- no input changes
+        pub causes : Causes (said ≡ err) (EndsByInput ⊎ EndsByJournal) WriteFails (replay_status name) status
+
   -- the words break the rules: nothing is touched but for the line
   pub record IsRefused (status : ℕ) : Type 0 where
     pub line : ((status ≡ 1) × Says lines err said usage_line) ⊎ ((status ≡ 6) × Says lines err said memory_line)
@@ -211,12 +249,14 @@ module _ {F S K E : Type 0} (files : of_files.Ghosts F S) (sink : Ghosts K) (lin
   -- what a run leaves, by what the words ask for, and by who decides how many workers a render has
   pub record Ends (staff : RenderOptions → Staff) (words : List (List ℕ)) (status : ℕ) (journal : Option Record) : Type 0 where
     pub render : (script : List ℕ) (options : RenderOptions) → IsRender words script options
-        → Headline script (cache_of options.cache) (staff options) journal options.report status
+        → Headline script (cache_of options.cache) (staff options) journal options.tells status
     pub journal_of : (script : List ℕ) (options : RenderOptions) → IsRender words script options
         → JournalEnds script (cache_of options.cache) (staff options) journal status
     pub info : (script : List ℕ) → IsInfo words script → InfoEnds script status
     pub session : (script list : List ℕ) (cache : Option ℕ) → IsSession words script list cache
         → SessionEnds script list (cache_of cache) journal status
+    pub replay : (script name : List ℕ) (cache : Option ℕ) → IsReplay words script name cache
+        → ReplayEnds script name (cache_of cache) status
     pub self_test : (number : ℕ) → IsSelfTest words number → SelfTestEnds sink lines out new err said number status × (g ≡ f)
     pub refused : command_in words ≡ None → IsRefused status
     pub usage : status ≡ 1 → command_in words ≡ None

@@ -35,7 +35,7 @@ InfoShows failed sink told script old new (of_stop.Script kind name line) =
 InfoShows failed sink told script old new (of_stop.Input name fault) =
     HasFault told script (input name fault) × PutsNothing sink old new
 InfoShows failed sink told script old new (of_stop.Changed name frame want got) = ⊥
-InfoShows failed sink told script old new (of_stop.List name fault) = ⊥
+InfoShows failed sink told script old new (of_stop.File name fault) = ⊥
 InfoShows failed sink told script old new of_stop.Read = failed × PutsNothing sink old new
 InfoShows failed sink told script old new of_stop.Write = SinkFailed sink old new × ScriptHasClip told script
     × ((text : List ℕ) → IsToldInfo told script text → PutsPrefix sink old new text)

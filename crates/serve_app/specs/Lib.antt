@@ -8,5 +8,6 @@ pub mod Reads
 pub mod Info
 pub mod SelfTest
 pub mod Sessions
+pub mod Replays
 pub mod Run
 pub mod Headline

@@ -23,7 +23,7 @@ Tells meaning (Ok opened) = meaning ≡ m.clip opened.graph opened.root opened.p
 Tells meaning (Err (of_stop.Script kind name line)) = meaning ≡ m.wrong (of_fault.script kind name line)
 Tells meaning (Err (of_stop.Input name fault)) = meaning ≡ m.wrong (input name fault)
 Tells meaning (Err (of_stop.Changed name frame want got)) = ⊥
-Tells meaning (Err (of_stop.List name fault)) = ⊥
+Tells meaning (Err (of_stop.File name fault)) = ⊥
 Tells meaning (Err of_stop.Read) = Unit {0}
 Tells meaning (Err of_stop.Write) = ⊥
 Tells meaning (Err of_stop.Memory) = Unit {0}
@@ -33,7 +33,7 @@ abbrev pub EndsBefore : {X : Type 0} → ℕ → ℕ → Result X Stop → Type 
 EndsBefore before now (Err of_stop.Read) = HasRisen before now
 EndsBefore before now (Err of_stop.Write) = ⊥
 EndsBefore before now (Err (of_stop.Changed name frame want got)) = ⊥
-EndsBefore before now (Err (of_stop.List name fault)) = ⊥
+EndsBefore before now (Err (of_stop.File name fault)) = ⊥
 EndsBefore before now _ = now ≡ before
 
 -- ---- what was put

@@ -19,6 +19,6 @@ module _ {K : Type 0} (told : Option World) (script : List ℕ) (capacity : ℕ)
     pub whole : IfOk done (λ all. InWorld told (λ world. PutsClip sink world script old new all.frames))
     pub stop : IfErr done (RenderShows failed sink told script old new)
     -- the journal is that of the whole render, or the beginning of it; there is one where the head was put
-    pub rendered : IfOk done (λ all. IsRunOf told script capacity staff journal all.graph)
+    pub rendered : IfOk done (λ all. IsRunOf told script capacity staff journal all.graph all.workers)
     pub cut : ScriptCuts told script capacity staff sink old new (TellsStop (stop_in done)) journal
     pub head : HeadShows sink old new (HasInfo told script) (stop_in done) journal

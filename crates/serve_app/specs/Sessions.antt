@@ -22,8 +22,8 @@ use Rattle.serve_events.specs.declared.windows.Record.{Record}
 use Rattle.serve_events.specs.Windows.{windows_of}
 use Rattle.serve_text.specs.InfoText.{clip_line}
 use Rattle.serve_text.specs.StopKinds.{status_of_stop}
-use Rattle.serve_text.specs.declared.stop.ListFault.{ListFault}
-use Rattle.serve_text.specs.declared.stop.ListFault.TheVariants as of_list
+use Rattle.serve_text.specs.declared.stop.FileFault.{FileFault}
+use Rattle.serve_text.specs.declared.stop.FileFault.TheVariants as of_file
 use Rattle.serve_text.specs.declared.stop.Stop.{Stop}
 use Rattle.serve_text.specs.declared.stop.Stop.TheVariants as of_stop
 use Rattle.serve_stream.specs.Answered.{EndsEarly, AreWindowsIn, numbers_asked, session_windows}
@@ -117,17 +117,17 @@ module _ (told : Option World) (script list : List ℕ) (capacity : ℕ) where
 
 -- ---- how it ends
 
--- the stop of a session whose list could not be opened
+-- the stop of a run whose list or journal, of this name, could not be opened
 abbrev pub fetch_stop : List ℕ → FetchFault → Stop
-fetch_stop list of_fetch.NotThere = of_stop.List list of_list.NotThere
-fetch_stop list of_fetch.Failed = of_stop.Read
-fetch_stop list of_fetch.Memory = of_stop.Memory
+fetch_stop name of_fetch.NotThere = of_stop.File name of_file.NotThere
+fetch_stop name of_fetch.Failed = of_stop.Read
+fetch_stop name of_fetch.Memory = of_stop.Memory
 
 -- the stop of a session that ended for its list
 abbrev pub list_stop : List ℕ → SessionFault → Stop
 list_stop list of_fault.Read = of_stop.Read
-list_stop list of_fault.LineTooLong = of_stop.List list of_list.LineTooLong
-list_stop list of_fault.TooManyLines = of_stop.List list of_list.TooManyLines
+list_stop list of_fault.LineTooLong = of_stop.File list of_file.LineTooLong
+list_stop list of_fault.TooManyLines = of_stop.File list of_file.TooManyLines
 
 abbrev pub stop_with : List ℕ → SessionStop → Stop
 stop_with list (Stopped stop) = stop
@@ -145,11 +145,12 @@ TellsCut stop plan (Some why) = TellsStop (Some stop) plan (Some why)
 
 module _ {K : Type 0} (told : Option World) (script list : List ℕ) (sink : Ghosts K) (old new : K) where
   -- a list that isn't there, with nothing put, or one whose requests were answered and that ends with a fault
-  abbrev pub IsListFault : ListFault → Type 0
-  IsListFault of_list.NotThere =
+  abbrev pub IsListFault : FileFault → Type 0
+  IsListFault of_file.NotThere =
       ScriptHasClip told script × InWorld told (λ world. get world list ≡ None) × PutsNothing sink old new
-  IsListFault of_list.LineTooLong = AnswersList told script list sink old new (Some of_fault.LineTooLong)
-  IsListFault of_list.TooManyLines = AnswersList told script list sink old new (Some of_fault.TooManyLines)
+  IsListFault of_file.LineTooLong = AnswersList told script list sink old new (Some of_fault.LineTooLong)
+  IsListFault of_file.TooManyLines = AnswersList told script list sink old new (Some of_fault.TooManyLines)
+  IsListFault of_file.JournalTooLong = ⊥
 
   module _ (failed : Type 0) where
     -- what a stop of the session shows, where a read failed only if this holds
@@ -157,7 +158,7 @@ module _ {K : Type 0} (told : Option World) (script list : List ℕ) (sink : Gho
     SessionShows (of_stop.Script kind name line) = IsScriptFault told script kind name line × PutsNothing sink old new
     SessionShows (of_stop.Input name fault) = HasFault told script (input name fault) × PutsNothing sink old new
     SessionShows (of_stop.Changed name frame want got) = HasChanged told × EndsEarly frame want got
-    SessionShows (of_stop.List name fault) = (name ≡ list) × IsListFault fault
+    SessionShows (of_stop.File name fault) = (name ≡ list) × IsListFault fault
     SessionShows of_stop.Read = failed
     SessionShows of_stop.Write = SinkFailed sink old new × ScriptHasClip told script
     SessionShows of_stop.Memory = Unit {0}

@@ -47,7 +47,7 @@ RenderShows failed sink told script old new (of_stop.Input name fault) =
     HasFault told script (input name fault) × PutsNothing sink old new
 RenderShows failed sink told script old new (of_stop.Changed name frame want got) =
     HasChanged told × EndsInFrame sink old new frame want got
-RenderShows failed sink told script old new (of_stop.List name fault) = ⊥
+RenderShows failed sink told script old new (of_stop.File name fault) = ⊥
 RenderShows failed sink told script old new of_stop.Read =
     failed × PutsWholeFrames sink old new (IsOfScript told script) (ScriptHasClip told script)
 RenderShows failed sink told script old new of_stop.Write =

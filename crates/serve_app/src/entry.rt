@@ -3,17 +3,18 @@ ghost use Rattle.std.specs.Prelude.{◌≡◌, None};
 ghost use Rattle.fv_io.specs.Files.{KeepsFiles};
 ghost use Rattle.fv_io.specs.Sink.{IsLater};
 ghost use Rattle.serve_app.specs.Headline.{Ends};
-ghost use Rattle.serve_app.specs.Run.{plain_staff, staff_by, graph_in, IsFit, HasLog, Does, LeavesNone, Finishes};
+ghost use Rattle.serve_app.specs.Run.{plain_staff, staff_by, told_in, IsFit, HasLog, Does, LeavesNone, Finishes};
 
 use crate::info::put_info;
 use crate::render::{render_alone, render_together};
+use crate::replay::put_replay;
 use crate::session::answer_list;
 use crate::test_run::put_self_test;
-use command_line::{Command, RenderOptions, command_of};
+use command_line::{Command, RenderOptions, Tells, command_of};
 use fv_io::{Files, Sink, Text};
 use serve_events::Record;
 use serve_stream::{Gate, Shared, Staff, Whole};
-use serve_text::{Stop, put_report_of, say_stop, say_usage};
+use serve_text::{Stop, put_journal_of, put_report_of, say_stop, say_usage};
 use std::alloc::{AllocError, Global};
 use std::sync::Wait;
 use std::thread::Threads;
@@ -44,22 +45,40 @@ fn staff_of(options: RenderOptions) -> Staff
     }
 }
 
-// The graph of a render, where its report is asked for.
-fn graph_of(done: Result<Whole, Stop>, report: bool) -> Result<Option<Shared>, Stop>
-    ensures { result ≡ graph_in report done }
-{
-    let Whole { frames: _, graph } = done?;
-    if report { Ok(Some(graph)) } else { Ok(None) }
+// What is told on standard error after a command.
+#[derive(Drop)]
+pub(crate) enum Telling {
+    Nothing,
+    // The report of the journal, by this graph.
+    Report(Shared),
+    // The journal, by so many workers.
+    Journal(u32),
 }
 
-// Does what a command asks for, by one worker. It answers the graph of a render whose report is asked for.
+// What is told of a render, by what is asked for.
+fn telling_of(done: Result<Whole, Stop>, tells: Tells) -> Result<Telling, Stop>
+    ensures { result ≡ told_in tells done }
+{
+    let Whole {
+        frames: _,
+        graph,
+        workers,
+    } = done?;
+    match tells {
+        Tells::Nothing => Ok(Telling::Nothing),
+        Tells::Report => Ok(Telling::Report(graph)),
+        Tells::Journal => Ok(Telling::Journal(workers)),
+    }
+}
+
+// Does what a command asks for, by one worker. It answers what is to be told after it.
 fn run_command_alone<F: Files, K: Sink>(
     alloc: Global,
     command: Command,
     files: &mut F,
     out: &mut K,
     journal: &mut Option<Record>,
-) -> Result<Option<Shared>, Stop>
+) -> Result<Telling, Stop>
     requires fits { IsFit command }
     requires none { journal.old ≡ None }
     ensures does { Does F.Files K.Sink files.old files.new out.old out.new journal.new plain_staff command result }
@@ -71,14 +90,14 @@ fn run_command_alone<F: Files, K: Sink>(
         Command::Render { script, options } => {
             let cache = options.cache.unwrap_or(CACHE);
             let done = render_alone(alloc, files, out, &script, cache, journal);
-            graph_of(done, options.report)
+            telling_of(done, options.tells)
         }
         Command::Info { script } => match put_info(alloc, files, out, &script) {
-            Ok(()) => Ok(None),
+            Ok(()) => Ok(Telling::Nothing),
             Err(stop) => Err(stop),
         },
         Command::SelfTest { number } => match put_self_test(alloc, out, number) {
-            Ok(()) => Ok(None),
+            Ok(()) => Ok(Telling::Nothing),
             Err(stop) => Err(stop),
         },
         Command::Session {
@@ -88,7 +107,18 @@ fn run_command_alone<F: Files, K: Sink>(
         } => {
             let cache = cache.unwrap_or(CACHE);
             match answer_list(alloc, files, out, &script, list, cache, journal) {
-                Ok(()) => Ok(None),
+                Ok(()) => Ok(Telling::Nothing),
+                Err(stop) => Err(stop),
+            }
+        }
+        Command::Replay {
+            script,
+            journal: name,
+            cache,
+        } => {
+            let cache = cache.unwrap_or(CACHE);
+            match put_replay(alloc, files, out, &script, name, cache) {
+                Ok(()) => Ok(Telling::Nothing),
                 Err(stop) => Err(stop),
             }
         }
@@ -104,7 +134,7 @@ fn run_command_together<R: Threads + Wait + Sync, G: Gate, F: Files, K: Sink>(
     files: &mut F,
     out: &mut K,
     journal: &mut Option<Record>,
-) -> Result<Option<Shared>, Stop>
+) -> Result<Telling, Stop>
     requires fits { IsFit command }
     requires none { journal.old ≡ None }
     ensures does { Does F.Files K.Sink files.old files.new out.old out.new journal.new staff_by command result }
@@ -126,14 +156,14 @@ fn run_command_together<R: Threads + Wait + Sync, G: Gate, F: Files, K: Sink>(
                 staff_of(options),
                 journal,
             );
-            graph_of(done, options.report)
+            telling_of(done, options.tells)
         }
         Command::Info { script } => match put_info(alloc, files, out, &script) {
-            Ok(()) => Ok(None),
+            Ok(()) => Ok(Telling::Nothing),
             Err(stop) => Err(stop),
         },
         Command::SelfTest { number } => match put_self_test(alloc, out, number) {
-            Ok(()) => Ok(None),
+            Ok(()) => Ok(Telling::Nothing),
             Err(stop) => Err(stop),
         },
         Command::Session {
@@ -143,22 +173,37 @@ fn run_command_together<R: Threads + Wait + Sync, G: Gate, F: Files, K: Sink>(
         } => {
             let cache = cache.unwrap_or(CACHE);
             match answer_list(alloc, files, out, &script, list, cache, journal) {
-                Ok(()) => Ok(None),
+                Ok(()) => Ok(Telling::Nothing),
+                Err(stop) => Err(stop),
+            }
+        }
+        Command::Replay {
+            script,
+            journal: name,
+            cache,
+        } => {
+            let cache = cache.unwrap_or(CACHE);
+            match put_replay(alloc, files, out, &script, name, cache) {
+                Ok(()) => Ok(Telling::Nothing),
                 Err(stop) => Err(stop),
             }
         }
     }
 }
 
-// Puts the report that is asked for, or says why a command stopped, where it did, and answers the status.
-fn finish<E: Sink>(err: &mut E, done: Result<Option<Shared>, Stop>, journal: &Option<Record>) -> u8
+// Puts the report or the journal that is asked for, or says why a command stopped, where it did, and answers the status.
+fn finish<E: Sink>(err: &mut E, done: Result<Telling, Stop>, journal: &Option<Record>) -> u8
     requires { HasLog done journal.now }
     ensures { Finishes E.Sink err.old err.new done journal.now result }
 {
     match done {
-        Ok(None) => 0,
-        Ok(Some(shared)) => match journal {
+        Ok(Telling::Nothing) => 0,
+        Ok(Telling::Report(shared)) => match journal {
             Some(journal) => put_report_of(err, shared.graph(), journal),
+            None => unreachable!(),
+        },
+        Ok(Telling::Journal(workers)) => match journal {
+            Some(journal) => put_journal_of(err, workers, journal),
             None => unreachable!(),
         },
         Err(stop) => {
@@ -169,15 +214,16 @@ fn finish<E: Sink>(err: &mut E, done: Result<Option<Shared>, Stop>, journal: &Op
 }
 
 /// Does what the words after the program's name ask for: the render of a script's clip, what is known of that clip, the
-/// self test, or a session over the clip. Where they break the rules on words the status is 1.
+/// self test, a session over the clip, or a replay of its journal. Where they break the rules on words the status is 1.
 ///
 /// A render has as many workers as the words or the script ask for, each in a thread of its own; one worker is the
-/// caller's thread. The workers pass the gate, which may hold them for a test. A session has one worker.
+/// caller's thread. The workers pass the gate, which may hold them for a test. A session has one worker. A render may
+/// print its journal, and a replay says whether a text is the journal of such a render.
 ///
 /// The status is 0 where the whole text was written; 1 where the words break the rules; 2 for a fault of the script; 3 for
-/// a fault of an input, or of a session's list; 4 where a read failed; 5 where a write failed; 6 where it is out of
-/// memory. Each status but 0 puts
-/// one line on `err`. A fault of `err` changes no status, but for that of a render whose report can't be put: that is 5.
+/// a fault of an input, of a session's list or of a replay's journal; 4 where a read failed; 5 where a write failed; 6
+/// where it is out of memory. Each status but 0 puts one line on `err`. A fault of `err` changes no status, but for that of
+/// a render whose report or journal can't be put: that is 5.
 /// A read that failed isn't tried again: where the status is 0 no fault of the files was counted.
 pub fn run<R: Threads + Wait + Sync, F: Files, K: Sink, E: Sink, G: Gate>(
     rt: &R,

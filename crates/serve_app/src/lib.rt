@@ -10,6 +10,7 @@ mod info;
 pub mod laws;
 mod play;
 mod render;
+mod replay;
 mod session;
 mod test_run;
 

@@ -14,18 +14,18 @@ use fv_io::{FetchFault, Files, Sink, Text};
 use fv_session::SessionFault;
 use serve_events::Record;
 use serve_stream::{SessionStop, answer_graph};
-use serve_text::{ListFault, Stop};
+use serve_text::{FileFault, Stop};
 use std::alloc::Global;
 use std::marker::{Brand, PhantomData};
 
-// Why the list of this name was not opened.
-fn unopened(fault: FetchFault, list: Text) -> Stop
-    ensures { result ≡ fetch_stop list fault }
+/// Why the file of this name was not opened.
+pub(crate) fn unopened(fault: FetchFault, name: Text) -> Stop
+    ensures { result ≡ fetch_stop name fault }
 {
     match fault {
-        FetchFault::NotThere => Stop::List {
-            name: list,
-            fault: ListFault::NotThere,
+        FetchFault::NotThere => Stop::File {
+            name,
+            fault: FileFault::NotThere,
         },
         FetchFault::Failed => Stop::Read,
         FetchFault::Memory => Stop::Memory,
@@ -40,13 +40,13 @@ fn ended(done: Result<(), SessionStop>, list: Text) -> Result<(), Stop>
         Ok(()) => Ok(()),
         Err(SessionStop::Stopped(stop)) => Err(stop),
         Err(SessionStop::ListFault(SessionFault::Read)) => Err(Stop::Read),
-        Err(SessionStop::ListFault(SessionFault::LineTooLong)) => Err(Stop::List {
+        Err(SessionStop::ListFault(SessionFault::LineTooLong)) => Err(Stop::File {
             name: list,
-            fault: ListFault::LineTooLong,
+            fault: FileFault::LineTooLong,
         }),
-        Err(SessionStop::ListFault(SessionFault::TooManyLines)) => Err(Stop::List {
+        Err(SessionStop::ListFault(SessionFault::TooManyLines)) => Err(Stop::File {
             name: list,
-            fault: ListFault::TooManyLines,
+            fault: FileFault::TooManyLines,
         }),
     }
 }

@@ -14,7 +14,7 @@ use Rattle.prefetch.specs.declared.stops.RenderStop.{RenderStop}
 use Rattle.prefetch.specs.declared.stops.RenderStop.TheVariants.{Stopped, Write, Memory}
 use Rattle.prefetch.specs.Journal.{AreFirst, AreCut}
 use Rattle.prefetch.specs.CrewJournal.{AreCrewFirst, AreCrewCut}
-use Rattle.prefetch.specs.Windows.{frames_at, Stays, RenderEnds, RenderStops, CrewStops}
+use Rattle.prefetch.specs.Windows.{frames_at, Stays, RenderEnds, RendersAll, RenderStops, CrewRendersAll, CrewStops}
 use Rattle.serve_stream.specs.ByWorkers.{IsFirstBy, IsCutBy}
 use Rattle.serve_stream.specs.Renders.{hands_at, RendersBy, StopsBy}
 use Rattle.serve_stream.specs.Cores.{IsTold}
@@ -56,6 +56,28 @@ module _ {S K : Type 0} (of : of_source.Ghosts S) (c : CoreValue (Instance S)) (
     journal = first shown.count shown.journal;
   }
 
+  -- a whole render by one worker
+  pub alone_renders : c.fixed.workers ≡ 1 → (done : Result (Unit {0}) RenderStop)
+      → OnOk done (RendersAll holds_of (feed_of of) (faults_of of) (Ends of) c sink old new window windows d) → OnOk done (RendersBy of c sink old new window windows d)
+  alone_renders one (Ok u) all = record {
+    stays = all.stays;
+    put = all.put;
+    journal = record { alone = λ is. all.journal.serial; crew = λ some. (keys_of c.table, all.journal.crew) };
+    steady = all.steady;
+  }
+  alone_renders one (Err stop) all = tt
+
+  -- and by several
+  pub together_renders : 1 < c.fixed.workers → (done : Result (Unit {0}) RenderStop)
+      → OnOk done (CrewRendersAll holds_of (feed_of of) (faults_of of) (Ends of) c sink old new window windows d) → OnOk done (RendersBy of c sink old new window windows d)
+  together_renders several (Ok u) all = record {
+    stays = all.stays;
+    put = all.put;
+    journal = record { alone = λ one. absurd (omega (arith, one, several)); crew = λ some. (keys_of c.table, all.journal) };
+    steady = all.steady;
+  }
+  together_renders several (Err stop) all = tt
+
   -- the stop of a render by one worker
   pub alone_stops : c.fixed.workers ≡ 1 → (done : Result (Unit {0}) RenderStop)
       → IfErr done (RenderStops holds_of (feed_of of) (faults_of of) (Ends of) c sink old new window windows d) → IfErr done (StopsBy of c sink old new window windows d)
@@ -80,12 +102,12 @@ module _ {S K : Type 0} (of : of_source.Ghosts S) (c : CoreValue (Instance S)) (
   stays_by (Err Memory) whole stopped = stopped.stays
 
   -- where all was put no instance has failed
-  pub steady_by : (done : Result (Unit {0}) RenderStop) (plan : List Application) (frames : ℕ) (graph : List Application) (answer : Result Whole Stop) → OnOk done (RendersBy of c sink old new window windows d) → IsTold plan done frames graph answer
+  pub steady_by : (done : Result (Unit {0}) RenderStop) (plan : List Application) (workers frames : ℕ) (graph : List Application) (answer : Result Whole Stop) → OnOk done (RendersBy of c sink old new window windows d) → IsTold plan workers done frames graph answer
       → OnOk answer (counts_in (faults_of of) d.table ≡ counts_in (faults_of of) c.table)
-  steady_by (Ok u) plan frames graph (Ok all) whole told = whole.steady
-  steady_by (Ok u) plan frames graph (Err stop) whole told = absurd told
-  steady_by (Err why) plan frames graph (Ok all) whole told = absurd told
-  steady_by (Err why) plan frames graph (Err stop) whole told = tt
+  steady_by (Ok u) plan workers frames graph (Ok all) whole told = whole.steady
+  steady_by (Ok u) plan workers frames graph (Err stop) whole told = absurd told
+  steady_by (Err why) plan workers frames graph (Ok all) whole told = absurd told
+  steady_by (Err why) plan workers frames graph (Err stop) whole told = tt
 
   -- the stop names a source of its plan
   pub named_by : (done : Result (Unit {0}) RenderStop) → IfErr done (StopsBy of c sink old new window windows d) → IfErr done (NamesSource d.fixed.plan)

@@ -93,7 +93,7 @@ begins_itself plan root capacity by total windows some whole = record {
     windows_are = sym (whole.alone one);
     next_is = (let goes = next_after plan root capacity by.window total total some in let low = goes.0 in let high = goes.1 in omega (arith, low, high));
   };
-  crew = whole.crew;
+  crew = λ several. whole.crew (omega (arith, several));
 }
 
 -- the stop of a worker is told as it is
@@ -262,12 +262,13 @@ module _ {S K : Type 0} (of : of_source.Ghosts S) (sink : Ghosts K) (c : CoreVal
   head_of_stop log d told Write shown = let begun = shown.begun in head_then begun.0 begun.1
   head_of_stop log d told Memory shown = let first = shown.put in head_then (pictures_text first.pictures) first.put
 
-  streamed_whole : (log : Record) (d : CoreValue (Instance S)) (all : Whole) → 0 < window → all ≡ record { frames = frames_at c.fixed.plan c.fixed.root; graph = c.fixed.plan } → RendersBy of c sink mid new window (windows_of log) d
+  streamed_whole : (log : Record) (d : CoreValue (Instance S)) (all : Whole) → 0 < window → all ≡ record { frames = frames_at c.fixed.plan c.fixed.root; workers = c.fixed.workers; graph = c.fixed.plan } → RendersBy of c sink mid new window (windows_of log) d
       → IsStreamed (faults_of of) c.fixed.plan c.fixed.root c.fixed.capacity (hands_at c window) (book_at of c) sink old new (Some log) d.table (Ok all)
   streamed_whole log d all some is whole = record {
     put = subst (PutsFrames sink c.fixed.plan c.fixed.root (book_at of c) old new) (sym (ap (λ (x : Whole). x.frames) is)) (all_put whole);
     frames = ap (λ (x : Whole). x.frames) is;
     graph = ap (λ (x : Whole). x.graph) is;
+    workers = ap (λ (x : Whole). x.workers) is;
     stop = tt;
     rendered = record { log = log; there = refl; whole = whole.journal };
     cut = whole_short log d some whole;
@@ -280,6 +281,7 @@ module _ {S K : Type 0} (of : of_source.Ghosts S) (sink : Ghosts K) (c : CoreVal
     put = tt;
     frames = tt;
     graph = tt;
+    workers = tt;
     stop = stream_stops (windows_of log) d why told later stopped is;
     rendered = tt;
     cut = cut_short log d why told later stopped is;
@@ -288,9 +290,10 @@ module _ {S K : Type 0} (of : of_source.Ghosts S) (sink : Ghosts K) (c : CoreVal
 
   streamed_by : (log : Record) (d : CoreValue (Instance S)) (done : Result (Unit {0}) RenderStop) (answer : Result Whole Stop) → 0 < window → IsLater sink old mid
       → OnOk done (RendersBy of c sink mid new window (windows_of log) d) → IfErr done (StopsBy of c sink mid new window (windows_of log) d)
-      → IsTold d.fixed.plan done (frames_at c.fixed.plan c.fixed.root) c.fixed.plan answer
+      → IsTold d.fixed.plan d.fixed.workers done (frames_at c.fixed.plan c.fixed.root) c.fixed.plan answer
       → IsStreamed (faults_of of) c.fixed.plan c.fixed.root c.fixed.capacity (hands_at c window) (book_at of c) sink old new (Some log) d.table answer
-  streamed_by log d (Ok u) (Ok all) some later whole stopped is = streamed_whole log d all some is whole
+  streamed_by log d (Ok u) (Ok all) some later whole stopped is =
+      streamed_whole log d all some (is ∙ ap (λ n. record { frames = frames_at c.fixed.plan c.fixed.root; workers = n; graph = c.fixed.plan }) whole.stays.workers) whole
   streamed_by log d (Ok u) (Err told) some later whole stopped is = absurd is
   streamed_by log d (Err why) (Ok all) some later whole stopped is = absurd is
   streamed_by log d (Err why) (Err told) some later whole stopped is =
@@ -304,7 +307,7 @@ module _ {K : Type 0} (sink : Ghosts K) (old new : K) where
   head_stops of plan root table (of_stop.Script kind name line) shown = absurd shown
   head_stops of plan root table (of_stop.Input name fault) shown = absurd shown
   head_stops of plan root table (of_stop.Changed name frame want got) shown = absurd shown
-  head_stops of plan root table (of_stop.List name fault) shown = absurd shown
+  head_stops of plan root table (of_stop.File name fault) shown = absurd shown
   head_stops of plan root table of_stop.Read shown = absurd shown
   head_stops of plan root table of_stop.Write shown = (
     shown.0,
@@ -319,7 +322,7 @@ module _ {K : Type 0} (sink : Ghosts K) (old new : K) where
   head_unput info (of_stop.Script kind name line) shown = absurd shown
   head_unput info (of_stop.Input name fault) shown = absurd shown
   head_unput info (of_stop.Changed name frame want got) shown = absurd shown
-  head_unput info (of_stop.List name fault) shown = absurd shown
+  head_unput info (of_stop.File name fault) shown = absurd shown
   head_unput info of_stop.Read shown = absurd shown
   head_unput info of_stop.Write shown = inr (refl, record { info = info; is = refl; failed = shown.0; cut = shown.1 })
   head_unput info of_stop.Memory shown = inl (ap sink.bytes shown)
@@ -335,6 +338,7 @@ module _ {S K : Type 0} (of : of_source.Ghosts S) (sink : Ghosts K) (c : CoreVal
         put = tt;
         frames = tt;
         graph = tt;
+        workers = tt;
         stop = head_stops sink old new of c.fixed.plan c.fixed.root c.table stop there;
         rendered = tt;
         cut = tt;
@@ -344,8 +348,8 @@ module _ {S K : Type 0} (of : of_source.Ghosts S) (sink : Ghosts K) (c : CoreVal
   -- what is left after the head and a render
   pub streamed : (old mid new : K) (log : Record) (d : CoreValue (Instance S)) (done : Result (Unit {0}) RenderStop) (graph : List Application) (answer : Result Whole Stop)
       → 0 < window → StandsForSources of c → info ≡ (application_at c.fixed.plan c.fixed.root).info → Puts sink old mid (head info) → IsLater sink old mid → graph ≡ c.fixed.plan
-      → OnOk done (RendersBy of c sink mid new window (windows_of log) d) → IfErr done (StopsBy of c sink mid new window (windows_of log) d) → IsTold d.fixed.plan done info.frames graph answer
+      → OnOk done (RendersBy of c sink mid new window (windows_of log) d) → IfErr done (StopsBy of c sink mid new window (windows_of log) d) → IsTold d.fixed.plan d.fixed.workers done info.frames graph answer
       → IsStreamed (faults_of of) c.fixed.plan c.fixed.root c.fixed.capacity (hands_at c window) (book_at of c) sink old new (Some log) d.table answer
   streamed old mid new log d done graph answer some stands same headed later graph_is whole stopped is =
       streamed_by of sink c old mid new window stands (rw same at headed) log d done answer some later whole stopped
-      (subst (λ frames. IsTold d.fixed.plan done frames c.fixed.plan answer) (ap (λ (i : Info). i.frames) same) (subst (λ g. IsTold d.fixed.plan done info.frames g answer) graph_is is))
+      (subst (λ frames. IsTold d.fixed.plan d.fixed.workers done frames c.fixed.plan answer) (ap (λ (i : Info). i.frames) same) (subst (λ g. IsTold d.fixed.plan d.fixed.workers done info.frames g answer) graph_is is))

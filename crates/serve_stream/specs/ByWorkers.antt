@@ -1,5 +1,5 @@
 -- The journal of a render, by the number of its workers: one worker makes the serial run, and several make runs of the
--- machine in which each does whole work.
+-- machine in which each does whole work. The whole serial run is of such runs too.
 use Rattle.std.specs.Prelude.{◌≡◌, ℕ, ◌<◌, true, List, Option, Some, None}
 use Rattle.clip_graph.specs.Plan.{Application}
 use Rattle.inst_table.specs.declared.place.Place.{Place}
@@ -14,7 +14,7 @@ module _ (plan : List Application) (root capacity : ℕ) (by : Hands) (total : �
   -- the windows of the whole render
   pub record IsWholeBy (windows : List WindowEvents) : Type 0 where
     pub alone : by.workers ≡ 1 → IsWholeJournal plan root capacity by.window total windows
-    pub crew : 1 < by.workers
+    pub crew : 0 < by.workers
         → (places : List Place) × AreCrewFirst plan root capacity by.workers places by.window total windows total
 
   -- whole windows with the first n outputs

@@ -57,7 +57,7 @@ module _ {K : Type 0} (sink : Ghosts K) (plan : List Application) (root : ℕ) (
     StreamShows (of_stop.Input name fault) = ⊥
     StreamShows (of_stop.Changed name frame want got) =
         ((pictures : List (List Picture)) → book ≡ Some pictures → ⊥) × EndsInFrame sink old new frame want got
-    StreamShows (of_stop.List name fault) = ⊥
+    StreamShows (of_stop.File name fault) = ⊥
     StreamShows of_stop.Read = SomeFailed faults table × PutsSome
     StreamShows of_stop.Write = SinkFailed sink old new
         × ((clip : Clip) → IsClipOf plan root book clip → PutsPrefix sink old new (stream clip))

@@ -38,9 +38,10 @@ module _ {S : Type 0} (of : Ghosts S) (c : CoreValue (Instance S)) where
     pub book_is : book_at ≡ book_told of sources
     pub stands : StandsForSources
 
--- how a render that is over is told
-abbrev pub IsTold : List Application → Result (Unit {0}) RenderStop → ℕ → List Application → Result Whole Stop → Type 0
-IsTold plan (Ok u) frames graph (Ok all) = all ≡ record { frames = frames; graph = graph }
-IsTold plan (Ok u) frames graph (Err stop) = ⊥
-IsTold plan (Err why) frames graph (Ok all) = ⊥
-IsTold plan (Err why) frames graph (Err stop) = ToldAs plan why stop
+-- how a render by so many workers that is over is told
+abbrev pub IsTold : List Application → ℕ → Result (Unit {0}) RenderStop → ℕ → List Application → Result Whole Stop → Type 0
+IsTold plan workers (Ok u) frames graph (Ok all) =
+    all ≡ record { frames = frames; workers = workers; graph = graph }
+IsTold plan workers (Ok u) frames graph (Err stop) = ⊥
+IsTold plan workers (Err why) frames graph (Ok all) = ⊥
+IsTold plan workers (Err why) frames graph (Err stop) = ToldAs plan why stop

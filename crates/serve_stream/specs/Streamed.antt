@@ -22,6 +22,7 @@ module _ {I K : Type 0} (faults : I → ℕ) (plan : List Application) (root cap
     pub put : IfOk done (λ all. PutsFrames sink plan root book old new all.frames)
     pub frames : IfOk done (λ all. all.frames ≡ frames_at plan root)
     pub graph : IfOk done (λ all. all.graph ≡ plan)
+    pub workers : IfOk done (λ all. all.workers ≡ by.workers)
     pub stop : IfErr done (StreamShows sink plan root book old new faults table)
     -- the journal is that of the whole render, or the beginning of it; there is one where the head was put
     pub rendered : OnOk done (IsRendered plan root capacity by journal)

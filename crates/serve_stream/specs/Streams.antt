@@ -22,7 +22,7 @@ abbrev pub HeadStops : {K : Type 0} → Ghosts K → K → K → List ℕ → St
 HeadStops sink old new text (of_stop.Script kind name line) = ⊥
 HeadStops sink old new text (of_stop.Input name fault) = ⊥
 HeadStops sink old new text (of_stop.Changed name frame want got) = ⊥
-HeadStops sink old new text (of_stop.List name fault) = ⊥
+HeadStops sink old new text (of_stop.File name fault) = ⊥
 HeadStops sink old new text of_stop.Read = ⊥
 HeadStops sink old new text of_stop.Write = SinkFailed sink old new × PutsPrefix sink old new text
 HeadStops sink old new text of_stop.Memory = new ≡ old

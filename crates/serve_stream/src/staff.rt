@@ -26,6 +26,7 @@ impl Staff {
         requires { IsStaff self }
         ensures hands { result ≡ hands self crew }
         ensures some { 1 ≤ result.workers }
+        ensures most { result.workers ≤ 16 }
         ensures some_outputs { 1 ≤ result.window }
         ensures few { result.window ≤ 32 }
     {
@@ -49,6 +50,7 @@ impl Staff {
 fn by_script(crew: Option<Crew>) -> Hands
     ensures hands { result ≡ hands_asked None crew }
     ensures some { 1 ≤ result.workers }
+    ensures most { result.workers ≤ 16 }
     ensures some_outputs { 1 ≤ result.window }
     ensures few { result.window ≤ 32 }
 {

@@ -101,18 +101,23 @@ fn whole_of<S: Source>(
     graph: Shared,
 ) -> Result<Whole, Stop>
     requires named { IfErr done (NamesSource core.now.fixed.plan) }
-    ensures { IsTold core.now.fixed.plan done frames graph result }
+    ensures { IsTold core.now.fixed.plan core.now.fixed.workers done frames graph result }
 {
     match done {
-        Ok(()) => Ok(Whole { frames, graph }),
+        Ok(()) => Ok(Whole {
+            frames,
+            workers: core.workers(),
+            graph,
+        }),
         Err(stop) => Err(told_stop(alloc, core, stop)),
     }
 }
 
-/// A clip whose frames were all put: how many there are, and its graph, which the core shared.
+/// A clip whose frames were all put: how many there are, by how many workers, and its graph, which the core shared.
 #[derive(Drop)]
 pub struct Whole {
     pub frames: u32,
+    pub workers: u32,
     pub graph: Shared,
 }
 

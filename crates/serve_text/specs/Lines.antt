@@ -12,13 +12,13 @@ use Rattle.avs_meaning.specs.declared.fault.InputFault.{InputFault}
 use Rattle.avs_meaning.specs.declared.fault.InputFault.TheVariants as of_input
 use Rattle.avs_meaning.specs.declared.fault.ScriptKind.{ScriptKind}
 use Rattle.avs_meaning.specs.declared.fault.ScriptKind.TheVariants as k
-use Rattle.serve_text.specs.declared.stop.ListFault.{ListFault}
-use Rattle.serve_text.specs.declared.stop.ListFault.TheVariants as of_list
+use Rattle.serve_text.specs.declared.stop.FileFault.{FileFault}
+use Rattle.serve_text.specs.declared.stop.FileFault.TheVariants as of_file
 use Rattle.serve_text.specs.declared.stop.Stop.{Stop}
 use Rattle.serve_text.specs.declared.stop.Stop.TheVariants as of_stop
 
 abbrev pub usage_line : List ℕ
-usage_line = codes "usage: avsserve render SCRIPT [--cache C] [--threads T] [--report] [--plain] | info SCRIPT | selftest NUMBER | session SCRIPT LIST [--cache C]\n"
+usage_line = codes "usage: avsserve render SCRIPT [--cache C] [--threads T] [--report | --journal] [--plain] | info SCRIPT | selftest NUMBER | session SCRIPT LIST [--cache C] | replay SCRIPT JOURNAL [--cache C]\n"
 
 abbrev pub read_line : List ℕ
 read_line = codes "read fault\n"
@@ -54,10 +54,11 @@ abbrev pub changed_kind : ℕ → ℕ → ℕ → List ℕ
 changed_kind frame want got =
     codes "Changed " ++ (decimal frame ++ (codes " want " ++ (decimal want ++ (codes " got " ++ decimal got))))
 
-abbrev pub list_kind : ListFault → List ℕ
-list_kind of_list.NotThere = codes "NotThere"
-list_kind of_list.LineTooLong = codes "LineTooLong"
-list_kind of_list.TooManyLines = codes "TooManyLines"
+abbrev pub file_kind : FileFault → List ℕ
+file_kind of_file.NotThere = codes "NotThere"
+file_kind of_file.LineTooLong = codes "LineTooLong"
+file_kind of_file.TooManyLines = codes "TooManyLines"
+file_kind of_file.JournalTooLong = codes "JournalTooLong"
 
 -- the fault of the text of this name at a line
 abbrev pub script_line : ScriptKind → List ℕ → ℕ → List ℕ
@@ -76,7 +77,7 @@ abbrev pub stop_line : Stop → List ℕ
 stop_line (of_stop.Script kind name line) = script_line kind name line
 stop_line (of_stop.Input name fault) = input_line name fault
 stop_line (of_stop.Changed name frame want got) = file_line name (changed_kind frame want got)
-stop_line (of_stop.List name fault) = file_line name (list_kind fault)
+stop_line (of_stop.File name fault) = file_line name (file_kind fault)
 stop_line of_stop.Read = read_line
 stop_line of_stop.Write = write_line
 stop_line of_stop.Memory = memory_line

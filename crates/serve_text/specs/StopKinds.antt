@@ -3,13 +3,13 @@ use Rattle.std.specs.Prelude.{ℕ}
 use Rattle.avs_meaning.specs.declared.stop.ScriptStop.{ScriptStop}
 use Rattle.avs_meaning.specs.declared.stop.ScriptStop.TheVariants as of_script
 use Rattle.serve_text.specs.declared.stop.Stop.{Stop}
-use Rattle.serve_text.specs.declared.stop.Stop.TheVariants.{Script, Input, Changed, List, Read, Write, Memory}
+use Rattle.serve_text.specs.declared.stop.Stop.TheVariants.{Script, Input, Changed, File, Read, Write, Memory}
 
 abbrev pub status_of_stop : Stop → ℕ
 status_of_stop (Script kind name line) = 2
 status_of_stop (Input name fault) = 3
 status_of_stop (Changed name frame want got) = 3
-status_of_stop (List name fault) = 3
+status_of_stop (File name fault) = 3
 status_of_stop Read = 4
 status_of_stop Write = 5
 status_of_stop Memory = 6

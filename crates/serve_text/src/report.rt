@@ -1,20 +1,26 @@
-// The report of a render, on standard error.
+// The report of a render, or its journal, on standard error.
+ghost use Rattle.std.specs.Prelude.{◌≡◌, OnOk, OnErr};
+ghost use Rattle.std.specs.List.{AllByRecursion};
+ghost use Rattle.serve_text.specs.Lines.{Says, write_line};
 ghost use Rattle.serve_text.specs.Reports.{Reports};
 ghost use Rattle.serve_events.specs.Windows.{windows_of};
 ghost use Rattle.serve_text.specs.Report.{report};
+ghost use Rattle.run_text.specs.Lines.{LineFits, journal_lines, journal_text};
 
 use crate::lines::put_report;
 use crate::say::say_stop;
 use crate::stop::Stop;
 use clip_graph::Graph;
 use fv_io::{Failed, Sink};
+use run_print::print_journal;
 use serve_events::Record;
 
-/// Puts the report of a journal and answers the status. Where it can't be put whole, it says so.
-pub fn put_report_of<E: Sink>(err: &mut E, graph: &Graph, journal: &Record) -> u8
-    ensures { Reports E.Sink err.old err.new (report graph.now (windows_of journal.now)) result }
+// The status of a text that was put, or of one that wasn't, of which it says so.
+fn status_of<E: Sink>(err: &mut E, done: Result<(), Failed>) -> u8
+    ensures put { OnOk done ((result ≡ 0) × (err.new ≡ err.old)) }
+    ensures cut { OnErr done ((result ≡ 5) × Says E.Sink err.old err.new write_line) }
 {
-    match put_report(err, graph, journal) {
+    match done {
         Ok(()) => 0,
         Err(Failed) => {
             let stop = Stop::Write;
@@ -22,4 +28,22 @@ pub fn put_report_of<E: Sink>(err: &mut E, graph: &Graph, journal: &Record) -> u
             stop.status()
         }
     }
+}
+
+/// Puts the report of a journal and answers the status. Where it can't be put whole, it says so.
+pub fn put_report_of<E: Sink>(err: &mut E, graph: &Graph, journal: &Record) -> u8
+    ensures { Reports E.Sink err.old err.new (report graph.now (windows_of journal.now)) result }
+{
+    let done = put_report(err, graph, journal);
+    status_of(err, done)
+}
+
+/// Puts the text of a journal by so many workers and answers the status. Where it can't be put whole, it says so. Where it
+/// was, each number fits its line.
+pub fn put_journal_of<E: Sink>(err: &mut E, workers: u32, journal: &Record) -> u8
+    ensures put { Reports E.Sink err.old err.new (journal_text workers (windows_of journal.now)) result }
+    ensures fits { result ≡ 0 → AllByRecursion LineFits (journal_lines workers (windows_of journal.now)) }
+{
+    let done = print_journal(err, workers, journal);
+    status_of(err, done)
 }

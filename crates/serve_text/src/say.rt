@@ -9,7 +9,7 @@ use itoa::Buffer;
 use y4m_stream::Y4mFault;
 
 const USAGE: &str =
-    "usage: avsserve render SCRIPT [--cache C] [--threads T] [--report] [--plain] | info SCRIPT | selftest NUMBER | session SCRIPT LIST [--cache C]\n";
+    "usage: avsserve render SCRIPT [--cache C] [--threads T] [--report | --journal] [--plain] | info SCRIPT | selftest NUMBER | session SCRIPT LIST [--cache C] | replay SCRIPT JOURNAL [--cache C]\n";
 
 // Puts the pieces one after the other, up to the first put that fails.
 fn say<E: Sink>(err: &mut E, pieces: &[&str])
@@ -174,7 +174,7 @@ pub fn say_stop<E: Sink>(err: &mut E, stop: &Stop)
             want,
             got,
         } => say_changed(err, name, *frame, *want, *got),
-        Stop::List { name, fault } => say_input_kind(err, name, fault.name()),
+        Stop::File { name, fault } => say_input_kind(err, name, fault.name()),
         Stop::Read => say(err, &["read fault\n"]),
         Stop::Write => say(err, &["write fault\n"]),
         Stop::Memory => say(err, &["no memory\n"]),

@@ -1,4 +1,4 @@
-// `Stop`: why a run ends early, with its exit status, and `ListFault`.
+// `Stop`: why a run ends early, with its exit status, and `FileFault`.
 ghost use Rattle.std.specs.Prelude.{◌≡◌};
 ghost use Rattle.serve_text.specs.StopKinds.{status_of_stop};
 
@@ -6,29 +6,32 @@ use avs_meaning::{InputFault, ScriptKind, ScriptStop};
 use fv_io::Text;
 use std::alloc::AllocError;
 
-/// Why a list can't be read as requests.
+/// Why a file can't be read as a list of requests, or as a journal.
 #[derive(Clone, Copy, Debug, PartialEq, Eq)]
-pub enum ListFault {
+pub enum FileFault {
     /// There is no file of this name.
     NotThere,
-    /// A line has too many bytes.
+    /// A line of a list has too many bytes.
     LineTooLong,
-    /// It has too many lines.
+    /// A list has too many lines.
     TooManyLines,
+    /// A journal has too many bytes.
+    JournalTooLong,
 }
 
-impl ListFault {
+impl FileFault {
     ghost use Rattle.std.specs.Prelude.{◌≡◌};
-    ghost use Rattle.serve_text.specs.Lines.{list_kind};
+    ghost use Rattle.serve_text.specs.Lines.{file_kind};
 
     /// The name of the fault as it is printed.
     pub fn name(self) -> &'static str
-        ensures { result.now ≡ list_kind self }
+        ensures { result.now ≡ file_kind self }
     {
         match self {
-            ListFault::NotThere => "NotThere",
-            ListFault::LineTooLong => "LineTooLong",
-            ListFault::TooManyLines => "TooManyLines",
+            FileFault::NotThere => "NotThere",
+            FileFault::LineTooLong => "LineTooLong",
+            FileFault::TooManyLines => "TooManyLines",
+            FileFault::JournalTooLong => "JournalTooLong",
         }
     }
 }
@@ -55,10 +58,10 @@ pub enum Stop {
         want: u64,
         got: u64,
     },
-    /// The file of this name is no list of requests.
-    List {
+    /// The file of this name is no list of requests, or no text for a journal.
+    File {
         name: Text,
-        fault: ListFault,
+        fault: FileFault,
     },
     /// A read failed.
     Read,
@@ -77,7 +80,7 @@ impl Stop {
             Stop::Script { .. } => 2,
             Stop::Input { .. } => 3,
             Stop::Changed { .. } => 3,
-            Stop::List { .. } => 3,
+            Stop::File { .. } => 3,
             Stop::Read => 4,
             Stop::Write => 5,
             Stop::Memory => 6,

@@ -1,7 +1,8 @@
--- What other crates may cite: the frames that a furnished table tells, how many sources it has, and how often these have
--- failed.
+-- What other crates may cite: the frames that a furnished table tells, how many sources it has, how often these have
+-- failed, and its places.
 use Rattle.std.proofs.Common.{◌≡◌, ℕ, suc, ◌+◌, ◌<◌, true, false, if◌then◌else◌, List, [], ◌∷◌, ◌++◌, length, map, take, slice_get, Option, Some, None, sym, refl, ap, ◌∙◌, subst, ⊎_elim, arith}
 use Rattle.std.specs.List.{cons_option}
+use Rattle.std.specs.Map.{keys_of}
 use Rattle.std.proofs.lemmas.List.{length-append, map-append}
 use Rattle.std.proofs.lemmas.List.Recursion.{is_count_by}
 use Rattle.fv_io.specs.declared.source.Source.{Ghosts}
@@ -100,12 +101,12 @@ count_held ((p, Free (Source it)) ∷ es) free = length-append (sources_in es) (
 count_held ((p, Leased w) ∷ es) free = absurd free
 
 -- the numbers beside the infos that are there, the last first
-abbrev beside : List (Option Info) → List ℕ → List ℕ
+abbrev beside : List (Place × Option Info) → List ℕ → List ℕ
 beside [] ns = []
-beside (None ∷ infos) [] = []
-beside (None ∷ infos) (n ∷ ns) = beside infos ns
-beside (Some info ∷ infos) [] = []
-beside (Some info ∷ infos) (n ∷ ns) = beside infos ns ++ n ∷ []
+beside ((p, None) ∷ infos) [] = []
+beside ((p, None) ∷ infos) (n ∷ ns) = beside infos ns
+beside ((p, Some info) ∷ infos) [] = []
+beside ((p, Some info) ∷ infos) (n ∷ ns) = beside infos ns ++ n ∷ []
 
 counts_beside : {S : Type 0} (of : Ghosts S) (table : List (Place × Slot (Instance S))) → AllFree table → fault_counts of (sources_in table) ≡ beside (held_in holds_of table) (counts_in (faults_of of) table)
 counts_beside of [] free = refl
@@ -118,3 +119,12 @@ counts_beside of ((p, Leased w) ∷ es) free = absurd free
 pub same_counts : {S : Type 0} (of : Ghosts S) (es fs : List (Place × Slot (Instance S))) → AllFree es → AllFree fs → held_in holds_of fs ≡ held_in holds_of es → counts_in (faults_of of) fs ≡ counts_in (faults_of of) es
     → fault_counts of (sources_in fs) ≡ fault_counts of (sources_in es)
 same_counts of es fs free free' held counts = counts_beside of fs free' ∙ ((λ i. beside (held i) (counts i)) ∙ sym (counts_beside of es free))
+
+-- a table that keeps the same has the same places
+places_in : {I : Type 0} (holds : I → Option Info) (es : List (Place × Slot I)) → keys_of (held_in holds es) ≡ keys_of es
+places_in holds [] = refl
+places_in holds ((p, Free x) ∷ es) = ap (λ ps. p ∷ ps) (places_in holds es)
+places_in holds ((p, Leased w) ∷ es) = ap (λ ps. p ∷ ps) (places_in holds es)
+
+pub places_kept : {I : Type 0} (holds : I → Option Info) (es fs : List (Place × Slot I)) → held_in holds fs ≡ held_in holds es → keys_of fs ≡ keys_of es
+places_kept holds es fs held = sym (places_in holds fs) ∙ (ap keys_of held ∙ places_in holds es)

@@ -39,7 +39,7 @@ module _ {I : Type 0} where
   pub held_put : (holds : I → Option Info) (p : Place) (x y : I) (es : List (Place × Slot I)) → slot_at p es ≡ Some (Free x) → holds y ≡ holds x → held_in holds (with_slot p (Free y) es) ≡ held_in holds es
   held_put holds p x y [] at same = refl
   held_put holds p x y ((q, s) ∷ es) at same = ⊎_elim
-      (λ (e : same_place p q ≡ true). let at' : Some s ≡ Some (Free x) = rw e at at in let is : s ≡ Free x = some_same at' in rw e (ap (λ o. o ∷ held_in holds es) (same ∙ sym (ap (λ z. held_at holds (q, z)) is))))
+      (λ (e : same_place p q ≡ true). let at' : Some s ≡ Some (Free x) = rw e at at in let is : s ≡ Free x = some_same at' in rw e (ap (λ o. o ∷ held_in holds es) (ap (λ o. (q, o)) same ∙ sym (ap (λ z. held_at holds (q, z)) is))))
       (λ (e : same_place p q ≡ false). rw e (ap (λ l. held_at holds (q, s) ∷ l) (held_put holds p x y es (rw e at at) same))) (test (same_place p q))
 
   -- an instance that has failed as often

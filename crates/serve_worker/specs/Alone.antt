@@ -18,12 +18,12 @@ AllFree [] = Unit {0}
 AllFree ((p, Free x) ∷ es) = AllFree es
 AllFree ((p, Leased w) ∷ es) = ⊥
 
--- the info of the source that each instance in the table keeps, where it keeps one
-abbrev pub held_at : {I : Type 0} → (I → Option Info) → Place × Slot I → Option Info
-held_at holds (p, Free x) = holds x
-held_at holds (p, Leased w) = None
+-- the places of the table, each with the info of the source that the instance there keeps, where it keeps one
+abbrev pub held_at : {I : Type 0} → (I → Option Info) → Place × Slot I → Place × Option Info
+held_at holds (p, Free x) = (p, holds x)
+held_at holds (p, Leased w) = (p, None)
 
-abbrev pub held_in : {I : Type 0} → (I → Option Info) → List (Place × Slot I) → List (Option Info)
+abbrev pub held_in : {I : Type 0} → (I → Option Info) → List (Place × Slot I) → List (Place × Option Info)
 held_in holds table = map (held_at holds) table
 
 -- how often each instance in the table has failed

@@ -27,11 +27,11 @@ sources_in ((p, Leased w) ∷ es) = sources_in es
 abbrev pub fault_counts : {S : Type 0} → Ghosts S → List (FrameSource S) → List ℕ
 fault_counts of sources = map (λ it. of.faults it.source) sources
 
--- how many infos are there
-abbrev pub some_in : List (Option Info) → ℕ
+-- how many places have an info
+abbrev pub some_in : List (Place × Option Info) → ℕ
 some_in [] = 0
-some_in (None ∷ infos) = some_in infos
-some_in (Some info ∷ infos) = some_in infos + 1
+some_in ((p, None) ∷ infos) = some_in infos
+some_in ((p, Some info) ∷ infos) = some_in infos + 1
 
 -- what a node keeps that is no source: a filter of the group Soft a scratch with no row, others nothing
 abbrev pub filter_instance : {S : Type 0} → Act → Instance S

@@ -21,18 +21,19 @@ one_more old a new app rule has is own adds = record {
   own = adds.globals ∙ ap₂ (λ b c. b || c) has.own own;
 }
 
-has_all : (c : goal.After-arg-5) → IfOk c.arg-5.result (Has render_app)
+has_all : (c : goal.After-arg-6) → IfOk c.arg-6.result (Has render_app)
 has_all c =
     let none : Has (new_app (codes "render")) c.new.result = record { told = c.new.ensures.app; own = c.new.ensures.local } in
     let one = one_more c.new.result c.operand.result c.in_ok-arg.field-0 _ operand_rule none c.operand.ensures.rule c.operand.ensures.own c.in_ok-arg.ensures in
     let two = one_more c.in_ok-arg.field-0 c.valued.result c.in_ok-arg-2.field-0 _ (valued_rule (codes "cache")) one c.valued.ensures.rule c.valued.ensures.own c.in_ok-arg-2.ensures in
     let three = one_more c.in_ok-arg-2.field-0 c.valued-2.result c.in_ok-arg-3.field-0 _ (valued_rule (codes "threads")) two c.valued-2.ensures.rule c.valued-2.ensures.own c.in_ok-arg-3.ensures in
     let four = one_more c.in_ok-arg-3.field-0 c.flag.result c.in_ok-arg-4.field-0 _ (flag_rule (codes "plain")) three c.flag.ensures.rule c.flag.ensures.own c.in_ok-arg-4.ensures in
-    IfOk-weaker c.arg-5.result _ (Has render_app)
-    (λ parser adds. one_more c.in_ok-arg-4.field-0 c.flag-2.result parser _ (flag_rule (codes "report")) four c.flag-2.ensures.rule c.flag-2.ensures.own adds) c.arg-5.ensures
+    let five = one_more c.in_ok-arg-4.field-0 c.flag-2.result c.in_ok-arg-5.field-0 _ (flag_rule (codes "report")) four c.flag-2.ensures.rule c.flag-2.ensures.own c.in_ok-arg-5.ensures in
+    IfOk-weaker c.arg-6.result _ (Has render_app)
+    (λ parser adds. one_more c.in_ok-arg-5.field-0 c.flag-3.result parser _ (flag_rule (codes "journal")) five c.flag-3.ensures.rule c.flag-3.ensures.own adds) c.arg-6.ensures
 
 pub returns-clause-app : goal.returns-clause-app
-returns-clause-app c = IfOk-weaker c.arg-5.result _ _ (λ parser has. has.told) (has_all c)
+returns-clause-app c = IfOk-weaker c.arg-6.result _ _ (λ parser has. has.told) (has_all c)
 
 pub returns-clause-own : goal.returns-clause-own
-returns-clause-own c = IfOk-weaker c.arg-5.result _ _ (λ parser has. has.own) (has_all c)
+returns-clause-own c = IfOk-weaker c.arg-6.result _ _ (λ parser has. has.own) (has_all c)

@@ -2,9 +2,11 @@
 use Rattle.std.proofs.Common.{◌≡◌, ◌∙◌, ◌<◌, ◌-◌, ◌+◌, min, sym, ap, subst, arith}
 use Rattle.serve_events.specs.Windows.{windows_of}
 use Rattle.serve_worker.proofs.Tables.{all_free}
+use Rattle.prefetch.specs.Crew.{AreOfCrew}
 use Rattle.prefetch.specs.Journal.{AreFirst, AreCut}
-use Rattle.prefetch.specs.SerialWindows.{IsSerialWindow, IsCutSerial, AreSerial}
+use Rattle.prefetch.specs.SerialWindows.{IsAloneWindow, IsCutSerial, AreSerial}
 use Rattle.prefetch.specs.Windows.{frames_at}
+use Rattle.prefetch.proofs.CrewTogether.{IsFirstOf, none_crew, first_crew, more_crew}
 use Rattle.prefetch.proofs.RenderLemmas.{keeps_first, keeps_on, put_none, ends_at_once, put_more, window_stops, renders_all}
 use Rattle.prefetch.proofs.SerialLemmas.{none_serial, first_serial, all_serial, more_serial, first_more, cut_more}
 use Rattle.prefetch.proofs.windows.render_plain.Given.{Over}
@@ -31,6 +33,7 @@ loop-first-init g c =
       worker = c.new-worker.ensures.plan ∙ c.in-Ok.ensures ∙ c.graph.ensures.graph;
       keeps = keeps_first g.I.Held.holds g.I.Held.feed g.I.Held.faults g.I.Held.ends core c.requires.between c.requires.unclaimed (all_free core.table c.requires.unlent);
       serial = subst (λ ws. AreSerial core c.args.window 0 ws core) (sym c.requires.fresh) (none_serial core c.args.window);
+      crew = subst (λ ws. AreOfCrew core c.args.window 0 ws core) (sym c.requires.fresh) (none_crew core c.args.window c.requires.empty);
       put = put_none g.I.Held.holds g.I.Held.feed g.I.Held.faults g.I.Held.ends core g.K.Sink c.args.out.now;
       later = omega arith;
     }
@@ -50,10 +53,10 @@ returns-in-Err-clause-stop g c =
     let longer = windows_of w.journal in
     let before = c.loop-first.core in
     let same : (before.fixed.plan ≡ core.fixed.plan) × (before.fixed.root ≡ core.fixed.root) × (before.fixed.capacity ≡ core.fixed.capacity) = (i.keeps.stays.plan, i.keeps.stays.root, i.keeps.stays.capacity) in
-    window_stops g.I.Held.holds g.I.Held.feed g.I.Held.faults g.I.Held.ends core g.K.Sink c.args.out.now c.loop-first.out w.out before w.core n count i.keeps (IsSerialWindow before n count) (IsCutSerial before)
+    window_stops g.I.Held.holds g.I.Held.feed g.I.Held.faults g.I.Held.ends core g.K.Sink c.args.out.now c.loop-first.out w.out before w.core n count i.keeps (IsAloneWindow before n count) (IsCutSerial before)
     (AreFirst core.fixed.plan core.fixed.root core.fixed.capacity c.args.window frames) (AreCut core.fixed.plan core.fixed.root core.fixed.capacity c.args.window frames) log longer (omega arith) i.later
     (first_serial core c.args.window n log before i.serial c.requires.empty)
-    (λ finished a. first_more core c.args.window n log before i.serial count c.requires.some less is same finished.events.items w.core longer a.log_is a.whole c.requires.empty)
+    (λ finished a. first_more core c.args.window n log before i.serial count c.requires.some less is same finished.events.items w.core longer a.log_is a.whole.serial c.requires.empty)
     (λ why a. cut_more core c.args.window n log before i.serial count c.requires.some less is same why a.events longer a.log_is a.cut c.requires.empty) i.put c.in-Err.stop c.in-Err.ensures.stop
 
 pub loop-first-preserved : goal.loop-first-preserved
@@ -73,7 +76,9 @@ loop-first-preserved g c =
       worker = ap (λ z. z.plan) c.in-Ok-render_window.ensures.worker ∙ i.worker;
       keeps = keeps_on g.I.Held.holds g.I.Held.feed g.I.Held.faults g.I.Held.ends core c.loop-first.core w.core i.keeps one.adds.delivered.keeps;
       serial = subst (λ ws. AreSerial core c.args.window (n + count) ws w.core) (sym one.adds.log_is)
-          (more_serial core c.args.window n (windows_of c.loop-first.journal) c.loop-first.core i.serial count c.requires.some less is (i.keeps.stays.plan, i.keeps.stays.root, i.keeps.stays.capacity) one.finished.events.items w.core one.adds.whole);
+          (more_serial core c.args.window n (windows_of c.loop-first.journal) c.loop-first.core i.serial count c.requires.some less is (i.keeps.stays.plan, i.keeps.stays.root, i.keeps.stays.capacity) one.finished.events.items w.core one.adds.whole.serial);
+      crew = subst (λ ws. AreOfCrew core c.args.window (n + count) ws w.core) (sym one.adds.log_is)
+          (more_crew core c.args.window g.I.Held.holds n (windows_of c.loop-first.journal) c.loop-first.core i.crew count less is i.keeps.stays one.finished.events.items w.core one.adds.whole.crew);
       put = put_more g.I.Held.holds g.I.Held.feed g.I.Held.faults g.I.Held.ends core g.K.Sink c.args.out.now c.loop-first.out w.out c.loop-first.core w.core n count i.keeps one.finished one.adds.delivered i.put one.put;
       later = omega (arith, i.later, c.in-Ok-render_window.ensures.later);
     }
@@ -86,4 +91,5 @@ returns-clause-ok g c =
     let log = windows_of c.loop-first.journal in
     let total = total_is g (goal.at.returns-clause-ok g c).After-new-worker in
     let all : n ≡ frames_at core.fixed.plan core.fixed.root = omega (arith, total, i.inside, c.loop-first-test.false) in
-    renders_all g.I.Held.holds g.I.Held.feed g.I.Held.faults g.I.Held.ends core g.K.Sink c.args.out.now c.loop-first.out c.loop-first.core n log all i.keeps i.put (all_serial core c.args.window n log c.loop-first.core i.serial c.requires.empty all)
+    renders_all g.I.Held.holds g.I.Held.feed g.I.Held.faults g.I.Held.ends core g.K.Sink c.args.out.now c.loop-first.out c.loop-first.core n log all i.keeps i.put
+    (record { serial = all_serial core c.args.window n log c.loop-first.core i.serial c.requires.empty all; crew = subst (IsFirstOf core c.args.window log) all (first_crew core c.args.window n log c.loop-first.core i.crew) })

@@ -25,4 +25,4 @@ returns-clause-ends g c =
     let ok = subst (λ (z : List Application × ℕ). OnOk c.run_alone.result (Served g.I.Held.holds g.I.Held.feed g.I.Held.faults g.I.Held.ends z.0 c.begin_window.new.self z.1 c.run_alone.new.core)) (λ i. (c.requires.worker i, count i)) c.run_alone.ensures.ok in
     let err = subst (λ pl. IfErr c.run_alone.result (λ why. WindowCut g.I.Held.holds g.I.Held.feed g.I.Held.faults g.I.Held.ends pl c.begin_window.new.self why c.run_alone.new.core)) c.requires.worker c.run_alone.ensures.err in
     let e = c.end_window.ensures in
-    window_ends g.I.Held.holds g.I.Held.feed g.I.Held.faults g.I.Held.ends c.args.core.now c.begin_window.new.self c.run_alone.new.core c.end_window.new.self c.args.first c.args.count c.requires.plan c.in-Ok.ensures.ok e.core c.run_alone.result c.end_window.result ok err e.frames e.events e.stop e.size e.shapes
+    window_ends g.I.Held.holds g.I.Held.feed g.I.Held.faults g.I.Held.ends c.args.core.now c.begin_window.new.self c.run_alone.new.core c.end_window.new.self c.args.first c.args.count c.requires.plan c.requires.root c.requires.some c.in-Ok.ensures.ok e.core c.account.ensures c.run_alone.result c.end_window.result ok err e.frames e.events e.stop e.size e.shapes

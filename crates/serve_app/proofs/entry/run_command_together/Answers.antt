@@ -1,4 +1,4 @@
--- What a render leaves is told with its graph, where a report is asked for.
+-- What a render leaves is told with what is to be told of it.
 use Rattle.std.proofs.Common.{◌≡◌, rules}
 use Rattle.serve_app.specs.Journals.{cache_of}
 use Rattle.serve_app.specs.Run.{staff_by}
@@ -8,6 +8,6 @@ use Rattle.serve_app.proofs.entry.run_command_together.Goals as goal
 pub returns-in-Render-clause-does : goal.returns-in-Render-clause-does
 returns-in-Render-clause-does g c =
     let cache : c.unwrap_or-cache.result ≡ cache_of c.in-Render.options.cache = search rules in
-    rw c.in-Render.is (rw c.graph_of.ensures
+    rw c.in-Render.is (rw c.telling_of.ensures
     (render_does g.F.Files g.K.Sink c.args.files.now c.render_together-done.new.files c.args.out.now c.render_together-done.new.out c.render_together-done.new.journal staff_by c.in-Render.script
     c.in-Render.options c.render_together-done.result (rw (cache, c.staff_of.ensures) at c.render_together-done.ensures.render) c.render_together-done.ensures.reads))

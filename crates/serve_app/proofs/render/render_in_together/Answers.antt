@@ -1,6 +1,7 @@
 -- What is put is the clip that the script means.
 use Rattle.std.proofs.Common.{◌∙◌, arith}
 use Rattle.serve_worker.specs.Instances.{faults_of}
+use Rattle.serve_app.specs.Journals.{AreHands}
 use Rattle.serve_app.proofs.ClosingLemmas.{count_rose}
 use Rattle.serve_app.proofs.PlayLemmas.{fit, script_render}
 use Rattle.serve_app.proofs.ReadsLemmas.{stream_reads}
@@ -16,10 +17,13 @@ returns-clause-render g c =
     let was = c.evaluate.new.host in
     let first = rw c.new-host.ensures.files at c.evaluate.ensures.later in
     let streamed = rw c.hands-hands.ensures.hands at c.put_graph_together-table.ensures.streamed in
+    let of_hands = c.hands-hands.ensures in
+    let few : AreHands c.hands-hands.result = record { some = of_hands.some; few = of_hands.most; some_outputs = of_hands.some_outputs; few_outputs = of_hands.few } in
+    let are_hands = rw of_hands.hands at few in
     script_render g.H.Src.Source g.W.Known.told g.W.Known.world c.args.script.now c.in-Ok.opened.graph c.in-Ok.opened.root c.in-Ok.opened.prefetch was.listed.items was.sources.items
     c.in-Ok.ensures.opened.sources was.opened c.in-Ok.ensures.told g.K.Sink c.args.out.now c.put_graph_together-table.new.out (faults_of g.H.Src.Source) c.put_graph_together-table.result.0 _
     (count_rose g.H.Src.Source c.put_graph_together-table.result.0 c.put_graph_together-table.new.sources.items _ _ _ _ first c.close_table.ensures.faults c.close_all.ensures.faults)
-    c.args.cache c.args.staff c.put_graph_together-table.new.journal c.put_graph_together-table.result.1 c.in-Ok.ensures.opened.plan streamed
+    c.args.cache c.args.staff c.put_graph_together-table.new.journal c.put_graph_together-table.result.1 c.in-Ok.ensures.opened.plan c.in-Ok.ensures.opened.root are_hands streamed
 
 pub returns-clause-reads : goal.returns-clause-reads
 returns-clause-reads g c =

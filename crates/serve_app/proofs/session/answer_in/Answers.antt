@@ -46,7 +46,7 @@ returns-clause-session g c =
     (faults_of g.H.Src.Source) c.answer_graph-table.result.0 _
     (count_rose g.H.Src.Source c.answer_graph-table.result.0 c.answer_graph-table.new.sources.items _ _ _ _ closed c.close_table.ensures.faults c.close_all-2.ensures.faults)
     (λ failed. list_rose _ _ _ _ _ _ start c.close.ensures.faults more last (rw c.in-Ok-fetch.ensures.fresh at failed))
-    c.answer_graph-table.new.journal c.answer_graph-table.result.1 c.in-Ok.ensures.opened.plan c.answer_graph-table.ensures.answered)
+    c.answer_graph-table.new.journal c.answer_graph-table.result.1 c.in-Ok.ensures.opened.plan c.in-Ok.ensures.opened.root c.answer_graph-table.ensures.answered)
 
 pub returns-clause-steady : goal.returns-clause-steady
 returns-clause-steady g c =

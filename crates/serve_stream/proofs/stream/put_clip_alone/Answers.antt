@@ -46,4 +46,4 @@ returns-clause-unclaimed g c = let kept = stays g c in kept.unclaimed
 pub returns-clause-steady : goal.returns-clause-steady
 returns-clause-steady g c =
     steady_by g.S.Source c.args.core g.K.Sink c.put_head.new.out c.render_alone-core.new.out c.args.window (windows_of c.render_alone-core.new.journal) c.render_alone-core.result.0
-    c.render_alone-core.result.1 c.render_alone-core.result.0.fixed.plan c.node.result.now.info.frames c.args.kept c.whole_of-whole.result c.render_alone-core.ensures.ok c.whole_of-whole.ensures
+    c.render_alone-core.result.1 c.render_alone-core.result.0.fixed.plan c.render_alone-core.result.0.fixed.workers c.node.result.now.info.frames c.args.kept c.whole_of-whole.result c.render_alone-core.ensures.ok c.whole_of-whole.ensures

@@ -10,8 +10,8 @@ returns-in-Input g c = rw c.in-Input.is c.say_input.ensures
 pub returns-in-Changed : goal.returns-in-Changed
 returns-in-Changed g c = rw c.in-Changed.is c.say_changed.ensures
 
-pub returns-in-List : goal.returns-in-List
-returns-in-List g c = rw c.in-List.is (rw c.name.ensures at c.say_input_kind.ensures)
+pub returns-in-File : goal.returns-in-File
+returns-in-File g c = rw c.in-File.is (rw c.name.ensures at c.say_input_kind.ensures)
 
 pub returns-in-Read : goal.returns-in-Read
 returns-in-Read g c = rw c.in-Read.is c.say.ensures

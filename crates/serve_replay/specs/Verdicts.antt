@@ -1,0 +1,45 @@
+-- The line that is said of a text, and what a call that puts it leaves.
+use Rattle.std.specs.Prelude.{◌≡◌, ℕ, List}
+use Rattle.fv_io.specs.declared.sink.Sink.{Ghosts}
+use Rattle.fv_io.specs.Sink.{Puts, PutsPrefix, SinkFailed}
+use Rattle.clip_graph.specs.Plan.{Application}
+use Rattle.run_law.specs.declared.verdict.Verdict.{Verdict}
+use Rattle.run_law.specs.declared.verdict.Verdict.TheVariants.{Yes, No}
+use Rattle.run_law.specs.Judging.{Judges}
+use Rattle.serve_text.specs.declared.stop.Stop.{Stop}
+use Rattle.serve_text.specs.declared.stop.Stop.TheVariants as of_stop
+use Rattle.serve_replay.specs.Lines.{run_line, wrong_line}
+
+-- the line of a verdict on a text
+abbrev pub said : List ℕ → Verdict → List ℕ
+said text Yes = run_line text
+said text (No line) = wrong_line line
+
+-- this is the line of what the text is: a journal of the plan, or none from a first line on
+pub record IsSaidOf (plan : List Application) (root capacity : ℕ) (text line : List ℕ) : Type 0 where
+  pub verdict : Verdict
+  pub judged : Judges plan root capacity text verdict
+  pub line_is : line ≡ said text verdict
+
+abbrev pub SaidOnce : Type 0
+SaidOnce = (plan : List Application) (root capacity : ℕ) (text one other : List ℕ)
+    → IsSaidOf plan root capacity text one → IsSaidOf plan root capacity text other → one ≡ other
+
+-- ---- puts
+
+module _ {K : Type 0} (sink : Ghosts K) (old new : K) (IsDue : List ℕ → Type 0) where
+  -- a line that is due was put, and nothing else
+  pub record PutsDue : Type 0 where
+    pub line : List ℕ
+    pub due : IsDue line
+    pub put : Puts sink old new line
+
+  -- why no line was put: the sink failed, and each line that is due may be cut short, or out of memory
+  abbrev pub DueStops : Stop → Type 0
+  DueStops (of_stop.Script kind name line) = ⊥
+  DueStops (of_stop.Input name fault) = ⊥
+  DueStops (of_stop.Changed name frame want got) = ⊥
+  DueStops (of_stop.File name fault) = ⊥
+  DueStops of_stop.Read = ⊥
+  DueStops of_stop.Write = SinkFailed sink old new × ((line : List ℕ) → IsDue line → PutsPrefix sink old new line)
+  DueStops of_stop.Memory = new ≡ old
