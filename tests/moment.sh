@@ -31,6 +31,11 @@ runs tests/out_of_memory.sh --step 4 --only "info both.avs"
 runs bench/measure.py --small --rounds 1
 runs bench/workers.py --frames 50 --size 64x272 --rounds 1 --threads 1,2 --only trim,crop,borders,script "$AVSSERVE"
 runs bench/session.py --small --rounds 1 "$AVSSERVE"
+runs bench/replay.py --quick --rounds 1 "$AVSSERVE"
+"$AVSSERVE" info examples/compare.avs >"$room/info.txt"
+"$AVSSERVE" render --journal examples/compare.avs >"$room/compare.y4m" 2>"$room/journal.txt"
+runs bench/journal_stats.py "$room/journal.txt" --info "$room/info.txt"
+runs bench/journal_stats.py "$room/journal.txt" --window 0
 runs tests/out_of_memory.sh --step 4 --only "session both.avs -"
 if [ -d crates/fv_io/out/incremental ]; then
     runs bench/check_times.py fv_io 3
