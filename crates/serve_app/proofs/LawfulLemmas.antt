@@ -1,5 +1,5 @@
 -- The text of a render's journal is a journal of the script's plan.
-use Rattle.std.proofs.Common.{◌≡◌, ℕ, List, Option, sym, ap₂, subst}
+use Rattle.std.proofs.Common.{◌≡◌, ℕ, List, Option, sym, subst}
 use Rattle.std.specs.List.{AllByRecursion}
 use Rattle.fv_io.specs.World.{World}
 use Rattle.serve_events.specs.Windows.{WindowEvents, windows_of}

@@ -19,7 +19,6 @@ use Rattle.serve_replay.specs.Texts.{longest}
 use Rattle.serve_replay.specs.Verdicts.{IsSaidOf, PutsDue, DueStops}
 use Rattle.serve_replay.specs.declared.reading.JournalStop.{JournalStop}
 use Rattle.serve_replay.specs.declared.reading.JournalStop.TheVariants as of_journal
-use Rattle.serve_text.specs.declared.stop.FileFault.TheVariants as of_file
 use Rattle.serve_text.specs.declared.stop.Stop.{Stop}
 use Rattle.serve_text.specs.declared.stop.Stop.TheVariants as of_stop
 use Rattle.serve_app.specs.declared.replay.Charge.{Charge}

@@ -1,5 +1,5 @@
 -- What a session over the core of a graph leaves.
-use Rattle.std.proofs.Common.{◌≡◌, ◌∙◌, ℕ, ◌<◌, ◌≤◌, true, false, List, [], ◌∷◌, ◌++◌, Option, Some, None, Result, Ok, Err, OnOk, IfErr, refl, inl, inr, sym, ap, subst, arith}
+use Rattle.std.proofs.Common.{◌≡◌, ◌∙◌, ℕ, true, false, List, [], ◌∷◌, ◌++◌, Option, Some, None, Result, Ok, Err, OnOk, IfErr, refl, inl, inr, sym, ap, subst, arith}
 use Rattle.std.specs.Prelude.{drop}
 use Rattle.std.specs.Map.{keys_of}
 use Rattle.std.proofs.lemmas.List.{append_assoc, append-nil}
@@ -17,7 +17,7 @@ use Rattle.fv_session.specs.Requests.{Asked, requests, refused}
 use Rattle.fv_session.specs.declared.request.Request.{Request}
 use Rattle.fv_session.specs.declared.request.SessionFault.{SessionFault}
 use Rattle.fv_session.specs.declared.request.SessionFault.TheVariants as of_fault
-use Rattle.clip_graph.specs.Plan.{Application, application_at}
+use Rattle.clip_graph.specs.Plan.{Application}
 use Rattle.inst_table.specs.declared.place.Place.{Place}
 use Rattle.inst_table.specs.declared.place.Slot.{Slot}
 use Rattle.inst_table.specs.Places.{shared_place}
@@ -35,7 +35,7 @@ use Rattle.serve_session.specs.declared.player.PlayStop.{PlayStop}
 use Rattle.serve_session.specs.declared.player.PlayStop.TheVariants as of_play
 use Rattle.serve_session.specs.declared.serving.ServeStop.{ServeStop}
 use Rattle.serve_session.specs.declared.serving.ServeStop.TheVariants.{Play, Session}
-use Rattle.serve_session.specs.Serving.{prepend, some_request, Makes, MakesOne, Why, ServesAll, ServesPart, Ends as EndsServing}
+use Rattle.serve_session.specs.Serving.{prepend, some_request, MakesOne, Why, ServesAll, ServesPart, Ends as EndsServing}
 use Rattle.serve_session.proofs.ServeLemmas.{makes_more, asked_more}
 use Rattle.serve_worker.specs.declared.instance.Instance.{Instance}
 use Rattle.serve_worker.specs.declared.instance.Instance.TheVariants as of_instance

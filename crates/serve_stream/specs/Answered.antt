@@ -1,5 +1,5 @@
 -- What a session leaves: the answers that were put, why no more were, and the journal.
-use Rattle.std.specs.Prelude.{◌≡◌, ◌⊎◌, ℕ, ◌<◌, ◌≤◌, true, List, [], ◌∷◌, ◌++◌, drop, Option, Some, None, Result, OnOk, IfErr}
+use Rattle.std.specs.Prelude.{◌≡◌, ◌⊎◌, ℕ, ◌<◌, true, List, [], ◌∷◌, ◌++◌, drop, Option, Some, None, Result, OnOk, IfErr}
 use Rattle.std.specs.Option.{ForSome}
 use Rattle.fv_io.specs.declared.source.Source as of_source
 use Rattle.fv_io.specs.declared.sink.Sink.{Ghosts}
@@ -25,7 +25,6 @@ use Rattle.serve_events.specs.Windows.{WindowEvents, windows_of}
 use Rattle.serve_events.specs.Work.{FailedWork}
 use Rattle.prefetch.specs.Asked.{windows_asked}
 use Rattle.prefetch.specs.Windows.{frames_at}
-use Rattle.serve_text.specs.declared.stop.Stop.{Stop}
 use Rattle.serve_text.specs.declared.stop.Stop.TheVariants as of_stop
 use Rattle.serve_stream.specs.declared.session.SessionStop.{SessionStop}
 use Rattle.serve_stream.specs.declared.session.SessionStop.TheVariants.{Stopped, ListFault}

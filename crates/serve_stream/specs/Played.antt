@@ -1,5 +1,5 @@
 -- A clip whose frames are asked for by number: a core, its windows of one frame each, and why the last was cut short.
-use Rattle.std.specs.Prelude.{◌≡◌, ℕ, ◌<◌, List, [], ◌∷◌, ◌++◌, Option, Some, None}
+use Rattle.std.specs.Prelude.{◌≡◌, ℕ, ◌<◌, List, [], ◌∷◌, ◌++◌, Option, Some}
 use Rattle.std.specs.Map.{keys_of}
 use Rattle.fv_io.specs.declared.source.Source as of_source
 use Rattle.fv_plane.specs.Bytes.{bytes_of}

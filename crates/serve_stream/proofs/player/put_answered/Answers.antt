@@ -1,5 +1,5 @@
 -- The line tells the number of the frame's bytes.
-use Rattle.std.proofs.Common.{◌≡◌, ◌∙◌, ◌++◌, length, sym, ap, subst, rules}
+use Rattle.std.proofs.Common.{◌≡◌, ◌∙◌, ◌++◌, length, sym, ap, subst}
 use Rattle.fv_io.specs.Sink.{Puts, PutsPrefix}
 use Rattle.fv_plane.specs.Bytes.{bytes_of}
 use Rattle.fv_plane.proofs.CallerLemmas.{length-bytes_of}

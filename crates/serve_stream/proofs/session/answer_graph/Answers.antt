@@ -1,14 +1,11 @@
-use Rattle.std.proofs.Common.{◌≡◌, ◌∙◌, ◌+◌, [], length, ap, sym, length-append, None, OnOk, IfErr, refl}
+use Rattle.std.proofs.Common.{◌∙◌, ◌+◌, [], length, ap, sym, length-append, None, OnOk, IfErr, refl}
 use Rattle.serve_session.specs.Serving.{ServesAll, ServesPart}
 use Rattle.serve_core.specs.CoreValue.{CoreValue}
 use Rattle.serve_core.specs.Kept.{leases_out}
 use Rattle.serve_worker.specs.Furnishing.{sources_in}
-use Rattle.serve_worker.specs.Instances.{holds_of}
 use Rattle.serve_worker.specs.declared.instance.Instance.{Instance}
 use Rattle.serve_worker.proofs.Tables.{none_leased}
-use Rattle.prefetch.specs.Windows.{Stays}
 use Rattle.serve_stream.specs.declared.staff.Hands.{Hands}
-use Rattle.serve_stream.specs.Played.{PlayedValue}
 use Rattle.serve_stream.specs.Sessions.{IsToldSession}
 use Rattle.serve_stream.proofs.CoreLemmas.{sources_stay, counts_stay}
 use Rattle.serve_stream.proofs.AnsweredLemmas.{played, fresh, stop_is_named, session_stays, session_steady, session_answered, nothing_answered}
