@@ -15,7 +15,7 @@ abbrev pub said : List ℕ → Verdict → List ℕ
 said text Yes = run_line text
 said text (No line) = wrong_line line
 
--- this is the line of what the text is: a journal of the plan, or none from a first line on
+-- this is the line of the text: that of a journal of the plan, or of the first line at which it stops being one
 pub record IsSaidOf (plan : List Application) (root capacity : ℕ) (text line : List ℕ) : Type 0 where
   pub verdict : Verdict
   pub judged : Judges plan root capacity text verdict
@@ -34,7 +34,8 @@ module _ {K : Type 0} (sink : Ghosts K) (old new : K) (IsDue : List ℕ → Type
     pub due : IsDue line
     pub put : Puts sink old new line
 
-  -- why no line was put: the sink failed, and each line that is due may be cut short, or out of memory
+  -- why no line was put whole: the sink failed, and a prefix of each line that is due was put, or out of memory, and
+  -- nothing was
   abbrev pub DueStops : Stop → Type 0
   DueStops (of_stop.Script kind name line) = ⊥
   DueStops (of_stop.Input name fault) = ⊥
