@@ -36,7 +36,7 @@ import tempfile
 
 ROOT = os.path.dirname(os.path.dirname(os.path.abspath(__file__)))
 PROGRAM = os.environ["AVSSERVE"]
-TOOLS = ("ffmpeg", "ffprobe", "x264", "mpv", "mpeg2enc", "y4mscaler", "yuvfps", "parallel")
+TOOLS = ("ffmpeg", "ffprobe", "x264", "mpv", "mpeg2enc", "y4mscaler", "yuvfps", "parallel", "pv")
 SECONDS = 60
 # The crates' own lists of what a user can meet.
 BUILTINS = ("crates/avs_meaning/src/builtin.rt", "crates/clip_term/src/filter.rt", "crates/avs_values/src/plain_fn.rt")
