@@ -1,0 +1,18 @@
+//! Waiting: what the workers of a render hold, whom they wait for, and that their work ends.
+#![tactic(auto)]
+
+ghost use Rattle.run_moves.specs.Moves.{WorkersHoldLittle};
+ghost use Rattle.run_moves.specs.Waiting.{WaitingGoesDown};
+
+/// A worker that is somewhere in its work holds little: at most as many claims as filters stand one on another up to the
+/// root, one instance, and one output. Nothing is said of a worker whose work was cut short.
+pub fn workers_hold_little<F>()
+    ensures { WorkersHoldLittle F }
+{}
+
+/// A worker that waits for another waits for one at an earlier node, or for one that has an instance of its own node and
+/// nothing more to do than to give it back. So workers never wait in a circle. It is not said that the other is given
+/// a turn soon, nor how long the lock makes a worker wait.
+pub fn waiting_goes_down<F>()
+    ensures { WaitingGoesDown F }
+{}
