@@ -1,3 +1,5 @@
 pub mod InputLemmas
 pub mod HoldLemmas
 pub mod WaitLemmas
+pub mod NextLemmas
+pub mod MoveLemmas

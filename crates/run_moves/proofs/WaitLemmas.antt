@@ -138,10 +138,10 @@ module _ {F : Type 0} (m : Machine F) where
         leased (found.1 ∙ sym at) free (subst (λ i. leases_of v s.places ≡ place_named m.fixed.plan i (instance_of m.fixed.plan w i) ∷ []) (sym at) found.0)
 
     -- what falls with each step of waiting
-    abbrev height : ℕ → ℕ
+    abbrev pub height : ℕ → ℕ
     height w = 2 * node_of m s w + unlent_part (leases_of w s.places)
 
-    lower : (w v : ℕ) → GoesDown m s w v → height v < height w
+    pub lower : (w v : ℕ) → GoesDown m s w v → height v < height w
     lower w v (below less) = let few = few_part (leases_of v s.places) in omega (arith, less, few)
     lower w v (leased same free held) =
         let a : unlent_part (leases_of v s.places) ≡ 0 = ap unlent_part held in

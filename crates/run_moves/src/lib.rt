@@ -3,6 +3,7 @@
 
 ghost use Rattle.run_moves.specs.Moves.{WorkersHoldLittle};
 ghost use Rattle.run_moves.specs.Waiting.{WaitingGoesDown};
+ghost use Rattle.run_moves.specs.Moving.{SomeoneMoves};
 
 /// A worker that is somewhere in its work holds little: at most as many claims as filters stand one on another up to the
 /// root, one instance, and one output. Nothing is said of a worker whose work was cut short.
@@ -15,4 +16,10 @@ pub fn workers_hold_little<F>()
 /// a turn soon, nor how long the lock makes a worker wait.
 pub fn waiting_goes_down<F>()
     ensures { WaitingGoesDown F }
+{}
+
+/// While no stop has come and an output is not delivered, some worker can take a turn: one event, or an eviction with its
+/// publication. After it each worker is somewhere in its work again. It is not said which worker is given the turn.
+pub fn someone_moves<F>()
+    ensures { SomeoneMoves F }
 {}

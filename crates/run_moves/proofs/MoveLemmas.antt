@@ -1,0 +1,382 @@
+-- Someone can always go on.
+use Rattle.std.proofs.Common.{◌≡◌, ◌⊎◌, inl, inr, ℕ, zero, suc, ◌+◌, ◌-◌, ◌<◌, ◌≤◌, ◌==◌, nat_lt, Bool, true, false, not, ◌||◌, ◌&&◌, if◌then◌else◌, List, [], ◌∷◌, ◌++◌, length, map, get_or, replicate, slice_get, Option, Some, None, IsSome, refl, sym, ap, ◌∙◌, arith, subst, ⊎_elim, eq-eqb, ne_eqb}
+use Rattle.std.specs.Prelude.{is_some, take}
+use Rattle.std.specs.Cmp.Derive.{both_true}
+use Rattle.std.specs.List.{list_any}
+use Rattle.std.specs.Map.{lookup, set_value}
+use Rattle.std.proofs.lemmas.Bool.{lt-ltb, le-ltb, cases_lt, eqb-true}
+use Rattle.std.proofs.lemmas.List.{append-nil, length-take}
+use Rattle.std.proofs.lemmas.Option.{slice_get_within, slice_get-get_or}
+use Rattle.std.proofs.Math.ListN.{length-set}
+use Rattle.fv_plane.specs.declared.key.Key.{Key}
+use Rattle.clip_graph.specs.Plan.{Application, IsPlan}
+use Rattle.clip_graph.specs.Unfolding.{input_keys}
+use Rattle.frame_cache.specs.Cached.{same_key, at_key, has_key, dropped_key, Differ}
+use Rattle.frame_cache.proofs.CallerLemmas.{key_itself, some_dropped, absent}
+use Rattle.inst_table.specs.declared.place.Place.{Place}
+use Rattle.inst_table.specs.Places.{same_place}
+use Rattle.serve_events.specs.declared.event.Event.{Event}
+use Rattle.serve_events.specs.declared.event.Event.TheVariants.{Hit, Claim, Enter, Leave, Evict, Publish, Abandon, Take, Deliver, Fail}
+use Rattle.serve_events.specs.Events.{worker_of}
+use Rattle.serve_events.specs.Keys.{IsKey, has, frame_key, mode_at, instance_of}
+use Rattle.serve_events.specs.Own.{has_got, has_got_all, own_events}
+use Rattle.serve_events.specs.SerialRun.{eviction}
+use Rattle.serve_events.proofs.KeyLemmas.{test, left_true, right_true}
+use Rattle.serve_machine.specs.State.{State, is_key, place_named, claims_at, is_open, is_some_and, is_by, holds_nothing, is_running, with_told, got_at, gathered}
+use Rattle.serve_machine.specs.Closing.{nothing}
+use Rattle.serve_machine.specs.Holdings.{Holdings, claims_of, leases_of, outputs_of, holdings_of, own_holdings, has_number, IsToldBy}
+use Rattle.serve_machine.specs.Law.{start_of}
+use Rattle.serve_machine.specs.Machine.{Machine, in_turn, meets, allowed, change, replay}
+use Rattle.serve_machine.proofs.KeptLemmas.{Keys, keys_law}
+use Rattle.serve_machine.proofs.LawLemmas.{no_claims}
+use Rattle.serve_machine.proofs.TruthLemmas.{some_same, some_value}
+use Rattle.run_moves.specs.Moves.{InWork, newest_node}
+use Rattle.run_moves.specs.Waiting.{AllInWork, node_of, below, leased}
+use Rattle.run_moves.specs.Moving.{IsTurn, single, evicts, CanRender, IsUnderWay, Moves, SomeoneMoves}
+use Rattle.run_moves.proofs.HoldLemmas.{Falls, Seat}
+use Rattle.run_moves.proofs.WaitLemmas.{has_low, own_none, in_work, told, seat, has_claim, claimed_low, leased_at, height, lower}
+use Rattle.run_moves.proofs.NextLemmas.{Next, asks, enters, leaves, publishes, NextTurn, produces, delivers, takes, next_turn}
+
+-- LISTS
+
+own_append : (w : ℕ) (es fs : List Event) → own_events w (es ++ fs) ≡ own_events w es ++ own_events w fs
+own_append w [] fs = refl
+own_append w (e ∷ es) fs = let ih = own_append w es fs in ⊎_elim
+    (λ (b : (worker_of e == w) ≡ true). rw b (ap (λ x. e ∷ x) ih))
+    (λ (b : (worker_of e == w) ≡ false). rw b ih) (test (worker_of e == w))
+
+own_turn : (w : ℕ) (turn : List Event) → IsTurn w turn → own_events w turn ≡ turn
+own_turn w _ (single {e = e} is) = rw (eq-eqb (worker_of e) w is) refl
+own_turn w _ (evicts) = rw (eq-eqb w w refl) refl
+
+other_turn : (w v : ℕ) (turn : List Event) → IsTurn w turn → (w == v) ≡ false → own_events v turn ≡ []
+other_turn w v _ (single {e = e} is) other = rw (subst (λ u. (u == v) ≡ false) (sym is) other) refl
+other_turn w v _ (evicts) other = rw other refl
+
+claims_there : (w : ℕ) (k : Key) (cs : List (Key × ℕ)) → has k (claims_of w cs) ≡ true → claims_at w k.node cs ≡ true
+claims_there w k [] h = absurd (cc)
+claims_there w k (c ∷ cs) h = ⊎_elim
+    (λ (mine : (c.1 == w) ≡ true).
+    let h' : (same_key k c.0 || has k (claims_of w cs)) ≡ true = rw mine at h in ⊎_elim
+    (λ (e : same_key k c.0 ≡ true).
+    let node = eqb-true k.node (c.0).node (left_true (k.node == (c.0).node) (k.n == (c.0).n) e) in
+    rw mine (rw (eq-eqb (c.0).node k.node (sym node)) refl))
+    (λ (e : same_key k c.0 ≡ false). let ih = claims_there w k cs (rw e at h') in
+    elim ((c.1 == w) && (c.0).node == k.node) as (λ b. (b || claims_at w k.node cs) ≡ true) [ true ↦ refl | false ↦ ih ]) (test (same_key k c.0)))
+    (λ (other : (c.1 == w) ≡ false). rw other (claims_there w k cs (rw other at h))) (test (c.1 == w))
+
+claims_any : (w : ℕ) (k : Key) (cs : List (Key × ℕ)) → has k (claims_of w cs) ≡ true → list_any (λ (c : Key × ℕ). c.1 == w) cs ≡ true
+claims_any w k [] h = absurd (cc)
+claims_any w k (c ∷ cs) h = ⊎_elim
+    (λ (mine : (c.1 == w) ≡ true). rw mine refl)
+    (λ (other : (c.1 == w) ≡ false). rw other (claims_any w k cs (rw other at h))) (test (c.1 == w))
+
+-- an output that a worker took and has not delivered
+output_there : {F : Type 0} → (w n j : ℕ) (taken : List ℕ) (frames : List (Option F)) → slice_get taken j ≡ Some w → slice_get frames j ≡ Some None → outputs_of w n taken frames ≡ [] → ⊥
+output_there w n j [] frames took open' none = absurd (cc)
+output_there w n j (v ∷ vs) [] took open' none = absurd (cc)
+output_there w n zero (v ∷ vs) (f ∷ fs) took open' none =
+    let mine : v ≡ w = some_same took in
+    let free : f ≡ None = some_same open' in
+    let both : (v == w && is_open f) ≡ true = rw free (rw (eq-eqb v w mine) refl) in
+    let bad : n ∷ outputs_of w (n + 1) vs fs ≡ [] = rw both at none in absurd (cc)
+output_there w n (suc j) (v ∷ vs) (f ∷ fs) took open' none = ⊎_elim
+    (λ (b : (v == w && is_open f) ≡ true). let bad : n ∷ outputs_of w (n + 1) vs fs ≡ [] = rw b at none in absurd (cc))
+    (λ (b : (v == w && is_open f) ≡ false). output_there w (n + 1) j vs fs took open' (rw b at none)) (test (v == w && is_open f))
+
+-- a place stays there
+set_kept : (t r : Place → Bool) (es : List (Place × Option ℕ)) (x : Option ℕ) → is_some (lookup t (set_value r es x)) ≡ is_some (lookup t es)
+set_kept t r [] x = refl
+set_kept t r (e ∷ es) x = ⊎_elim
+    (λ (g : r e.0 ≡ true). rw g (elim (t e.0) as (λ b. is_some (if b then Some x else lookup t es) ≡ is_some (if b then Some e.1 else lookup t es)) [ true ↦ refl | false ↦ refl ]))
+    (λ (g : r e.0 ≡ false). rw g (let ih = set_kept t r es x in elim (t e.0) as (λ b. is_some (if b then Some e.1 else lookup t (set_value r es x)) ≡ is_some (if b then Some e.1 else lookup t es)) [ true ↦ refl | false ↦ ih ])) (test (r e.0))
+
+-- each place is free
+abbrev all_free : List Place → List (Place × Option ℕ)
+all_free places = map (λ p. (p, None)) places
+
+opened : (t : Place → Bool) (places : List Place) → is_some (lookup t (all_free places)) ≡ list_any t places
+opened t [] = refl
+opened t (p ∷ ps) = let ih = opened t ps in elim (t p) as (λ b. is_some (if b then Some None else lookup t (all_free ps)) ≡ (b || list_any t ps)) [ true ↦ refl | false ↦ ih ]
+
+module _ {F : Type 0} (m : Machine F) where
+  -- A RUN GOES ON
+
+  run_on : (es fs : List Event) (s t : State F) → replay m s es ≡ Some t → replay m s (es ++ fs) ≡ replay m t fs
+  run_on [] fs s t ran = ap (λ z. replay m z fs) (some_same ran)
+  run_on (e ∷ es) fs s t ran = ⊎_elim
+      (λ (ok : allowed m s e ≡ true). rw ok (run_on es fs (change m s e) t (rw ok at ran)))
+      (λ (bad : allowed m s e ≡ false). let nowhere : None ≡ Some t = rw bad at ran in absurd (cc)) (test (allowed m s e))
+
+  places_step : (t : Place → Bool) (s : State F) (e : Event) → is_some (lookup t (change m s e).places) ≡ is_some (lookup t s.places)
+  places_step t s (Hit w k) = refl
+  places_step t s (Claim w k) = refl
+  places_step t s (Enter w i j) = set_kept t (same_place (place_named m.fixed.plan i j)) s.places (Some w)
+  places_step t s (Leave w i j) = set_kept t (same_place (place_named m.fixed.plan i j)) s.places None
+  places_step t s (Evict w k) = refl
+  places_step t s (Publish w k) = refl
+  places_step t s (Abandon w k) = refl
+  places_step t s (Take w n) = refl
+  places_step t s (Deliver w n) = refl
+  places_step t s (Fail w why) = refl
+
+  places_kept : (t : Place → Bool) (es : List Event) (s r : State F) → replay m s es ≡ Some r → is_some (lookup t r.places) ≡ is_some (lookup t s.places)
+  places_kept t [] s r ran = ap (λ (x : State F). is_some (lookup t x.places)) (sym (some_same ran))
+  places_kept t (e ∷ es) s r ran = ⊎_elim
+      (λ (ok : allowed m s e ≡ true). places_kept t es (change m s e) r (rw ok at ran) ∙ places_step t s e)
+      (λ (bad : allowed m s e ≡ false). let nowhere : None ≡ Some r = rw bad at ran in absurd (cc)) (test (allowed m s e))
+
+  frames_step : (s : State F) (e : Event) → length (change m s e).frames ≡ length s.frames
+  frames_step s (Hit w k) = refl
+  frames_step s (Claim w k) = refl
+  frames_step s (Enter w i j) = refl
+  frames_step s (Leave w i j) = refl
+  frames_step s (Evict w k) = refl
+  frames_step s (Publish w k) = refl
+  frames_step s (Abandon w k) = refl
+  frames_step s (Take w n) = refl
+  frames_step s (Deliver w n) = length-set s.frames (n - m.fixed.first) _
+  frames_step s (Fail w why) = refl
+
+  pub frames_kept : (es : List Event) (s t : State F) → replay m s es ≡ Some t → length t.frames ≡ length s.frames
+  frames_kept [] s t ran = ap (λ (x : State F). length x.frames) (sym (some_same ran))
+  frames_kept (e ∷ es) s t ran = ⊎_elim
+      (λ (ok : allowed m s e ≡ true). frames_kept es (change m s e) t (rw ok at ran) ∙ frames_step s e)
+      (λ (bad : allowed m s e ≡ false). let nowhere : None ≡ Some t = rw bad at ran in absurd (cc)) (test (allowed m s e))
+
+  gathered_all : (w : ℕ) (ks : List Key) (own : List Event) (s : State F) → ((k : Key) → has_got w k own ≡ is_some (got_at w k s.got)) → has_got_all w ks own ≡ true
+      → is_some (gathered w ks s.got) ≡ true
+  gathered_all w [] own s tells all = refl
+  gathered_all w (k ∷ ks) own s tells all = joined (got_at w k s.got) (gathered w ks s.got) (sym (tells k) ∙ left_true _ _ all) (gathered_all w ks own s tells (right_true _ _ all))
+    where
+      joined : (a : Option F) (b : Option (List F)) → is_some a ≡ true → is_some b ≡ true → is_some (with_told a b) ≡ true
+      joined None b h g = absurd (cc)
+      joined (Some x) None h g = absurd (cc)
+      joined (Some x) (Some xs) h g = refl
+
+  module _ (cache : List (Key × F)) (places : List Place) (events : List Event) (s : State F) (can : CanRender m cache places) (under : IsUnderWay m cache places events s) where
+    abbrev N : ℕ
+    N = length m.fixed.plan
+
+    -- EVENTS THAT ARE ALLOWED
+
+    running : is_running s ≡ true
+    running = rw under.running refl
+
+    may : (e : Event) → worker_of e < m.fixed.workers → meets m s e ≡ true → allowed m s e ≡ true
+    may e less ok = rw under.settled (both_true (lt-ltb (worker_of e) m.fixed.workers less) ok)
+
+    keys : Keys m s.cache s.claims
+    keys = keys_law m events (start_of m cache places) s (no_claims m cache can.differ can.few) under.runs
+
+    frames_are : length s.frames ≡ m.fixed.count
+    frames_are = frames_kept events (start_of m cache places) s under.runs ∙ counted m.fixed.count
+      where
+        counted : (n : ℕ) → length (replicate {A = Option F} n None) ≡ n
+        counted zero = refl
+        counted (suc n) = ap suc (counted n)
+
+    work_of : (w : ℕ) → InWork m.fixed.plan m.fixed.root w (own_events w events)
+    work_of w = in_work m cache places events s can.plan can.root under.runs under.work w
+
+    tells : (w : ℕ) → IsToldBy m (own_events w events) s w
+    tells w = told m cache places events s can.plan can.root under.runs under.work w
+
+    abbrev tall : ℕ → ℕ
+    tall w = height m cache places events s can.plan can.root under.runs under.work w
+
+    -- the events after a turn are work again
+    works_on : (w : ℕ) (turn : List Event) → IsTurn w turn → InWork m.fixed.plan m.fixed.root w (own_events w events ++ turn) → AllInWork m (events ++ turn)
+    works_on w turn is goes v less = ⊎_elim
+        (λ (b : (w == v) ≡ true). subst (λ u. InWork m.fixed.plan m.fixed.root u (own_events u (events ++ turn))) (eqb-true w v b)
+        (subst (InWork m.fixed.plan m.fixed.root w) (sym (own_append w events turn ∙ ap (λ x. own_events w events ++ x) (own_turn w turn is))) goes))
+        (λ (b : (w == v) ≡ false). subst (InWork m.fixed.plan m.fixed.root v)
+        (sym (own_append v events turn ∙ (ap (λ x. own_events v events ++ x) (other_turn w v turn is b) ∙ append-nil (own_events v events)))) (work_of v)) (test (w == v))
+
+    -- one event is a turn
+    one : (w : ℕ) (e : Event) → worker_of e ≡ w → w < m.fixed.workers → meets m s e ≡ true → (change m s e).stop ≡ s.stop → (change m s e).awaits ≡ None
+        → InWork m.fixed.plan m.fixed.root w (own_events w events ++ e ∷ []) → Moves m cache places events s
+    one w e mine less ok stop settled goes = record {
+      worker = w;
+      turn = e ∷ [];
+      is_turn = single mine;
+      after = change m s e;
+      goes_on = record {
+        runs = run_on events (e ∷ []) (start_of m cache places) s under.runs ∙ goes_one;
+        work = works_on w (e ∷ []) (single mine) goes;
+        running = stop ∙ under.running;
+        settled = settled;
+      };
+    }
+      where
+        goes_one : replay m s (e ∷ []) ≡ Some (change m s e)
+        goes_one = rw (may e (subst (λ u. u < m.fixed.workers) (sym mine) less) ok) refl
+
+    -- an eviction and a publication
+    two : (w : ℕ) (gone k : Key) → w < m.fixed.workers → meets m s (Evict w gone) ≡ true → meets m (change m s (Evict w gone)) (Publish w k) ≡ true
+        → InWork m.fixed.plan m.fixed.root w (own_events w events ++ Evict w gone ∷ Publish w k ∷ []) → Moves m cache places events s
+    two w gone k less ok then' goes = record {
+      worker = w;
+      turn = Evict w gone ∷ Publish w k ∷ [];
+      is_turn = evicts;
+      after = change m (change m s (Evict w gone)) (Publish w k);
+      goes_on = record {
+        runs = run_on events (Evict w gone ∷ Publish w k ∷ []) (start_of m cache places) s under.runs ∙ goes_two;
+        work = works_on w (Evict w gone ∷ Publish w k ∷ []) evicts goes;
+        running = under.running;
+        settled = refl;
+      };
+    }
+      where
+        second : allowed m (change m s (Evict w gone)) (Publish w k) ≡ true
+        second = both_true (eq-eqb w w refl) (both_true (lt-ltb w m.fixed.workers less) then')
+
+        goes_two : replay m s (Evict w gone ∷ Publish w k ∷ []) ≡ Some (change m (change m s (Evict w gone)) (Publish w k))
+        goes_two = rw (may (Evict w gone) less ok) (rw second refl)
+
+    -- WHAT A WORKER DOES NEXT
+
+    abbrev own_of : ℕ → Holdings
+    own_of w = own_holdings m.fixed.plan (own_events w events)
+
+    abbrev Goes : ℕ → List Event → Type 0
+    Goes w fs = InWork m.fixed.plan m.fixed.root w (own_events w events ++ fs)
+
+    -- a worker can take a turn, or another that is busy stands lower
+    abbrev Goes_or : ℕ → Type 0
+    Goes_or w = Moves m cache places events s ⊎ ((v : ℕ) × (tall v < tall w) × (own_of v ≡ nothing → ⊥))
+
+    newest_of : (w i : ℕ) → newest_node N (own_of w).claims ≡ i → node_of m s w ≡ i
+    newest_of w i at = ap (λ (g : Holdings). newest_node N g.claims) (sym (tells w).holdings) ∙ at
+
+    unclaimed : (w : ℕ) (k : Key) → k.node < newest_node N (own_of w).claims → has k (own_of w).claims ≡ false
+    unclaimed w k less = ⊎_elim
+        (λ (e : has k (own_of w).claims ≡ true).
+        let falls : Falls N (own_of w).claims = subst (λ (g : Holdings). Falls N g.claims) (sym (tells w).holdings) ((seat m cache places events s can.plan can.root under.runs under.work w).holds).falls in
+        let low = has_low N k (own_of w).claims falls e in absurd (omega (arith, low, less)))
+        (λ (e : has k (own_of w).claims ≡ false). e) (test (has k (own_of w).claims))
+
+    ask : (w : ℕ) → w < m.fixed.workers → (k : Key) → IsKey m.fixed.plan k → k.node < newest_node N (own_of w).claims → Goes w (Hit w k ∷ []) → Goes w (Claim w k ∷ []) → Goes_or w
+    ask w less k is low h c =
+        let none = unclaimed w k low in
+        let not_mine : is_by w (at_key k s.claims) ≡ false = sym ((tells w).claim k) ∙ none in
+        ⊎_elim
+        (λ (cached : has_key k s.cache ≡ true). inl (one w (Hit w k) refl less (both_true (both_true cached (rw not_mine refl)) running) refl under.settled h))
+        (λ (uncached : has_key k s.cache ≡ false). ⊎_elim
+        (λ (by : has_key k s.claims ≡ true).
+        let found = some_value (at_key k s.claims) by in
+        let v = found.0 in let at = found.1 in
+        let lower_node = claimed_low m cache places events s can.plan can.root under.runs under.work v k at in
+        let here = newest_of w (newest_node N (own_of w).claims) refl in
+        inr (v, lower m cache places events s can.plan can.root under.runs under.work w v (below (omega (arith, lower_node, here, low))),
+        λ nothing_there. let has' : has k (own_of v).claims ≡ true = ap (λ (g : Holdings). has k g.claims) (tells v).holdings ∙ has_claim m cache places events s can.plan can.root under.runs under.work v k at in
+        let bad : false ≡ true = sym (ap (λ (g : Holdings). has k g.claims) nothing_there) ∙ has' in absurd (cc)))
+        (λ (free : has_key k s.claims ≡ false).
+        let key : is_key m.fixed.plan k ≡ true = both_true (lt-ltb k.node (length m.fixed.plan) is.node) (lt-ltb k.n _ is.number) in
+        inl (one w (Claim w k) refl less (both_true (both_true (both_true key (rw uncached refl)) (rw free refl)) running) refl under.settled c)) (test (has_key k s.claims)))
+        (test (has_key k s.cache))
+
+    -- the place of the instance that a worker needs at a node
+    abbrev place_of : ℕ → ℕ → Place
+    place_of w i = place_named m.fixed.plan i (instance_of m.fixed.plan w i)
+
+    enter : (w : ℕ) → w < m.fixed.workers → (k : Key) → k.node < N → newest_node N (own_of w).claims ≡ k.node → has k (own_of w).claims ≡ true → (own_of w).leases ≡ []
+        → (mode_at m.fixed.plan k.node ≡ 1 → ⊥) → Goes w (Enter w k.node (instance_of m.fixed.plan w k.node) ∷ []) → Goes_or w
+    enter w less k there at has' free needed e =
+        let found = some_value (lookup (same_place (place_of w k.node)) s.places) is_there in go found.0 found.1
+      where
+        is_there : is_some (lookup (same_place (place_of w k.node)) s.places) ≡ true
+        is_there = places_kept (same_place (place_of w k.node)) events (start_of m cache places) s under.runs ∙ (opened (same_place (place_of w k.node)) places ∙ can.instances w k.node less there needed)
+
+        go : (o : Option ℕ) → lookup (same_place (place_of w k.node)) s.places ≡ Some o → Goes_or w
+        go None is =
+            let claims = claims_there w k s.claims (subst (λ (g : Holdings). has k g.claims ≡ true) (tells w).holdings has') in
+            let mode : not (mode_at m.fixed.plan k.node == 1) ≡ true = rw (ne_eqb (mode_at m.fixed.plan k.node) 1 needed) refl in
+            let lent : is_some_and is_open (lookup (same_place (place_of w k.node)) s.places) ≡ true = rw is refl in
+            inl (one w (Enter w k.node (instance_of m.fixed.plan w k.node)) refl less
+            (both_true (both_true (both_true (both_true (both_true claims ((tells w).idle free)) mode) (eq-eqb (instance_of m.fixed.plan w k.node) (instance_of m.fixed.plan w k.node) refl)) lent) running) refl under.settled e)
+        go (Some v) is =
+            let found = leased_at m cache places events s can.plan can.root under.runs under.work w v k.node is in
+            let here = newest_of w k.node at in
+            let unlent : leases_of w s.places ≡ [] = subst (λ (g : Holdings). g.leases ≡ []) (tells w).holdings free in
+            inr (v, lower m cache places events s can.plan can.root under.runs under.work w v
+            (leased (found.1 ∙ sym here) unlent (subst (λ i. leases_of v s.places ≡ place_named m.fixed.plan i (instance_of m.fixed.plan w i) ∷ []) (sym here) found.0)),
+            λ nothing_there. let bad : [] ≡ place_of w k.node ∷ [] = ap (λ (g : Holdings). g.leases) (sym nothing_there) ∙ (ap (λ (g : Holdings). g.leases) (tells v).holdings ∙ found.0) in absurd (cc))
+
+    publish : (w : ℕ) → w < m.fixed.workers → (k : Key) → has k (own_of w).claims ≡ true → (own_of w).leases ≡ [] → has_got_all w (input_keys m.fixed.plan k) (own_events w events) ≡ true
+        → ((gone : Option Key) → Goes w (eviction w gone ++ Publish w k ∷ [])) → Moves m cache places events s
+    publish w less k has' free all e =
+        let mine : is_by w (at_key k s.claims) ≡ true = sym ((tells w).claim k) ∙ has' in
+        let idle = (tells w).idle free in
+        let got = gathered_all w (input_keys m.fixed.plan k) (own_events w events) s (tells w).got all in
+        let most = keys.bounded in
+        ⊎_elim
+        (λ (room : length s.cache < m.fixed.capacity). one w (Publish w k) refl less (both_true (both_true (both_true mine idle) got) (lt-ltb (length s.cache) m.fixed.capacity room)) refl refl (e None))
+        (λ (full : m.fixed.capacity ≤ length s.cache).
+        let exact : length s.cache ≡ m.fixed.capacity = omega (arith, full, most) in
+        let some = can.room in
+        let gone = some_value (dropped_key m.fixed.capacity s.cache) (some_dropped m.fixed.capacity s.cache some exact) in
+        let any = claims_any w k s.claims (subst (λ (g : Holdings). has k g.claims ≡ true) (tells w).holdings has') in
+        let last : is_some_and (same_key gone.0) (dropped_key m.fixed.capacity s.cache) ≡ true = ap (is_some_and (same_key gone.0)) gone.1 ∙ key_itself gone.0 in
+        let short : length (take (m.fixed.capacity - 1) s.cache) < m.fixed.capacity = let l = length-take (m.fixed.capacity - 1) s.cache in omega (arith, l, exact, some) in
+        two w gone.0 k less (both_true (both_true (both_true any idle) (eq-eqb (length s.cache) m.fixed.capacity exact)) last)
+        (both_true (both_true (both_true mine idle) got) (lt-ltb (length (take (m.fixed.capacity - 1) s.cache)) m.fixed.capacity short)) (e (Some gone.0))) (cases_lt (length s.cache) m.fixed.capacity)
+
+    produce : (w : ℕ) → w < m.fixed.workers → (P : Type 0) → P → Next m.fixed.plan w P (own_of w) (own_events w events) (Goes w) → Goes_or w
+    produce w less P premise (asks k is low h c) = ask w less k (is premise) low h c
+    produce w less P premise (enters k there at has' free needed e) = enter w less k there at has' free needed e
+    produce w less P premise (leaves k lent e) =
+        let p : Place = place_named m.fixed.plan k.node (instance_of m.fixed.plan w k.node) in
+        let held : lookup (same_place p) s.places ≡ Some (Some w) = (tells w).lease p lent in
+        inl (one w (Leave w k.node (instance_of m.fixed.plan w k.node)) refl less (ap (is_some_and (is_by w)) held ∙ eq-eqb w w refl) refl under.settled e)
+    produce w less P premise (publishes k has' free all e) = inl (publish w less k has' free all e)
+
+    -- an output may be taken, or the worker has something to do
+    abbrev Busy : ℕ → Type 0
+    Busy w = (length s.taken < m.fixed.count) ⊎ (own_of w ≡ nothing → ⊥)
+
+    turn_of : (w : ℕ) → w < m.fixed.workers → Busy w → NextTurn m.fixed.plan m.fixed.root w (own_of w) (own_events w events) (Goes w) → Goes_or w
+    turn_of w less busy (produces n has' next) =
+        let out = (tells w).output n has' in
+        let within = slice_get_within s.frames (n - m.fixed.first) None out.undelivered in
+        let size = frames_are in let low = out.low in let all = can.outputs in
+        produce w less (IsKey m.fixed.plan (frame_key m.fixed.root n)) (record { node = can.root; number = omega (arith, within, size, low, all) }) next
+    turn_of w less busy (delivers n has' got e) =
+        let out = (tells w).output n has' in
+        let first : not (nat_lt n m.fixed.first) ≡ true = rw (le-ltb n m.fixed.first out.low) refl in
+        let mine : is_by w (slice_get s.taken (n - m.fixed.first)) ≡ true = ap (is_by w) out.taken ∙ eq-eqb w w refl in
+        let free : is_some_and is_open (slice_get s.frames (n - m.fixed.first)) ≡ true = ap (is_some_and is_open) out.undelivered in
+        let there : is_some (got_at w (frame_key m.fixed.root n) s.got) ≡ true = sym ((tells w).got (frame_key m.fixed.root n)) ∙ got in
+        inl (one w (Deliver w n) refl less (both_true (both_true (both_true first mine) free) there) refl under.settled e)
+    turn_of w less (inl more) (takes none e) =
+        let n = m.fixed.first + length s.taken in
+        inl (one w (Take w n) refl less (both_true (both_true (eq-eqb n n refl) (lt-ltb (length s.taken) m.fixed.count more)) running) refl under.settled (e n))
+    turn_of w less (inr busy) (takes none e) = absurd (busy none)
+
+    -- a busy worker is one of the window's
+    busy_within : (v : ℕ) → (own_of v ≡ nothing → ⊥) → v < m.fixed.workers
+    busy_within v busy = ⊎_elim (λ (less : v < m.fixed.workers). less)
+        (λ (past : m.fixed.workers ≤ v). absurd (busy (ap (own_holdings m.fixed.plan) (own_none m v past events (start_of m cache places) s under.runs)))) (cases_lt v m.fixed.workers)
+
+    move : (most w : ℕ) → tall w < most → w < m.fixed.workers → Busy w → Moves m cache places events s
+    move zero w low less busy = absurd (omega (arith, low))
+    move (suc most) w low less busy = ⊎_elim
+        (λ (moves : Moves m cache places events s). moves)
+        (λ (other : (v : ℕ) × (tall v < tall w) × (own_of v ≡ nothing → ⊥)).
+        let less' = other.1 in
+        move most other.0 (omega (arith, less', low)) (busy_within other.0 other.2) (inr other.2))
+        (turn_of w less busy (next_turn m.fixed.plan m.fixed.root w can.plan can.root (own_events w events) (work_of w)))
+
+    someone : (j : ℕ) → slice_get s.frames j ≡ Some None → Moves m cache places events s
+    someone j undelivered = ⊎_elim
+        (λ (more : length s.taken < m.fixed.count). move (suc (tall 0)) 0 (omega arith) can.someone (inl more))
+        (λ (past : m.fixed.count ≤ length s.taken).
+        let within = slice_get_within s.frames j None undelivered in let size = frames_are in
+        let w = get_or s.taken j 0 in
+        let took : slice_get s.taken j ≡ Some w = slice_get-get_or s.taken j 0 (omega (arith, within, size, past)) in
+        let busy : own_of w ≡ nothing → ⊥ = λ none.
+            output_there w m.fixed.first j s.taken s.frames took undelivered (ap (λ (g : Holdings). g.outputs) (sym (tells w).holdings) ∙ ap (λ (g : Holdings). g.outputs) none) in
+        move (suc (tall w)) w (omega arith) (busy_within w busy) (inr busy)) (cases_lt (length s.taken) m.fixed.count)
+
+pub someone_moves : (F : Type 0) → SomeoneMoves F
+someone_moves F m cache places events s j can under undelivered = someone m cache places events s can under j undelivered
