@@ -3,3 +3,4 @@ pub mod HoldLemmas
 pub mod WaitLemmas
 pub mod NextLemmas
 pub mod MoveLemmas
+pub mod BoundLemmas

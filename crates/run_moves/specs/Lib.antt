@@ -1,3 +1,4 @@
 pub mod Moves
 pub mod Waiting
 pub mod Moving
+pub mod Bounds

@@ -4,6 +4,7 @@
 ghost use Rattle.run_moves.specs.Moves.{WorkersHoldLittle};
 ghost use Rattle.run_moves.specs.Waiting.{WaitingGoesDown};
 ghost use Rattle.run_moves.specs.Moving.{SomeoneMoves};
+ghost use Rattle.run_moves.specs.Bounds.{WorkIsBounded};
 
 /// A worker that is somewhere in its work holds little: at most as many claims as filters stand one on another up to the
 /// root, one instance, and one output. Nothing is said of a worker whose work was cut short.
@@ -22,4 +23,11 @@ pub fn waiting_goes_down<F>()
 /// publication. After it each worker is somewhere in its work again. It is not said which worker is given the turn.
 pub fn someone_moves<F>()
     ensures { SomeoneMoves F }
+{}
+
+/// A key is produced in at most five events for each key of its tree, and a window in two more for each output. So a window
+/// whose workers take turns while they can ends, with all outputs delivered, within that number of events. It is not
+/// said how long a turn takes, nor that the workers are given turns.
+pub fn work_is_bounded<F>()
+    ensures { WorkIsBounded F }
 {}
