@@ -364,10 +364,10 @@ module _ {F : Type 0} (m : Machine F) (cache : List (Key × F)) (places : List P
         omega (arith, all, total, a, b)
 
   module _ (can : CanRender m cache places) where
-    stands : (events : List Event) (s : State F) → IsUnderWay m cache places events s → (Moves m cache places events s → ⊥) → list_all is_some s.frames ≡ true
+    stands : (events : List Event) (s : State F) → IsUnderWay m cache places events s → ((w : ℕ) → Moves m cache places events s w → ⊥) → list_all is_some s.frames ≡ true
     stands events s under still = ⊎_elim
         (λ (h : list_all is_some s.frames ≡ true). h)
-        (λ (h : (j : ℕ) × (slice_get s.frames j ≡ Some None)). absurd (still (someone_moves F m cache places events s h.0 can under h.1))) (find_open s.frames)
+        (λ (h : (j : ℕ) × (slice_get s.frames j ≡ Some None)). let next = (someone_moves F).someone m cache places events s h.0 can under h.1 in absurd (still next.0 next.1)) (find_open s.frames)
 
     few_events : (events : List Event) (s : State F) → IsUnderWay m cache places events s → length events ≤ most_events m cache places
     few_events events s under = window_most events s can.plan can.root under.runs under.work
@@ -389,8 +389,9 @@ module _ {F : Type 0} (m : Machine F) (cache : List (Key × F)) (places : List P
           few = subst (λ x. length x ≤ most_events m cache places) (sym same) (few_events events s under);
         })
         (λ (h : (j : ℕ) × (slice_get s.frames j ≡ Some None)).
-        let next = someone_moves F m cache places events s h.0 can under h.1 in
-        let l = length-append events next.turn in let some = turn_long next.worker next.turn next.is_turn in
+        let found = (someone_moves F).someone m cache places events s h.0 can under h.1 in
+        let next = found.1 in
+        let l = length-append events next.turn in let some = turn_long found.0 next.turn next.is_turn in
         let rest = ends most (events ++ next.turn) next.after (omega (arith, low, l, some)) next.goes_on in
         let same : (events ++ next.turn) ++ rest.turns ≡ events ++ (next.turn ++ rest.turns) = append_assoc events next.turn rest.turns in
         record {

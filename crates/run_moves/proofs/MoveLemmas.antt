@@ -25,17 +25,17 @@ use Rattle.serve_events.proofs.KeyLemmas.{test, left_true, right_true}
 use Rattle.serve_machine.specs.State.{State, is_key, place_named, claims_at, is_open, is_some_and, is_by, holds_nothing, is_running, with_told, got_at, gathered}
 use Rattle.serve_machine.specs.Closing.{nothing}
 use Rattle.serve_machine.specs.Holdings.{Holdings, claims_of, leases_of, outputs_of, holdings_of, own_holdings, has_number, IsToldBy}
-use Rattle.serve_machine.specs.Law.{start_of}
+use Rattle.serve_machine.specs.Law.{start_of, worker_at}
 use Rattle.serve_machine.specs.Machine.{Machine, in_turn, meets, allowed, change, replay}
 use Rattle.serve_machine.proofs.KeptLemmas.{Keys, keys_law}
 use Rattle.serve_machine.proofs.LawLemmas.{no_claims}
 use Rattle.serve_machine.proofs.TruthLemmas.{some_same, some_value}
 use Rattle.run_moves.specs.Moves.{InWork, newest_node}
-use Rattle.run_moves.specs.Waiting.{AllInWork, node_of, below, leased}
-use Rattle.run_moves.specs.Moving.{IsTurn, single, evicts, CanRender, IsUnderWay, Moves, SomeoneMoves}
+use Rattle.run_moves.specs.Waiting.{IsNewest, AllInWork, Needs, input, output, Waits, for_frame, for_instance, node_of}
+use Rattle.run_moves.specs.Moving.{IsTurn, single, evicts, CanRender, IsUnderWay, Moves, GoesOn, moves, waits, rests, SomeoneMoves}
 use Rattle.run_moves.proofs.HoldLemmas.{Falls, Seat}
-use Rattle.run_moves.proofs.WaitLemmas.{has_low, own_none, in_work, told, seat, has_claim, claimed_low, leased_at, height, lower}
-use Rattle.run_moves.proofs.NextLemmas.{Next, asks, enters, leaves, publishes, NextTurn, produces, delivers, takes, next_turn}
+use Rattle.run_moves.proofs.WaitLemmas.{has_low, own_none, in_work, told, seat, has_claim, leased_at, held_at, height, lower, goes_down}
+use Rattle.run_moves.proofs.NextLemmas.{IsWanted, by_claim, by_output, Next, asks, enters, leaves, publishes, NextTurn, produces, delivers, takes, next_turn}
 
 -- LISTS
 
@@ -195,9 +195,8 @@ module _ {F : Type 0} (m : Machine F) where
 
     -- one event is a turn
     one : (w : ℕ) (e : Event) → worker_of e ≡ w → w < m.fixed.workers → meets m s e ≡ true → (change m s e).stop ≡ s.stop → (change m s e).awaits ≡ None
-        → InWork m.fixed.plan m.fixed.root w (own_events w events ++ e ∷ []) → Moves m cache places events s
+        → InWork m.fixed.plan m.fixed.root w (own_events w events ++ e ∷ []) → Moves m cache places events s w
     one w e mine less ok stop settled goes = record {
-      worker = w;
       turn = e ∷ [];
       is_turn = single mine;
       after = change m s e;
@@ -214,9 +213,8 @@ module _ {F : Type 0} (m : Machine F) where
 
     -- an eviction and a publication
     two : (w : ℕ) (gone k : Key) → w < m.fixed.workers → meets m s (Evict w gone) ≡ true → meets m (change m s (Evict w gone)) (Publish w k) ≡ true
-        → InWork m.fixed.plan m.fixed.root w (own_events w events ++ Evict w gone ∷ Publish w k ∷ []) → Moves m cache places events s
+        → InWork m.fixed.plan m.fixed.root w (own_events w events ++ Evict w gone ∷ Publish w k ∷ []) → Moves m cache places events s w
     two w gone k less ok then' goes = record {
-      worker = w;
       turn = Evict w gone ∷ Publish w k ∷ [];
       is_turn = evicts;
       after = change m (change m s (Evict w gone)) (Publish w k);
@@ -242,9 +240,9 @@ module _ {F : Type 0} (m : Machine F) where
     abbrev Goes : ℕ → List Event → Type 0
     Goes w fs = InWork m.fixed.plan m.fixed.root w (own_events w events ++ fs)
 
-    -- a worker can take a turn, or another that is busy stands lower
+    -- a worker can take a turn, or waits
     abbrev Goes_or : ℕ → Type 0
-    Goes_or w = Moves m cache places events s ⊎ ((v : ℕ) × (tall v < tall w) × (own_of v ≡ nothing → ⊥))
+    Goes_or w = Moves m cache places events s w ⊎ ((v : ℕ) × Waits m s w v)
 
     newest_of : (w i : ℕ) → newest_node N (own_of w).claims ≡ i → node_of m s w ≡ i
     newest_of w i at = ap (λ (g : Holdings). newest_node N g.claims) (sym (tells w).holdings) ∙ at
@@ -256,8 +254,15 @@ module _ {F : Type 0} (m : Machine F) where
         let low = has_low N k (own_of w).claims falls e in absurd (omega (arith, low, less)))
         (λ (e : has k (own_of w).claims ≡ false). e) (test (has k (own_of w).claims))
 
-    ask : (w : ℕ) → w < m.fixed.workers → (k : Key) → IsKey m.fixed.plan k → k.node < newest_node N (own_of w).claims → Goes w (Hit w k ∷ []) → Goes w (Claim w k ∷ []) → Goes_or w
-    ask w less k is low h c =
+    needed_by : (w : ℕ) (k : Key) → IsWanted m.fixed.plan m.fixed.root (own_of w).claims k → Needs m s w k
+    needed_by w k wanted = go k (subst (λ (g : Holdings). IsWanted m.fixed.plan m.fixed.root g.claims k) (tells w).holdings wanted)
+      where
+        go : (k : Key) → IsWanted m.fixed.plan m.fixed.root (claims_of w s.claims) k → Needs m s w k
+        go k (by_claim new among) = input new among
+        go _ (by_output free) = output free
+
+    ask : (w : ℕ) → w < m.fixed.workers → (k : Key) → IsKey m.fixed.plan k → k.node < newest_node N (own_of w).claims → IsWanted m.fixed.plan m.fixed.root (own_of w).claims k → Goes w (Hit w k ∷ []) → Goes w (Claim w k ∷ []) → Goes_or w
+    ask w less k is low wanted h c =
         let none = unclaimed w k low in
         let not_mine : is_by w (at_key k s.claims) ≡ false = sym ((tells w).claim k) ∙ none in
         ⊎_elim
@@ -265,12 +270,7 @@ module _ {F : Type 0} (m : Machine F) where
         (λ (uncached : has_key k s.cache ≡ false). ⊎_elim
         (λ (by : has_key k s.claims ≡ true).
         let found = some_value (at_key k s.claims) by in
-        let v = found.0 in let at = found.1 in
-        let lower_node = claimed_low m cache places events s can.plan can.root under.runs under.work v k at in
-        let here = newest_of w (newest_node N (own_of w).claims) refl in
-        inr (v, lower m cache places events s can.plan can.root under.runs under.work w v (below (omega (arith, lower_node, here, low))),
-        λ nothing_there. let has' : has k (own_of v).claims ≡ true = ap (λ (g : Holdings). has k g.claims) (tells v).holdings ∙ has_claim m cache places events s can.plan can.root under.runs under.work v k at in
-        let bad : false ≡ true = sym (ap (λ (g : Holdings). has k g.claims) nothing_there) ∙ has' in absurd (cc)))
+        inr (found.0, for_frame (needed_by w k wanted) found.1))
         (λ (free : has_key k s.claims ≡ false).
         let key : is_key m.fixed.plan k ≡ true = both_true (lt-ltb k.node (length m.fixed.plan) is.node) (lt-ltb k.n _ is.number) in
         inl (one w (Claim w k) refl less (both_true (both_true (both_true key (rw uncached refl)) (rw free refl)) running) refl under.settled c)) (test (has_key k s.claims)))
@@ -280,9 +280,9 @@ module _ {F : Type 0} (m : Machine F) where
     abbrev place_of : ℕ → ℕ → Place
     place_of w i = place_named m.fixed.plan i (instance_of m.fixed.plan w i)
 
-    enter : (w : ℕ) → w < m.fixed.workers → (k : Key) → k.node < N → newest_node N (own_of w).claims ≡ k.node → has k (own_of w).claims ≡ true → (own_of w).leases ≡ []
+    enter : (w : ℕ) → w < m.fixed.workers → (k : Key) → k.node < N → IsNewest k (own_of w).claims → has k (own_of w).claims ≡ true → (own_of w).leases ≡ []
         → (mode_at m.fixed.plan k.node ≡ 1 → ⊥) → Goes w (Enter w k.node (instance_of m.fixed.plan w k.node) ∷ []) → Goes_or w
-    enter w less k there at has' free needed e =
+    enter w less k there new has' free needed e =
         let found = some_value (lookup (same_place (place_of w k.node)) s.places) is_there in go found.0 found.1
       where
         is_there : is_some (lookup (same_place (place_of w k.node)) s.places) ≡ true
@@ -296,15 +296,11 @@ module _ {F : Type 0} (m : Machine F) where
             inl (one w (Enter w k.node (instance_of m.fixed.plan w k.node)) refl less
             (both_true (both_true (both_true (both_true (both_true claims ((tells w).idle free)) mode) (eq-eqb (instance_of m.fixed.plan w k.node) (instance_of m.fixed.plan w k.node) refl)) lent) running) refl under.settled e)
         go (Some v) is =
-            let found = leased_at m cache places events s can.plan can.root under.runs under.work w v k.node is in
-            let here = newest_of w k.node at in
             let unlent : leases_of w s.places ≡ [] = subst (λ (g : Holdings). g.leases ≡ []) (tells w).holdings free in
-            inr (v, lower m cache places events s can.plan can.root under.runs under.work w v
-            (leased (found.1 ∙ sym here) unlent (subst (λ i. leases_of v s.places ≡ place_named m.fixed.plan i (instance_of m.fixed.plan w i) ∷ []) (sym here) found.0)),
-            λ nothing_there. let bad : [] ≡ place_of w k.node ∷ [] = ap (λ (g : Holdings). g.leases) (sym nothing_there) ∙ (ap (λ (g : Holdings). g.leases) (tells v).holdings ∙ found.0) in absurd (cc))
+            inr (v, for_instance (subst (λ (g : Holdings). IsNewest k g.claims) (tells w).holdings new) unlent (ap worker_at is))
 
     publish : (w : ℕ) → w < m.fixed.workers → (k : Key) → has k (own_of w).claims ≡ true → (own_of w).leases ≡ [] → has_got_all w (input_keys m.fixed.plan k) (own_events w events) ≡ true
-        → ((gone : Option Key) → Goes w (eviction w gone ++ Publish w k ∷ [])) → Moves m cache places events s
+        → ((gone : Option Key) → Goes w (eviction w gone ++ Publish w k ∷ [])) → Moves m cache places events s w
     publish w less k has' free all e =
         let mine : is_by w (at_key k s.claims) ≡ true = sym ((tells w).claim k) ∙ has' in
         let idle = (tells w).idle free in
@@ -322,61 +318,90 @@ module _ {F : Type 0} (m : Machine F) where
         two w gone.0 k less (both_true (both_true (both_true any idle) (eq-eqb (length s.cache) m.fixed.capacity exact)) last)
         (both_true (both_true (both_true mine idle) got) (lt-ltb (length (take (m.fixed.capacity - 1) s.cache)) m.fixed.capacity short)) (e (Some gone.0))) (cases_lt (length s.cache) m.fixed.capacity)
 
-    produce : (w : ℕ) → w < m.fixed.workers → (P : Type 0) → P → Next m.fixed.plan w P (own_of w) (own_events w events) (Goes w) → Goes_or w
-    produce w less P premise (asks k is low h c) = ask w less k (is premise) low h c
-    produce w less P premise (enters k there at has' free needed e) = enter w less k there at has' free needed e
+    produce : (w : ℕ) → w < m.fixed.workers → (P : Type 0) → P → Next m.fixed.plan m.fixed.root w P (own_of w) (own_events w events) (Goes w) → Goes_or w
+    produce w less P premise (asks k is low wanted h c) = ask w less k (is premise) low wanted h c
+    produce w less P premise (enters k there new at has' free needed e) = enter w less k there new has' free needed e
     produce w less P premise (leaves k lent e) =
         let p : Place = place_named m.fixed.plan k.node (instance_of m.fixed.plan w k.node) in
         let held : lookup (same_place p) s.places ≡ Some (Some w) = (tells w).lease p lent in
         inl (one w (Leave w k.node (instance_of m.fixed.plan w k.node)) refl less (ap (is_some_and (is_by w)) held ∙ eq-eqb w w refl) refl under.settled e)
     produce w less P premise (publishes k has' free all e) = inl (publish w less k has' free all e)
 
-    -- an output may be taken, or the worker has something to do
-    abbrev Busy : ℕ → Type 0
-    Busy w = (length s.taken < m.fixed.count) ⊎ (own_of w ≡ nothing → ⊥)
+    gone_on : (w : ℕ) → Goes_or w → GoesOn m cache places events s w
+    gone_on w (inl it) = moves it
+    gone_on w (inr other) = waits other.1
 
-    turn_of : (w : ℕ) → w < m.fixed.workers → Busy w → NextTurn m.fixed.plan m.fixed.root w (own_of w) (own_events w events) (Goes w) → Goes_or w
-    turn_of w less busy (produces n has' next) =
+    turn_of : (w : ℕ) → w < m.fixed.workers → NextTurn m.fixed.plan m.fixed.root w (own_of w) (own_events w events) (Goes w) → GoesOn m cache places events s w
+    turn_of w less (produces n has' next) =
         let out = (tells w).output n has' in
         let within = slice_get_within s.frames (n - m.fixed.first) None out.undelivered in
         let size = frames_are in let low = out.low in let all = can.outputs in
-        produce w less (IsKey m.fixed.plan (frame_key m.fixed.root n)) (record { node = can.root; number = omega (arith, within, size, low, all) }) next
-    turn_of w less busy (delivers n has' got e) =
+        gone_on w (produce w less (IsKey m.fixed.plan (frame_key m.fixed.root n)) (record { node = can.root; number = omega (arith, within, size, low, all) }) next)
+    turn_of w less (delivers n has' got e) =
         let out = (tells w).output n has' in
         let first : not (nat_lt n m.fixed.first) ≡ true = rw (le-ltb n m.fixed.first out.low) refl in
         let mine : is_by w (slice_get s.taken (n - m.fixed.first)) ≡ true = ap (is_by w) out.taken ∙ eq-eqb w w refl in
         let free : is_some_and is_open (slice_get s.frames (n - m.fixed.first)) ≡ true = ap (is_some_and is_open) out.undelivered in
         let there : is_some (got_at w (frame_key m.fixed.root n) s.got) ≡ true = sym ((tells w).got (frame_key m.fixed.root n)) ∙ got in
-        inl (one w (Deliver w n) refl less (both_true (both_true (both_true first mine) free) there) refl under.settled e)
-    turn_of w less (inl more) (takes none e) =
+        moves (one w (Deliver w n) refl less (both_true (both_true (both_true first mine) free) there) refl under.settled e)
+    turn_of w less (takes none e) = ⊎_elim
+        (λ (more : length s.taken < m.fixed.count).
         let n = m.fixed.first + length s.taken in
-        inl (one w (Take w n) refl less (both_true (both_true (eq-eqb n n refl) (lt-ltb (length s.taken) m.fixed.count more)) running) refl under.settled (e n))
-    turn_of w less (inr busy) (takes none e) = absurd (busy none)
+        moves (one w (Take w n) refl less (both_true (both_true (eq-eqb n n refl) (lt-ltb (length s.taken) m.fixed.count more)) running) refl under.settled (e n)))
+        (λ (past : m.fixed.count ≤ length s.taken). rests (sym (tells w).holdings ∙ none) past) (cases_lt (length s.taken) m.fixed.count)
+
+    pub each : (w : ℕ) → w < m.fixed.workers → GoesOn m cache places events s w
+    each w less = turn_of w less (next_turn m.fixed.plan m.fixed.root w can.plan can.root (own_events w events) (work_of w))
+
+    -- a worker has something, or an output may be taken
+    abbrev HasSome : ℕ → Type 0
+    HasSome w = holdings_of m.fixed s w ≡ nothing → ⊥
+
+    abbrev Busy : ℕ → Type 0
+    Busy w = (length s.taken < m.fixed.count) ⊎ HasSome w
+
+    -- who is waited for has something
+    waited : (w v : ℕ) → Waits m s w v → HasSome v
+    waited w v (for_frame {k = k} needs at) empty =
+        let there = has_claim m cache places events s can.plan can.root under.runs under.work v k at in
+        let bad : false ≡ true = sym (ap (λ (g : Holdings). has k g.claims) empty) ∙ there in absurd (cc)
+    waited w v (for_instance {k = k} new free held) empty =
+        let found = leased_at m cache places events s can.plan can.root under.runs under.work w v k.node (held_at (lookup (same_place (place_of w k.node)) s.places) v held) in
+        let bad : [] ≡ place_of w k.node ∷ [] = ap (λ (g : Holdings). g.leases) (sym empty) ∙ found.0 in absurd (cc)
 
     -- a busy worker is one of the window's
-    busy_within : (v : ℕ) → (own_of v ≡ nothing → ⊥) → v < m.fixed.workers
+    busy_within : (v : ℕ) → HasSome v → v < m.fixed.workers
     busy_within v busy = ⊎_elim (λ (less : v < m.fixed.workers). less)
-        (λ (past : m.fixed.workers ≤ v). absurd (busy (ap (own_holdings m.fixed.plan) (own_none m v past events (start_of m cache places) s under.runs)))) (cases_lt v m.fixed.workers)
+        (λ (past : m.fixed.workers ≤ v). absurd (busy (sym (tells v).holdings ∙ ap (own_holdings m.fixed.plan) (own_none m v past events (start_of m cache places) s under.runs)))) (cases_lt v m.fixed.workers)
 
-    move : (most w : ℕ) → tall w < most → w < m.fixed.workers → Busy w → Moves m cache places events s
+    abbrev Someone : Type 0
+    Someone = (w : ℕ) × Moves m cache places events s w
+
+    step : (w : ℕ) → Busy w → ((v : ℕ) → tall v < tall w → HasSome v → Someone) → GoesOn m cache places events s w → Someone
+    step w busy again (moves it) = (w, it)
+    step w busy again (waits {v = v} on) =
+        again v (lower m cache places events s can.plan can.root under.runs under.work w v (goes_down m cache places events s can.plan can.root under.runs under.work w v on)) (waited w v on)
+    step w (inl more) again (rests none past) = absurd (omega (arith, more, past))
+    step w (inr busy) again (rests none past) = absurd (busy none)
+
+    -- from a busy worker to the one that it waits for, until one can take a turn
+    move : (most w : ℕ) → tall w < most → w < m.fixed.workers → Busy w → Someone
     move zero w low less busy = absurd (omega (arith, low))
-    move (suc most) w low less busy = ⊎_elim
-        (λ (moves : Moves m cache places events s). moves)
-        (λ (other : (v : ℕ) × (tall v < tall w) × (own_of v ≡ nothing → ⊥)).
-        let less' = other.1 in
-        move most other.0 (omega (arith, less', low)) (busy_within other.0 other.2) (inr other.2))
-        (turn_of w less busy (next_turn m.fixed.plan m.fixed.root w can.plan can.root (own_events w events) (work_of w)))
+    move (suc most) w low less busy = step w busy (λ v less' some. move most v (omega (arith, less', low)) (busy_within v some) (inr some)) (each w less)
 
-    someone : (j : ℕ) → slice_get s.frames j ≡ Some None → Moves m cache places events s
+    pub someone : (j : ℕ) → slice_get s.frames j ≡ Some None → Someone
     someone j undelivered = ⊎_elim
         (λ (more : length s.taken < m.fixed.count). move (suc (tall 0)) 0 (omega arith) can.someone (inl more))
         (λ (past : m.fixed.count ≤ length s.taken).
         let within = slice_get_within s.frames j None undelivered in let size = frames_are in
         let w = get_or s.taken j 0 in
         let took : slice_get s.taken j ≡ Some w = slice_get-get_or s.taken j 0 (omega (arith, within, size, past)) in
-        let busy : own_of w ≡ nothing → ⊥ = λ none.
-            output_there w m.fixed.first j s.taken s.frames took undelivered (ap (λ (g : Holdings). g.outputs) (sym (tells w).holdings) ∙ ap (λ (g : Holdings). g.outputs) none) in
+        let busy : HasSome w = λ none.
+            output_there w m.fixed.first j s.taken s.frames took undelivered (ap (λ (g : Holdings). g.outputs) none) in
         move (suc (tall w)) w (omega arith) (busy_within w busy) (inr busy)) (cases_lt (length s.taken) m.fixed.count)
 
 pub someone_moves : (F : Type 0) → SomeoneMoves F
-someone_moves F m cache places events s j can under undelivered = someone m cache places events s can under j undelivered
+someone_moves F = record {
+  each = λ m cache places events s w can under less. each m cache places events s can under w less;
+  someone = λ m cache places events s j can under undelivered. someone m cache places events s can under j undelivered;
+}

@@ -67,7 +67,7 @@ lease_is plan v i p _ one h =
     let same : p ≡ q = ⊎_elim (λ (e : same_place p q ≡ true). same_places p q e) (λ (e : same_place p q ≡ false). let bad : false ≡ true = rw e at h in absurd (cc)) (test (same_place p q)) in
     (ap (λ x. x ∷ []) (sym same), same)
 
-held_at : (o : Option (Option ℕ)) (v : ℕ) → worker_at o ≡ Some v → o ≡ Some (Some v)
+pub held_at : (o : Option (Option ℕ)) (v : ℕ) → worker_at o ≡ Some v → o ≡ Some (Some v)
 held_at None v h = absurd (cc)
 held_at (Some x) v h = ap Some h
 
@@ -129,7 +129,7 @@ module _ {F : Type 0} (m : Machine F) where
         omega (arith, at, below)
     need_low w _ (output {n = n} free) = let at : node_of m s w ≡ length m.fixed.plan = ap (newest_node (length m.fixed.plan)) free in omega (arith, at, there)
 
-    goes_down : (w v : ℕ) → Waits m s w v → GoesDown m s w v
+    pub goes_down : (w v : ℕ) → Waits m s w v → GoesDown m s w v
     goes_down w v (for_frame {k = k} needs at) = let low = claimed_low v k at in let less = need_low w k needs in below (omega (arith, low, less))
     goes_down w v (for_instance {k = k} new free held) =
         let at = newest_is w k new in

@@ -81,8 +81,8 @@ pub record WorkIsBounded (F : Type 0) : Type 0 where
       → length events ≤ 3 * length s.taken + sum_of (claim_cost m.fixed.plan) events + sum_of eviction_cost events
   -- where no one can take a turn, all outputs are delivered
   pub stands : (m : Machine F) (cache : List (Key × F)) (places : List Place) (events : List Event) (s : State F)
-      → CanRender m cache places → IsUnderWay m cache places events s → (Moves m cache places events s → ⊥)
-      → list_all is_some s.frames ≡ true
+      → CanRender m cache places → IsUnderWay m cache places events s
+      → ((w : ℕ) → Moves m cache places events s w → ⊥) → list_all is_some s.frames ≡ true
   -- and from every state of such a run all outputs can be delivered
   pub ends : (m : Machine F) (cache : List (Key × F)) (places : List Place) (events : List Event) (s : State F)
       → CanRender m cache places → IsUnderWay m cache places events s → Ends m cache places events

@@ -10,10 +10,12 @@ use Rattle.serve_events.specs.declared.event.Event.{Event}
 use Rattle.serve_events.specs.declared.event.Event.TheVariants.{Evict, Publish}
 use Rattle.serve_events.specs.Events.{worker_of}
 use Rattle.serve_events.specs.Keys.{mode_at, instance_of}
+use Rattle.serve_machine.specs.Closing.{nothing}
+use Rattle.serve_machine.specs.Holdings.{holdings_of}
 use Rattle.serve_machine.specs.Law.{start_of}
 use Rattle.serve_machine.specs.Machine.{Machine, replay}
 use Rattle.serve_machine.specs.State.{State, place_named}
-use Rattle.run_moves.specs.Waiting.{AllInWork}
+use Rattle.run_moves.specs.Waiting.{AllInWork, Waits}
 
 -- one turn of a worker: an event, or an eviction and the publication that follows it
 pub data IsTurn (w : ℕ) : List Event → Type 0 where
@@ -41,16 +43,26 @@ module _ {F : Type 0} (m : Machine F) (cache : List (Key × F)) (places : List P
     pub running : s.stop ≡ None
     pub settled : s.awaits ≡ None
 
-  -- a worker takes a turn, after which the window is under way as before
-  pub record Moves (events : List Event) (s : State F) : Type 0 where
-    pub worker : ℕ
+  -- the worker can take a turn, after which the window is under way as before
+  pub record Moves (events : List Event) (s : State F) (w : ℕ) : Type 0 where
     pub turn : List Event
-    pub is_turn : IsTurn worker turn
+    pub is_turn : IsTurn w turn
     pub after : State F
     pub goes_on : IsUnderWay (events ++ turn) after
 
--- while an output is not delivered, someone can take a turn
-abbrev pub SomeoneMoves : Type 0 → Type 0
-SomeoneMoves F = (m : Machine F) (cache : List (Key × F)) (places : List Place) (events : List Event) (s : State F) (j : ℕ)
-    → CanRender m cache places → IsUnderWay m cache places events s → slice_get s.frames j ≡ Some None
-    → Moves m cache places events s
+  -- what a worker of the window is at
+  pub data GoesOn (events : List Event) (s : State F) (w : ℕ) : Type 0 where
+    moves : Moves events s w → GoesOn events s w
+    waits : {v : ℕ} → Waits m s w v → GoesOn events s w
+    -- it has nothing, and all outputs are taken
+    rests : holdings_of m.fixed s w ≡ nothing → m.fixed.count ≤ length s.taken → GoesOn events s w
+
+pub record SomeoneMoves (F : Type 0) : Type 0 where
+  -- each worker can take a turn, or waits for another, or has no more to do
+  pub each : (m : Machine F) (cache : List (Key × F)) (places : List Place) (events : List Event) (s : State F) (w : ℕ)
+      → CanRender m cache places → IsUnderWay m cache places events s → w < m.fixed.workers
+      → GoesOn m cache places events s w
+  -- while an output is not delivered, one of them can take a turn
+  pub someone : (m : Machine F) (cache : List (Key × F)) (places : List Place) (events : List Event) (s : State F) (j : ℕ)
+      → CanRender m cache places → IsUnderWay m cache places events s → slice_get s.frames j ≡ Some None
+      → (w : ℕ) × Moves m cache places events s w
