@@ -1,5 +1,5 @@
 -- Work is bounded.
-use Rattle.std.proofs.Common.{◌≡◌, ◌⊎◌, inl, inr, ℕ, zero, suc, ◌+◌, ◌*◌, ◌<◌, ◌≤◌, ◌==◌, nat_lt, Bool, true, false, ◌&&◌, if◌then◌else◌, List, [], ◌∷◌, ◌++◌, length, slice_get, Option, Some, None, refl, sym, ap, ◌∙◌, arith, subst, ⊎_elim, eq-eqb, ne_eqb, append_assoc}
+use Rattle.std.proofs.Common.{◌≡◌, ◌⊎◌, inl, inr, ℕ, zero, suc, ◌+◌, ◌*◌, ◌<◌, ◌≤◌, ◌==◌, nat_lt, true, false, ◌&&◌, if◌then◌else◌, List, [], ◌∷◌, ◌++◌, length, slice_get, Option, Some, None, refl, sym, ap, ◌∙◌, arith, subst, ⊎_elim, eq-eqb, ne_eqb, append_assoc}
 use Rattle.std.specs.Prelude.{is_some}
 use Rattle.std.specs.List.{AllByRecursion, list_all}
 use Rattle.std.proofs.lemmas.Bool.{eqb-true, ltb-true, cases_lt}
@@ -121,9 +121,10 @@ module _ {F : Type 0} (m : Machine F) where
   within_run : (es : List Event) (s t : State F) → replay m s es ≡ Some t → AllByRecursion (λ e. worker_of e < m.fixed.workers) es
   within_run [] s t ran = tt
   within_run (e ∷ es) s t ran = ⊎_elim
-      (λ (ok : allowed m s e ≡ true).
-      (ltb-true (worker_of e) m.fixed.workers (left_true (nat_lt (worker_of e) m.fixed.workers) (meets m s e) (right_true (in_turn s.awaits e) (nat_lt (worker_of e) m.fixed.workers && meets m s e) ok)),
-      within_run es (change m s e) t (rw ok at ran)))
+      (λ (ok : allowed m s e ≡ true). (
+        ltb-true (worker_of e) m.fixed.workers (left_true (nat_lt (worker_of e) m.fixed.workers) (meets m s e) (right_true (in_turn s.awaits e) (nat_lt (worker_of e) m.fixed.workers && meets m s e) ok)),
+        within_run es (change m s e) t (rw ok at ran),
+      ))
       (λ (bad : allowed m s e ≡ false). let nowhere : None ≡ Some t = rw bad at ran in absurd (cc)) (test (allowed m s e))
 
   met_of : (s : State F) (e : Event) → allowed m s e ≡ true → meets m s e ≡ true
@@ -341,10 +342,10 @@ module _ {F : Type 0} (m : Machine F) (cache : List (Key × F)) (places : List P
     window_most =
         let plan = m.fixed.plan in let root = m.fixed.root in
         let all = all_bounded (on_take (output_events plan root)) m.fixed.workers events (within_run m events (start_of m cache places) s ran)
-            (λ w. work_paid plan root w (on_take (output_events plan root)) (λ n. 5 * tree_size plan (frame_key root n))
-            (λ n es p. let a = production_most plan w is (suc root) (frame_key root n) es (omega arith) there p in omega (arith, a))
-            (λ n es closing c. let a = short_most plan w is (suc root) (frame_key root n) es closing (omega arith) there c in omega (arith, a))
-            (λ n. omega arith) (own_events w events) (works w)) in
+        (λ w. work_paid plan root w (on_take (output_events plan root)) (λ n. 5 * tree_size plan (frame_key root n))
+        (λ n es p. let a = production_most plan w is (suc root) (frame_key root n) es (omega arith) there p in omega (arith, a))
+        (λ n es closing c. let a = short_most plan w is (suc root) (frame_key root n) es closing (omega arith) there c in omega (arith, a))
+        (λ n. omega arith) (own_events w events) (works w)) in
         let total = taken_sum m (output_events plan root) (window_events plan root m.fixed.first) (λ n. refl) events (start_of m cache places) s ran in
         let few = few_taken m events (start_of m cache places) s (omega arith) ran in
         let grown = window_grows plan root m.fixed.first (length s.taken) m.fixed.count few in
@@ -354,10 +355,10 @@ module _ {F : Type 0} (m : Machine F) (cache : List (Key × F)) (places : List P
     claims_most =
         let plan = m.fixed.plan in let root = m.fixed.root in
         let all = all_bounded (paid plan) m.fixed.workers events (within_run m events (start_of m cache places) s ran)
-            (λ w. work_paid plan root w (paid plan) (λ n. 1)
-            (λ n es p. production_paid plan w (frame_key root n) es p)
-            (λ n es closing c. short_paid plan w (frame_key root n) es closing c)
-            (λ n. omega arith) (own_events w events) (works w)) in
+        (λ w. work_paid plan root w (paid plan) (λ n. 1)
+        (λ n es p. production_paid plan w (frame_key root n) es p)
+        (λ n es closing c. short_paid plan w (frame_key root n) es closing c)
+        (λ n. omega arith) (own_events w events) (works w)) in
         let total = taken_sum m (λ n. 3) (λ n. 3 * n) (λ n. omega arith) events (start_of m cache places) s ran in
         let a = sum_of-add (on_take (λ n. 3)) (λ e. claim_cost plan e + eviction_cost e) events in
         let b = sum_of-add (claim_cost plan) eviction_cost events in

@@ -1,9 +1,9 @@
 -- What a worker holds that is somewhere in its work.
-use Rattle.std.proofs.Common.{◌≡◌, ℕ, zero, suc, ◌+◌, ◌<◌, ◌≤◌, ◌==◌, true, false, if◌then◌else◌, List, [], ◌∷◌, ◌++◌, length, Some, refl, sym, ap, ◌∙◌, arith, subst}
+use Rattle.std.proofs.Common.{◌≡◌, ℕ, suc, ◌+◌, ◌<◌, ◌≤◌, ◌==◌, true, false, if◌then◌else◌, List, [], ◌∷◌, ◌++◌, length, refl, sym, ap, ◌∙◌, arith, subst}
 use Rattle.std.specs.List.{AllByRecursion}
 use Rattle.std.proofs.lemmas.List.{length-append}
 use Rattle.fv_plane.specs.declared.key.Key.{Key}
-use Rattle.clip_graph.specs.Plan.{Application, application_at, IsPlan}
+use Rattle.clip_graph.specs.Plan.{Application, IsPlan}
 use Rattle.clip_graph.specs.Unfolding.{input_keys}
 use Rattle.inst_table.specs.declared.place.Place.{Place}
 use Rattle.serve_events.specs.declared.event.Event.{Event}
@@ -11,7 +11,7 @@ use Rattle.serve_events.specs.declared.event.Event.TheVariants.{Enter, Leave, Ta
 use Rattle.serve_events.specs.Keys.{frame_key, mode_at, instance_of}
 use Rattle.serve_events.specs.Own.{own_events}
 use Rattle.serve_events.specs.SerialRun.{leases}
-use Rattle.serve_events.specs.Work.{Production, Productions, done, more, CutShort, refused, inside, entered, unpublished, CutInputs, between, within, Deliveries, CutDeliveries, untaken, taken}
+use Rattle.serve_events.specs.Work.{Productions, done, more, CutShort, refused, inside, entered, unpublished, CutInputs, between, within, Deliveries, untaken, taken}
 use Rattle.serve_machine.specs.State.{place_named}
 use Rattle.serve_machine.specs.Holdings.{Holdings, holdings_after, own_holdings}
 use Rattle.serve_machine.specs.Closing.{AllPast, IsIdle, nothing}

@@ -1,5 +1,5 @@
 -- Someone can always go on.
-use Rattle.std.proofs.Common.{◌≡◌, ◌⊎◌, inl, inr, ℕ, zero, suc, ◌+◌, ◌-◌, ◌<◌, ◌≤◌, ◌==◌, nat_lt, Bool, true, false, not, ◌||◌, ◌&&◌, if◌then◌else◌, List, [], ◌∷◌, ◌++◌, length, map, get_or, replicate, slice_get, Option, Some, None, IsSome, refl, sym, ap, ◌∙◌, arith, subst, ⊎_elim, eq-eqb, ne_eqb}
+use Rattle.std.proofs.Common.{◌≡◌, ◌⊎◌, inl, inr, ℕ, zero, suc, ◌+◌, ◌-◌, ◌<◌, ◌≤◌, ◌==◌, nat_lt, Bool, true, false, not, ◌||◌, ◌&&◌, if◌then◌else◌, List, [], ◌∷◌, ◌++◌, length, map, get_or, replicate, slice_get, Option, Some, None, refl, sym, ap, ◌∙◌, arith, subst, ⊎_elim, eq-eqb, ne_eqb}
 use Rattle.std.specs.Prelude.{is_some, take}
 use Rattle.std.specs.Cmp.Derive.{both_true}
 use Rattle.std.specs.List.{list_any}
@@ -9,10 +9,9 @@ use Rattle.std.proofs.lemmas.List.{append-nil, length-take}
 use Rattle.std.proofs.lemmas.Option.{slice_get_within, slice_get-get_or}
 use Rattle.std.proofs.Math.ListN.{length-set}
 use Rattle.fv_plane.specs.declared.key.Key.{Key}
-use Rattle.clip_graph.specs.Plan.{Application, IsPlan}
 use Rattle.clip_graph.specs.Unfolding.{input_keys}
-use Rattle.frame_cache.specs.Cached.{same_key, at_key, has_key, dropped_key, Differ}
-use Rattle.frame_cache.proofs.CallerLemmas.{key_itself, some_dropped, absent}
+use Rattle.frame_cache.specs.Cached.{same_key, at_key, has_key, dropped_key}
+use Rattle.frame_cache.proofs.CallerLemmas.{key_itself, some_dropped}
 use Rattle.inst_table.specs.declared.place.Place.{Place}
 use Rattle.inst_table.specs.Places.{same_place}
 use Rattle.serve_events.specs.declared.event.Event.{Event}
@@ -22,18 +21,18 @@ use Rattle.serve_events.specs.Keys.{IsKey, has, frame_key, mode_at, instance_of}
 use Rattle.serve_events.specs.Own.{has_got, has_got_all, own_events}
 use Rattle.serve_events.specs.SerialRun.{eviction}
 use Rattle.serve_events.proofs.KeyLemmas.{test, left_true, right_true}
-use Rattle.serve_machine.specs.State.{State, is_key, place_named, claims_at, is_open, is_some_and, is_by, holds_nothing, is_running, with_told, got_at, gathered}
+use Rattle.serve_machine.specs.State.{State, is_key, place_named, claims_at, is_open, is_some_and, is_by, is_running, with_told, got_at, gathered}
 use Rattle.serve_machine.specs.Closing.{nothing}
-use Rattle.serve_machine.specs.Holdings.{Holdings, claims_of, leases_of, outputs_of, holdings_of, own_holdings, has_number, IsToldBy}
+use Rattle.serve_machine.specs.Holdings.{Holdings, claims_of, leases_of, outputs_of, holdings_of, own_holdings, IsToldBy}
 use Rattle.serve_machine.specs.Law.{start_of, worker_at}
-use Rattle.serve_machine.specs.Machine.{Machine, in_turn, meets, allowed, change, replay}
+use Rattle.serve_machine.specs.Machine.{Machine, meets, allowed, change, replay}
 use Rattle.serve_machine.proofs.KeptLemmas.{Keys, keys_law}
 use Rattle.serve_machine.proofs.LawLemmas.{no_claims}
 use Rattle.serve_machine.proofs.TruthLemmas.{some_same, some_value}
 use Rattle.run_moves.specs.Moves.{InWork, newest_node}
 use Rattle.run_moves.specs.Waiting.{IsNewest, AllInWork, Needs, input, output, Waits, for_frame, for_instance, node_of}
 use Rattle.run_moves.specs.Moving.{IsTurn, single, evicts, CanRender, IsUnderWay, Moves, GoesOn, moves, waits, rests, SomeoneMoves}
-use Rattle.run_moves.proofs.HoldLemmas.{Falls, Seat}
+use Rattle.run_moves.proofs.HoldLemmas.{Falls}
 use Rattle.run_moves.proofs.WaitLemmas.{has_low, own_none, in_work, told, seat, has_claim, leased_at, held_at, height, lower, goes_down}
 use Rattle.run_moves.proofs.NextLemmas.{IsWanted, by_claim, by_output, Next, asks, enters, leaves, publishes, NextTurn, produces, delivers, takes, next_turn}
 
@@ -397,7 +396,7 @@ module _ {F : Type 0} (m : Machine F) where
         let w = get_or s.taken j 0 in
         let took : slice_get s.taken j ≡ Some w = slice_get-get_or s.taken j 0 (omega (arith, within, size, past)) in
         let busy : HasSome w = λ none.
-            output_there w m.fixed.first j s.taken s.frames took undelivered (ap (λ (g : Holdings). g.outputs) none) in
+        output_there w m.fixed.first j s.taken s.frames took undelivered (ap (λ (g : Holdings). g.outputs) none) in
         move (suc (tall w)) w (omega arith) (busy_within w busy) (inr busy)) (cases_lt (length s.taken) m.fixed.count)
 
 pub someone_moves : (F : Type 0) → SomeoneMoves F

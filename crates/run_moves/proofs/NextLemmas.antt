@@ -1,11 +1,11 @@
 -- The next turn of a worker that is somewhere in its work.
-use Rattle.std.proofs.Common.{◌≡◌, ◌⊎◌, inl, inr, ℕ, zero, suc, ◌+◌, ◌<◌, ◌≤◌, ◌==◌, true, false, if◌then◌else◌, ◌||◌, List, [], ◌∷◌, ◌++◌, length, Option, Some, None, refl, sym, ap, ◌∙◌, arith, subst, ⊎_elim, append_assoc, eq-eqb}
+use Rattle.std.proofs.Common.{◌≡◌, ◌⊎◌, inl, inr, ℕ, suc, ◌<◌, ◌≤◌, ◌==◌, true, false, ◌||◌, List, [], ◌∷◌, ◌++◌, length, Option, refl, sym, ap, ◌∙◌, arith, subst, ⊎_elim, append_assoc, eq-eqb}
 use Rattle.std.specs.List.{AllByRecursion}
 use Rattle.std.proofs.lemmas.Bool.{eqb-true}
 use Rattle.std.proofs.lemmas.List.{append-nil}
 use Rattle.fv_plane.specs.declared.key.Key.{Key}
 use Rattle.clip_graph.specs.Plan.{Application, IsPlan}
-use Rattle.clip_graph.specs.Unfolding.{input_keys, IsKeyBelow}
+use Rattle.clip_graph.specs.Unfolding.{input_keys}
 use Rattle.serve_events.specs.declared.event.Event.{Event}
 use Rattle.serve_events.specs.declared.event.Event.TheVariants.{Hit, Claim, Enter, Leave, Publish, Abandon, Take, Deliver}
 use Rattle.serve_events.specs.Keys.{IsKey, same_key, has, frame_key, mode_at, instance_of}
@@ -119,17 +119,17 @@ module _ (plan : List Application) (root w : ℕ) (is : IsPlan plan) where
     next_short k _ _ h there wanted r (entered {es = es} needed p) =
         let i = k.node in let j = instance_of plan w k.node in
         let after : holdings_after plan (claimed h k) (es ++ Enter w i j ∷ []) ≡ record (claimed h k) { leases = place_named plan i j ∷ [] } =
-            holdings_after-append plan (claimed h k) es (Enter w i j ∷ []) ∙ ap (λ g. holdings_after plan g (Enter w i j ∷ [])) (inputs_produced plan w is k es h there r p) in
+        holdings_after-append plan (claimed h k) es (Enter w i j ∷ []) ∙ ap (λ g. holdings_after plan g (Enter w i j ∷ [])) (inputs_produced plan w is k es h there r p) in
         let both : leases plan w i ≡ Enter w i j ∷ Leave w i j ∷ [] = ⊎_elim
-            (λ (e : (mode_at plan i == 1) ≡ true). absurd (needed (eqb-true (mode_at plan i) 1 e)))
-            (λ (e : (mode_at plan i == 1) ≡ false). rw e refl) (test (mode_at plan i == 1)) in
+        (λ (e : (mode_at plan i == 1) ≡ true). absurd (needed (eqb-true (mode_at plan i) 1 e)))
+        (λ (e : (mode_at plan i == 1) ≡ false). rw e refl) (test (mode_at plan i == 1)) in
         let way : Claim w k ∷ (es ++ leases plan w i) ≡ (Claim w k ∷ (es ++ Enter w i j ∷ [])) ++ Leave w i j ∷ [] =
-            ap (λ ls. Claim w k ∷ (es ++ ls)) both ∙ ap (λ x. Claim w k ∷ x) (sym (append_assoc es (Enter w i j ∷ []) (Leave w i j ∷ []))) in
+        ap (λ ls. Claim w k ∷ (es ++ ls)) both ∙ ap (λ x. Claim w k ∷ x) (sym (append_assoc es (Enter w i j ∷ []) (Leave w i j ∷ []))) in
         leaves k (ap (λ (g : Holdings). g.leases) after) (inl (Abandon w k ∷ [], subst (λ x. CutShort plan w k x (Abandon w k ∷ [])) way (unpublished p)))
     next_short k _ _ h there wanted r (unpublished {es = es} p) =
         let i = k.node in
         let after : holdings_after plan (claimed h k) (es ++ leases plan w i) ≡ claimed h k =
-            holdings_after-append plan (claimed h k) es (leases plan w i) ∙ (ap (λ g. holdings_after plan g (leases plan w i)) (inputs_produced plan w is k es h there r p) ∙ after_leases plan w is i (claimed h k) r.unlent) in
+        holdings_after-append plan (claimed h k) es (leases plan w i) ∙ (ap (λ g. holdings_after plan g (leases plan w i)) (inputs_produced plan w is k es h there r p) ∙ after_leases plan w is i (claimed h k) r.unlent) in
         publishes k (ap (λ (g : Holdings). has k g.claims) after ∙ has_pushed k h.claims) (ap (λ (g : Holdings). g.leases) after ∙ r.unlent)
         (still_got es (leases plan w i) (produced_all_got plan w (input_keys plan k) es p))
         (λ gone. inr (subst (Production plan w k) (ap (λ x. Claim w k ∷ x) (sym (append_assoc es (leases plan w i) (eviction w gone ++ Publish w k ∷ [])))) (made gone p)))
@@ -153,7 +153,7 @@ module _ (plan : List Application) (root w : ℕ) (is : IsPlan plan) where
         let input = all_next (IsInput plan i most) ks j js all e each in
         let less = (input.below).node in
         let same : holdings_after plan h (es ++ fs) ≡ holdings_after plan h fs = holdings_after-append plan h es fs
-            ∙ ap (λ g. holdings_after plan g fs) (produced plan w is i most ks es h few (all_left (IsInput plan i most) ks (j ∷ js) all e each) r p) in
+        ∙ ap (λ g. holdings_after plan g fs) (produced plan w is i most ks es h few (all_left (IsInput plan i most) ks (j ∷ js) all e each) r p) in
         inr (subst (λ g. Next plan root w (Unit {0}) g (es ++ fs) (AheadInputs plan w all (es ++ fs))) (sym same)
         (map_next (λ q. record { node = omega (arith, less, few); number = (input.below).number }) (λ ks all. now_all_got w ks es fs all) (λ gs a. on_input ks j js all es fs gs e p a)
         (next_short j fs closing h (omega (arith, less, few)) (wanted j (has_middle ks j js all e)) (ready_below plan w is i (suc j.node) h (omega (arith, less)) r) c)))
@@ -184,7 +184,7 @@ module _ (plan : List Application) (root w : ℕ) (is : IsPlan plan) (there : ro
       (next_short plan root w is k fs closing (took (n ∷ [])) there (by_output refl) (ready_took plan w is root (n ∷ []) there) c)))
   next_turn _ (ready {ns = ns} {es = es} {fs = fs} {n = n} p q) =
       let after = after_taken plan w is root n ns es fs there p
-          ∙ work_closes.production plan w (frame_key root n) fs (took (n ∷ [])) is there (record { past = tt; unlent = refl }) q in
+      ∙ work_closes.production plan w (frame_key root n) fs (took (n ∷ [])) is there (record { past = tt; unlent = refl }) q in
       delivers n (numbered n (own_holdings plan (es ++ Take w n ∷ fs)).outputs (ap (λ (g : Holdings). g.outputs) after))
       (now_got w (frame_key root n) es (Take w n ∷ fs) (now_got w (frame_key root n) (Take w n ∷ []) fs (produced_got plan w (frame_key root n) fs q)))
       (midway (subst (λ x. CutDeliveries plan root w x []) (sym (append_assoc es (Take w n ∷ fs) (Deliver w n ∷ []))) (untaken (more_delivered p q))))

@@ -1,5 +1,5 @@
 -- Waiting goes down.
-use Rattle.std.proofs.Common.{◌≡◌, ◌⊎◌, ℕ, zero, suc, ◌+◌, ◌*◌, ◌<◌, ◌≤◌, ◌==◌, nat_lt, Bool, true, false, ◌||◌, ◌&&◌, List, [], ◌∷◌, ◌++◌, length, Option, Some, None, refl, sym, ap, ◌∙◌, arith, subst, ⊎_elim, eq-eqb, ne_eqb}
+use Rattle.std.proofs.Common.{◌≡◌, ℕ, ◌+◌, ◌*◌, ◌<◌, ◌≤◌, nat_lt, true, false, ◌&&◌, List, [], ◌∷◌, ◌++◌, length, Option, Some, None, refl, sym, ap, ◌∙◌, arith, subst, ⊎_elim, eq-eqb, ne_eqb}
 use Rattle.std.specs.List.{AllByRecursion, list_any}
 use Rattle.std.specs.Map.{lookup}
 use Rattle.std.proofs.lemmas.Bool.{ltb-true, cases_lt}
@@ -12,11 +12,11 @@ use Rattle.inst_table.specs.Places.{same_place}
 use Rattle.inst_table.proofs.CallerLemmas.{same_places}
 use Rattle.serve_events.specs.declared.event.Event.{Event}
 use Rattle.serve_events.specs.Events.{worker_of}
-use Rattle.serve_events.specs.Keys.{same_key, has, frame_key, instance_of}
+use Rattle.serve_events.specs.Keys.{same_key, has, instance_of}
 use Rattle.serve_events.specs.Own.{own_events}
 use Rattle.serve_events.specs.Work.{untaken, none}
 use Rattle.serve_events.proofs.KeyLemmas.{test, left_true, right_true, same_keys}
-use Rattle.serve_machine.specs.Holdings.{Holdings, claims_of, leases_of, holdings_of, own_holdings, IsToldBy}
+use Rattle.serve_machine.specs.Holdings.{Holdings, claims_of, leases_of, holdings_of, IsToldBy}
 use Rattle.serve_machine.specs.Law.{start_of, worker_at}
 use Rattle.serve_machine.specs.Machine.{Machine, in_turn, meets, allowed, change, replay}
 use Rattle.serve_machine.specs.State.{State, place_named, is_by}
@@ -25,7 +25,7 @@ use Rattle.serve_machine.proofs.TruthLemmas.{some_same}
 use Rattle.run_moves.specs.Moves.{InWork, midway, newest_node}
 use Rattle.run_moves.specs.Waiting.{IsNewest, AllInWork, Needs, input, output, Waits, for_frame, for_instance, WaitsOn, last, next, node_of, GoesDown, below, leased, WaitingGoesDown}
 use Rattle.run_moves.proofs.InputLemmas.{IsInput, most_below, inputs_are}
-use Rattle.run_moves.proofs.HoldLemmas.{Falls, newest-push, newest_low, LeasesAt, none as unlent, one, Holds, Seat, seated}
+use Rattle.run_moves.proofs.HoldLemmas.{Falls, newest-push, newest_low, LeasesAt, none as unlent, one, Seat, seated}
 
 -- CLAIMS IN THEIR ORDER
 
