@@ -4,3 +4,4 @@ pub mod WaitLemmas
 pub mod NextLemmas
 pub mod MoveLemmas
 pub mod BoundLemmas
+pub mod PrefixLemmas

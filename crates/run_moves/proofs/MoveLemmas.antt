@@ -38,7 +38,7 @@ use Rattle.run_moves.proofs.NextLemmas.{IsWanted, by_claim, by_output, Next, ask
 
 -- LISTS
 
-own_append : (w : ℕ) (es fs : List Event) → own_events w (es ++ fs) ≡ own_events w es ++ own_events w fs
+pub own_append : (w : ℕ) (es fs : List Event) → own_events w (es ++ fs) ≡ own_events w es ++ own_events w fs
 own_append w [] fs = refl
 own_append w (e ∷ es) fs = let ih = own_append w es fs in ⊎_elim
     (λ (b : (worker_of e == w) ≡ true). rw b (ap (λ x. e ∷ x) ih))

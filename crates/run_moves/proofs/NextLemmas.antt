@@ -26,7 +26,7 @@ use Rattle.run_moves.proofs.HoldLemmas.{newest-push, claimed, IsReady, ready_cla
 -- WORK, ONE MORE
 
 module _ {plan : List Application} {w : ℕ} where
-  more_produced : {ks : List Key} {es : List Event} {j : Key} {fs : List Event} → Productions plan w ks es → Production plan w j fs → Productions plan w (ks ++ j ∷ []) (es ++ fs)
+  pub more_produced : {ks : List Key} {es : List Event} {j : Key} {fs : List Event} → Productions plan w ks es → Production plan w j fs → Productions plan w (ks ++ j ∷ []) (es ++ fs)
   more_produced {j = j} {fs = fs} (done) q = subst (Productions plan w (j ∷ [])) (append-nil fs) (more q done)
   more_produced {j = j} {fs = gs} (more {k = k} {ks = ks} {es = es} {fs = fs} p r) q =
       subst (Productions plan w (k ∷ (ks ++ j ∷ []))) (sym (append_assoc es fs gs)) (more p (more_produced r q))

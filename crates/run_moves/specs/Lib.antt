@@ -2,3 +2,4 @@ pub mod Moves
 pub mod Waiting
 pub mod Moving
 pub mod Bounds
+pub mod Along

@@ -5,6 +5,7 @@ ghost use Rattle.run_moves.specs.Moves.{WorkersHoldLittle};
 ghost use Rattle.run_moves.specs.Waiting.{WaitingGoesDown};
 ghost use Rattle.run_moves.specs.Moving.{SomeoneMoves};
 ghost use Rattle.run_moves.specs.Bounds.{WorkIsBounded};
+ghost use Rattle.run_moves.specs.Along.{StaysInWork};
 
 /// A worker that is somewhere in its work holds little: at most as many claims as filters stand one on another up to the
 /// root, one instance, and one output. Nothing is said of a worker whose work was cut short.
@@ -30,4 +31,10 @@ pub fn someone_moves<F>()
 /// said how long a turn takes, nor that the workers are given turns.
 pub fn work_is_bounded<F>()
     ensures { WorkIsBounded F }
+{}
+
+/// Where each worker's events turn out to be work, as the contracts of the workers say at the end, each was somewhere in its
+/// work at each point before. Of the points between an eviction and its publication nothing is said.
+pub fn stays_in_work<F>()
+    ensures { StaysInWork F }
 {}
