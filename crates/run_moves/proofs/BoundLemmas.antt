@@ -14,7 +14,7 @@ use Rattle.serve_events.specs.Events.{worker_of}
 use Rattle.serve_events.specs.Keys.{frame_key, mode_at, instance_of}
 use Rattle.serve_events.specs.Own.{own_events}
 use Rattle.serve_events.specs.SerialRun.{eviction, leases}
-use Rattle.serve_events.specs.Work.{Production, hit, made, Productions, done, more, CutShort, refused, inside, entered, unpublished, CutInputs, between, within, Deliveries, none, also, untaken, taken}
+use Rattle.serve_events.specs.Work.{Production, hit, made, Productions, done, more, CutShort, refused, inside, entered, unpublished, CutInputs, between, within, Deliveries, none, also, CutDeliveries, untaken, taken, failed as failed_work}
 use Rattle.serve_events.proofs.KeyLemmas.{test, left_true, right_true}
 use Rattle.serve_machine.specs.Law.{start_of}
 use Rattle.serve_machine.specs.Machine.{Machine, in_turn, meets, allowed, change, replay}
@@ -23,9 +23,9 @@ use Rattle.serve_machine.proofs.TruthLemmas.{some_same}
 use Rattle.run_moves.specs.Moves.{InWork, midway, ready}
 use Rattle.run_moves.specs.Waiting.{AllInWork}
 use Rattle.run_moves.specs.Moving.{IsTurn, single, evicts, CanRender, IsUnderWay, Moves}
-use Rattle.run_moves.specs.Bounds.{sum_over, tree_within, tree_size, output_events, window_events, sum_of, claim_cost, eviction_cost, most_events, Ends, WorkIsBounded}
-use Rattle.run_moves.proofs.InputLemmas.{IsInput, most_below, inputs_are, all_left, all_next}
-use Rattle.run_moves.proofs.WaitLemmas.{in_work}
+use Rattle.run_moves.specs.Bounds.{sum_over, tree_within, tree_size, output_events, window_events, sum_of, claim_cost, eviction_cost, IsClosed, closed, failed, most_events, most_stopped, Ends, WorkIsBounded}
+use Rattle.run_moves.proofs.InputLemmas.{depth_at, depth_is, IsInput, most_below, inputs_are, all_left, all_next}
+use Rattle.run_moves.proofs.WaitLemmas.{in_work, own_none}
 use Rattle.run_moves.proofs.MoveLemmas.{someone_moves}
 
 -- SUMS
@@ -101,6 +101,18 @@ all_bounded f n es all each =
     let a = own_sum (λ e. 1) n es all in let b = own_sum f n es all in let l = length_sum es in
     let most = upto_most n (λ w. sum_of (λ e. 1) (own_events w es)) (λ w. sum_of f (own_events w es)) (λ w. let long = length_sum (own_events w es) in let here = each w in omega (arith, long, here)) in
     omega (arith, a, b, l, most)
+
+upto_plus : (n c : ℕ) (x : ℕ → ℕ) → upto n (λ w. x w + c) ≡ upto n x + n * c
+upto_plus zero c x = grind arith
+upto_plus (suc n) c x = let ih = upto_plus n c x in grind (arith, ih)
+
+-- and so with so many more for each worker
+all_nearly : (f : Event → ℕ) (n c : ℕ) (es : List Event) → AllByRecursion (λ e. worker_of e < n) es → ((w : ℕ) → length (own_events w es) ≤ sum_of f (own_events w es) + c) → length es ≤ sum_of f es + n * c
+all_nearly f n c es all each =
+    let a = own_sum (λ e. 1) n es all in let b = own_sum f n es all in let l = length_sum es in
+    let plus = upto_plus n c (λ w. sum_of f (own_events w es)) in
+    let most = upto_most n (λ w. sum_of (λ e. 1) (own_events w es)) (λ w. sum_of f (own_events w es) + c) (λ w. let long = length_sum (own_events w es) in let here = each w in omega (arith, long, here)) in
+    omega (arith, a, b, l, most, plus)
 
 -- WHAT A TAKE PAYS FOR
 
@@ -250,6 +262,24 @@ module _ (plan : List Application) (w : ℕ) (is : IsPlan plan) where
         let total = ap (sum_over (tree_within most plan)) e ∙ sum_over-append (tree_within most plan) ks (j ∷ js) in
         let l = length-append es fs in omega (arith, a, b, total, l)
 
+-- what closes work that was cut short
+module _ (plan : List Application) (w : ℕ) (is : IsPlan plan) where
+  mutual
+    short_closes : (k : Key) (es closing : List Event) → k.node < length plan → CutShort plan w k es closing → length closing ≤ depth_at plan k.node + 1
+    short_closes k _ _ there (refused) = omega arith
+    short_closes k _ _ there (inside {es = es} {closing = closing} c) =
+        let ih = inputs_close k.node (most_below plan k) (input_keys plan k) es closing (omega (arith, there)) (inputs_are plan k is there) c in
+        let l = length-append closing (Abandon w k ∷ []) in let deep = depth_is plan k is there in omega (arith, ih, l, deep)
+    short_closes k _ _ there (entered needed p) = let deep = depth_is plan k is there in omega (arith, deep)
+    short_closes k _ _ there (unpublished p) = omega arith
+
+    inputs_close : (i deep : ℕ) (all : List Key) (es closing : List Event) → i ≤ length plan → AllByRecursion (IsInput plan i deep) all → CutInputs plan w all es closing → length closing ≤ deep + 1
+    inputs_close i deep all es _ few each (between js e p) = omega arith
+    inputs_close i deep all _ _ few each (within {ks = ks} {j = j} {fs = fs} {closing = closing} js e p c) =
+        let input = all_next (IsInput plan i deep) ks j js all e each in
+        let less = (input.below).node in let low = input.depth in
+        let ih = short_closes j fs closing (omega (arith, less, few)) c in omega (arith, ih, low)
+
 -- BY CLAIMS AND EVICTIONS
 
 abbrev paid : List Application → Event → ℕ
@@ -323,7 +353,40 @@ module _ (plan : List Application) (root w : ℕ) (cost : Event → ℕ) (part :
   work_paid _ (midway (taken {ns = ns} {es = es} {fs = fs} {closing = closing} {n = n} p c)) = taken_paid ns n es fs p (short n fs closing c)
   work_paid _ (ready {ns = ns} {es = es} {fs = fs} {n = n} p q) = taken_paid ns n es fs p (whole n fs q)
 
+  -- what closes the work is no part of a cost of outputs
+  module _ (is : IsPlan plan) (there : root < length plan) where
+    cut_paid : (es closing : List Event) → CutDeliveries plan root w es closing → length (es ++ closing) ≤ sum_of cost (es ++ closing) + (depth_at plan root + 1)
+    cut_paid es _ (untaken {ns = ns} p) = let a = work_paid es (midway (untaken p)) in let l = length-append es [] in let s = sum_of-append cost es [] in omega (arith, a, l, s)
+    cut_paid _ _ (taken {ns = ns} {es = es} {fs = fs} {closing = closing} {n = n} p c) =
+        let a = work_paid (es ++ Take w n ∷ fs) (midway (taken p c)) in
+        let b = short_closes plan w is (frame_key root n) fs closing there c in
+        let l = length-append (es ++ Take w n ∷ fs) closing in let s = sum_of-append cost (es ++ Take w n ∷ fs) closing in omega (arith, a, b, l, s)
+
+    closed_paid : (es : List Event) → IsClosed plan root w es → length es ≤ sum_of cost es + (depth_at plan root + 2)
+    closed_paid _ (closed {done = es} {closing = closing} c) = let a = cut_paid es closing c in omega (arith, a)
+    closed_paid _ (failed {why = why} (failed_work {done = es} {closing = closing} c)) =
+        let a = cut_paid es closing c in
+        let l = length-append es closing in let s = sum_of-append cost es closing in
+        let l' = length-append es (closing ++ Fail w why ∷ []) in let s' = sum_of-append cost es (closing ++ Fail w why ∷ []) in
+        let l'' = length-append closing (Fail w why ∷ []) in let s'' = sum_of-append cost closing (Fail w why ∷ []) in
+        omega (arith, a, l, s, l', s', l'', s'')
+
 -- A WINDOW
+
+-- what an output pays for besides its take and its delivery
+abbrev output_part : List Application → ℕ → ℕ → ℕ
+output_part plan root n = 5 * tree_size plan (frame_key root n)
+
+module _ (plan : List Application) (root w : ℕ) where
+  output_pays : (n : ℕ) → 2 + output_part plan root n ≤ on_take (output_events plan root) (Take w n)
+  output_pays n = omega arith
+
+  module _ (is : IsPlan plan) (there : root < length plan) where
+    whole_bound : (n : ℕ) (es : List Event) → Production plan w (frame_key root n) es → length es ≤ output_part plan root n + sum_of (on_take (output_events plan root)) es
+    whole_bound n es p = let a = production_most plan w is (suc root) (frame_key root n) es (omega arith) there p in omega (arith, a)
+
+    short_bound : (n : ℕ) (es closing : List Event) → CutShort plan w (frame_key root n) es closing → length es ≤ output_part plan root n + sum_of (on_take (output_events plan root)) es
+    short_bound n es closing c = let a = short_most plan w is (suc root) (frame_key root n) es closing (omega arith) there c in omega (arith, a)
 
 find_open : {F : Type 0} → (fs : List (Option F)) → (list_all is_some fs ≡ true) ⊎ ((j : ℕ) × (slice_get fs j ≡ Some None))
 find_open [] = inl refl
@@ -342,10 +405,8 @@ module _ {F : Type 0} (m : Machine F) (cache : List (Key × F)) (places : List P
     window_most =
         let plan = m.fixed.plan in let root = m.fixed.root in
         let all = all_bounded (on_take (output_events plan root)) m.fixed.workers events (within_run m events (start_of m cache places) s ran)
-        (λ w. work_paid plan root w (on_take (output_events plan root)) (λ n. 5 * tree_size plan (frame_key root n))
-        (λ n es p. let a = production_most plan w is (suc root) (frame_key root n) es (omega arith) there p in omega (arith, a))
-        (λ n es closing c. let a = short_most plan w is (suc root) (frame_key root n) es closing (omega arith) there c in omega (arith, a))
-        (λ n. omega arith) (own_events w events) (works w)) in
+        (λ w. work_paid plan root w (on_take (output_events plan root)) (output_part plan root) (whole_bound plan root w is there) (short_bound plan root w is there)
+        (output_pays plan root w) (own_events w events) (works w)) in
         let total = taken_sum m (output_events plan root) (window_events plan root m.fixed.first) (λ n. refl) events (start_of m cache places) s ran in
         let few = few_taken m events (start_of m cache places) s (omega arith) ran in
         let grown = window_grows plan root m.fixed.first (length s.taken) m.fixed.count few in
@@ -364,9 +425,33 @@ module _ {F : Type 0} (m : Machine F) (cache : List (Key × F)) (places : List P
         let b = sum_of-add (claim_cost plan) eviction_cost events in
         omega (arith, all, total, a, b)
 
+  module _ (events : List Event) (s : State F) (is : IsPlan m.fixed.plan) (there : m.fixed.root < length m.fixed.plan)
+      (ran : replay m (start_of m cache places) events ≡ Some s)
+      (each : (w : ℕ) → w < m.fixed.workers → InWork m.fixed.plan m.fixed.root w (own_events w events) ⊎ IsClosed m.fixed.plan m.fixed.root w (own_events w events)) where
+    one_nearly : (w : ℕ) → length (own_events w events) ≤ sum_of (on_take (output_events m.fixed.plan m.fixed.root)) (own_events w events) + (depth_at m.fixed.plan m.fixed.root + 2)
+    one_nearly w =
+        let plan = m.fixed.plan in let root = m.fixed.root in
+        let cost = on_take (output_events plan root) in
+        ⊎_elim
+        (λ (less : w < m.fixed.workers). ⊎_elim
+        (λ (work : InWork plan root w (own_events w events)).
+        let a = work_paid plan root w cost (output_part plan root) (whole_bound plan root w is there) (short_bound plan root w is there) (output_pays plan root w) (own_events w events) work in omega (arith, a))
+        (λ (shut : IsClosed plan root w (own_events w events)).
+        closed_paid plan root w cost (output_part plan root) (whole_bound plan root w is there) (short_bound plan root w is there) (output_pays plan root w) is there (own_events w events) shut) (each w less))
+        (λ (past : m.fixed.workers ≤ w). let nothing_own = ap length (own_none m w past events (start_of m cache places) s ran) in omega (arith, nothing_own)) (cases_lt w m.fixed.workers)
+
+    stopped_most : length events ≤ most_stopped m cache places
+    stopped_most =
+        let plan = m.fixed.plan in let root = m.fixed.root in
+        let all = all_nearly (on_take (output_events plan root)) m.fixed.workers (depth_at plan root + 2) events (within_run m events (start_of m cache places) s ran) one_nearly in
+        let total = taken_sum m (output_events plan root) (window_events plan root m.fixed.first) (λ n. refl) events (start_of m cache places) s ran in
+        let few = few_taken m events (start_of m cache places) s (omega arith) ran in
+        let grown = window_grows plan root m.fixed.first (length s.taken) m.fixed.count few in
+        omega (arith, all, total, grown)
+
   module _ (can : CanRender m cache places) where
-    stands : (events : List Event) (s : State F) → IsUnderWay m cache places events s → ((w : ℕ) → Moves m cache places events s w → ⊥) → list_all is_some s.frames ≡ true
-    stands events s under still = ⊎_elim
+    complete : (events : List Event) (s : State F) → IsUnderWay m cache places events s → ((w : ℕ) → Moves m cache places events s w → ⊥) → list_all is_some s.frames ≡ true
+    complete events s under still = ⊎_elim
         (λ (h : list_all is_some s.frames ≡ true). h)
         (λ (h : (j : ℕ) × (slice_get s.frames j ≡ Some None)). let next = (someone_moves F).someone m cache places events s h.0 can under h.1 in absurd (still next.0 next.1)) (find_open s.frames)
 
@@ -407,7 +492,8 @@ pub work_is_bounded : (F : Type 0) → WorkIsBounded F
 work_is_bounded F = record {
   production = λ plan w k events is there p. production_most plan w is (suc k.node) k events (omega arith) there p;
   window = λ m cache places events s is there ran work. window_most m cache places events s is there ran work;
+  stopped = λ m cache places events s is there ran each. stopped_most m cache places events s is there ran each;
   claims = λ m cache places events s is there ran work. claims_most m cache places events s is there ran work;
-  stands = λ m cache places events s can under still. stands m cache places can events s under still;
+  complete = λ m cache places events s can under still. complete m cache places can events s under still;
   ends = λ m cache places events s can under. ends m cache places can (suc (most_events m cache places)) events s (omega arith) under;
 }

@@ -20,6 +20,7 @@ use Rattle.serve_events.specs.Events.{worker_of}
 use Rattle.serve_events.specs.Keys.{IsKey, has, frame_key, mode_at, instance_of}
 use Rattle.serve_events.specs.Own.{has_got, has_got_all, own_events}
 use Rattle.serve_events.specs.SerialRun.{eviction}
+use Rattle.serve_events.specs.Work.{untaken, none as no_deliveries}
 use Rattle.serve_events.proofs.KeyLemmas.{test, left_true, right_true}
 use Rattle.serve_machine.specs.State.{State, is_key, place_named, claims_at, is_open, is_some_and, is_by, is_running, with_told, got_at, gathered}
 use Rattle.serve_machine.specs.Closing.{nothing}
@@ -29,7 +30,7 @@ use Rattle.serve_machine.specs.Machine.{Machine, meets, allowed, change, replay}
 use Rattle.serve_machine.proofs.KeptLemmas.{Keys, keys_law}
 use Rattle.serve_machine.proofs.LawLemmas.{no_claims}
 use Rattle.serve_machine.proofs.TruthLemmas.{some_same, some_value}
-use Rattle.run_moves.specs.Moves.{InWork, newest_node}
+use Rattle.run_moves.specs.Moves.{InWork, midway, newest_node}
 use Rattle.run_moves.specs.Waiting.{IsNewest, AllInWork, Needs, input, output, Waits, for_frame, for_instance, node_of}
 use Rattle.run_moves.specs.Moving.{IsTurn, single, evicts, CanRender, IsUnderWay, Moves, GoesOn, moves, waits, rests, SomeoneMoves}
 use Rattle.run_moves.proofs.HoldLemmas.{Falls}
@@ -154,8 +155,8 @@ module _ {F : Type 0} (m : Machine F) where
       joined (Some x) (Some xs) h g = refl
 
   module _ (cache : List (Key × F)) (places : List Place) (events : List Event) (s : State F) (can : CanRender m cache places) (under : IsUnderWay m cache places events s) where
-    abbrev N : ℕ
-    N = length m.fixed.plan
+    abbrev nodes : ℕ
+    nodes = length m.fixed.plan
 
     -- EVENTS THAT ARE ALLOWED
 
@@ -181,8 +182,8 @@ module _ {F : Type 0} (m : Machine F) where
     tells : (w : ℕ) → IsToldBy m (own_events w events) s w
     tells w = told m cache places events s can.plan can.root under.runs under.work w
 
-    abbrev tall : ℕ → ℕ
-    tall w = height m cache places events s can.plan can.root under.runs under.work w
+    abbrev height_of : ℕ → ℕ
+    height_of w = height m cache places events s can.plan can.root under.runs under.work w
 
     -- the events after a turn are work again
     works_on : (w : ℕ) (turn : List Event) → IsTurn w turn → InWork m.fixed.plan m.fixed.root w (own_events w events ++ turn) → AllInWork m (events ++ turn)
@@ -240,17 +241,17 @@ module _ {F : Type 0} (m : Machine F) where
     Goes w fs = InWork m.fixed.plan m.fixed.root w (own_events w events ++ fs)
 
     -- a worker can take a turn, or waits
-    abbrev Goes_or : ℕ → Type 0
-    Goes_or w = Moves m cache places events s w ⊎ ((v : ℕ) × Waits m s w v)
+    abbrev MovesOrWaits : ℕ → Type 0
+    MovesOrWaits w = Moves m cache places events s w ⊎ ((v : ℕ) × Waits m s w v)
 
-    newest_of : (w i : ℕ) → newest_node N (own_of w).claims ≡ i → node_of m s w ≡ i
-    newest_of w i at = ap (λ (g : Holdings). newest_node N g.claims) (sym (tells w).holdings) ∙ at
+    newest_of : (w i : ℕ) → newest_node nodes (own_of w).claims ≡ i → node_of m s w ≡ i
+    newest_of w i at = ap (λ (g : Holdings). newest_node nodes g.claims) (sym (tells w).holdings) ∙ at
 
-    unclaimed : (w : ℕ) (k : Key) → k.node < newest_node N (own_of w).claims → has k (own_of w).claims ≡ false
+    unclaimed : (w : ℕ) (k : Key) → k.node < newest_node nodes (own_of w).claims → has k (own_of w).claims ≡ false
     unclaimed w k less = ⊎_elim
         (λ (e : has k (own_of w).claims ≡ true).
-        let falls : Falls N (own_of w).claims = subst (λ (g : Holdings). Falls N g.claims) (sym (tells w).holdings) ((seat m cache places events s can.plan can.root under.runs under.work w).holds).falls in
-        let low = has_low N k (own_of w).claims falls e in absurd (omega (arith, low, less)))
+        let falls : Falls nodes (own_of w).claims = subst (λ (g : Holdings). Falls nodes g.claims) (sym (tells w).holdings) ((seat m cache places events s can.plan can.root under.runs under.work w).holds).falls in
+        let low = has_low nodes k (own_of w).claims falls e in absurd (omega (arith, low, less)))
         (λ (e : has k (own_of w).claims ≡ false). e) (test (has k (own_of w).claims))
 
     needed_by : (w : ℕ) (k : Key) → IsWanted m.fixed.plan m.fixed.root (own_of w).claims k → Needs m s w k
@@ -260,7 +261,7 @@ module _ {F : Type 0} (m : Machine F) where
         go k (by_claim new among) = input new among
         go _ (by_output free) = output free
 
-    ask : (w : ℕ) → w < m.fixed.workers → (k : Key) → IsKey m.fixed.plan k → k.node < newest_node N (own_of w).claims → IsWanted m.fixed.plan m.fixed.root (own_of w).claims k → Goes w (Hit w k ∷ []) → Goes w (Claim w k ∷ []) → Goes_or w
+    ask : (w : ℕ) → w < m.fixed.workers → (k : Key) → IsKey m.fixed.plan k → k.node < newest_node nodes (own_of w).claims → IsWanted m.fixed.plan m.fixed.root (own_of w).claims k → Goes w (Hit w k ∷ []) → Goes w (Claim w k ∷ []) → MovesOrWaits w
     ask w less k is low wanted h c =
         let none = unclaimed w k low in
         let not_mine : is_by w (at_key k s.claims) ≡ false = sym ((tells w).claim k) ∙ none in
@@ -279,15 +280,15 @@ module _ {F : Type 0} (m : Machine F) where
     abbrev place_of : ℕ → ℕ → Place
     place_of w i = place_named m.fixed.plan i (instance_of m.fixed.plan w i)
 
-    enter : (w : ℕ) → w < m.fixed.workers → (k : Key) → k.node < N → IsNewest k (own_of w).claims → has k (own_of w).claims ≡ true → (own_of w).leases ≡ []
-        → (mode_at m.fixed.plan k.node ≡ 1 → ⊥) → Goes w (Enter w k.node (instance_of m.fixed.plan w k.node) ∷ []) → Goes_or w
+    enter : (w : ℕ) → w < m.fixed.workers → (k : Key) → k.node < nodes → IsNewest k (own_of w).claims → has k (own_of w).claims ≡ true → (own_of w).leases ≡ []
+        → (mode_at m.fixed.plan k.node ≡ 1 → ⊥) → Goes w (Enter w k.node (instance_of m.fixed.plan w k.node) ∷ []) → MovesOrWaits w
     enter w less k there new has' free needed e =
         let found = some_value (lookup (same_place (place_of w k.node)) s.places) is_there in go found.0 found.1
       where
         is_there : is_some (lookup (same_place (place_of w k.node)) s.places) ≡ true
         is_there = places_kept (same_place (place_of w k.node)) events (start_of m cache places) s under.runs ∙ (opened (same_place (place_of w k.node)) places ∙ can.instances w k.node less there needed)
 
-        go : (o : Option ℕ) → lookup (same_place (place_of w k.node)) s.places ≡ Some o → Goes_or w
+        go : (o : Option ℕ) → lookup (same_place (place_of w k.node)) s.places ≡ Some o → MovesOrWaits w
         go None is =
             let claims = claims_there w k s.claims (subst (λ (g : Holdings). has k g.claims ≡ true) (tells w).holdings has') in
             let mode : not (mode_at m.fixed.plan k.node == 1) ≡ true = rw (ne_eqb (mode_at m.fixed.plan k.node) 1 needed) refl in
@@ -317,7 +318,7 @@ module _ {F : Type 0} (m : Machine F) where
         two w gone.0 k less (both_true (both_true (both_true any idle) (eq-eqb (length s.cache) m.fixed.capacity exact)) last)
         (both_true (both_true (both_true mine idle) got) (lt-ltb (length (take (m.fixed.capacity - 1) s.cache)) m.fixed.capacity short)) (e (Some gone.0))) (cases_lt (length s.cache) m.fixed.capacity)
 
-    produce : (w : ℕ) → w < m.fixed.workers → (P : Type 0) → P → Next m.fixed.plan m.fixed.root w P (own_of w) (own_events w events) (Goes w) → Goes_or w
+    produce : (w : ℕ) → w < m.fixed.workers → (P : Type 0) → P → Next m.fixed.plan m.fixed.root w P (own_of w) (own_events w events) (Goes w) → MovesOrWaits w
     produce w less P premise (asks k is low wanted h c) = ask w less k (is premise) low wanted h c
     produce w less P premise (enters k there new at has' free needed e) = enter w less k there new has' free needed e
     produce w less P premise (leaves k lent e) =
@@ -326,7 +327,7 @@ module _ {F : Type 0} (m : Machine F) where
         inl (one w (Leave w k.node (instance_of m.fixed.plan w k.node)) refl less (ap (is_some_and (is_by w)) held ∙ eq-eqb w w refl) refl under.settled e)
     produce w less P premise (publishes k has' free all e) = inl (publish w less k has' free all e)
 
-    gone_on : (w : ℕ) → Goes_or w → GoesOn m cache places events s w
+    gone_on : (w : ℕ) → MovesOrWaits w → GoesOn m cache places events s w
     gone_on w (inl it) = moves it
     gone_on w (inr other) = waits other.1
 
@@ -376,7 +377,7 @@ module _ {F : Type 0} (m : Machine F) where
     abbrev Someone : Type 0
     Someone = (w : ℕ) × Moves m cache places events s w
 
-    step : (w : ℕ) → Busy w → ((v : ℕ) → tall v < tall w → HasSome v → Someone) → GoesOn m cache places events s w → Someone
+    step : (w : ℕ) → Busy w → ((v : ℕ) → height_of v < height_of w → HasSome v → Someone) → GoesOn m cache places events s w → Someone
     step w busy again (moves it) = (w, it)
     step w busy again (waits {v = v} on) =
         again v (lower m cache places events s can.plan can.root under.runs under.work w v (goes_down m cache places events s can.plan can.root under.runs under.work w v on)) (waited w v on)
@@ -384,23 +385,27 @@ module _ {F : Type 0} (m : Machine F) where
     step w (inr busy) again (rests none past) = absurd (busy none)
 
     -- from a busy worker to the one that it waits for, until one can take a turn
-    move : (most w : ℕ) → tall w < most → w < m.fixed.workers → Busy w → Someone
+    move : (most w : ℕ) → height_of w < most → w < m.fixed.workers → Busy w → Someone
     move zero w low less busy = absurd (omega (arith, low))
     move (suc most) w low less busy = step w busy (λ v less' some. move most v (omega (arith, less', low)) (busy_within v some) (inr some)) (each w less)
 
     pub someone : (j : ℕ) → slice_get s.frames j ≡ Some None → Someone
     someone j undelivered = ⊎_elim
-        (λ (more : length s.taken < m.fixed.count). move (suc (tall 0)) 0 (omega arith) can.someone (inl more))
+        (λ (more : length s.taken < m.fixed.count). move (suc (height_of 0)) 0 (omega arith) can.someone (inl more))
         (λ (past : m.fixed.count ≤ length s.taken).
         let within = slice_get_within s.frames j None undelivered in let size = frames_are in
         let w = get_or s.taken j 0 in
         let took : slice_get s.taken j ≡ Some w = slice_get-get_or s.taken j 0 (omega (arith, within, size, past)) in
         let busy : HasSome w = λ none.
         output_there w m.fixed.first j s.taken s.frames took undelivered (ap (λ (g : Holdings). g.outputs) none) in
-        move (suc (tall w)) w (omega arith) (busy_within w busy) (inr busy)) (cases_lt (length s.taken) m.fixed.count)
+        move (suc (height_of w)) w (omega arith) (busy_within w busy) (inr busy)) (cases_lt (length s.taken) m.fixed.count)
+
+begins : {F : Type 0} → (m : Machine F) (cache : List (Key × F)) (places : List Place) → IsUnderWay m cache places [] (start_of m cache places)
+begins m cache places = record { runs = refl; work = λ w less. midway (untaken no_deliveries); running = refl; settled = refl }
 
 pub someone_moves : (F : Type 0) → SomeoneMoves F
 someone_moves F = record {
+  begins = λ m cache places. begins m cache places;
   each = λ m cache places events s w can under less. each m cache places events s can under w less;
   someone = λ m cache places events s j can under undelivered. someone m cache places events s can under j undelivered;
 }

@@ -1,10 +1,10 @@
 -- A part of work from its begin on is work again, unless it ends with an eviction.
-use Rattle.std.proofs.Common.{◌≡◌, ◌⊎◌, inl, inr, ℕ, zero, suc, ◌<◌, ◌≤◌, ◌==◌, nat_lt, Bool, true, false, ◌&&◌, List, [], ◌∷◌, ◌++◌, Option, Some, None, refl, sym, ap, ◌∙◌, subst, ⊎_elim, append_assoc, eq-eqb, length}
+use Rattle.std.proofs.Common.{◌≡◌, ◌⊎◌, inl, inr, ℕ, zero, suc, ◌==◌, nat_lt, Bool, true, false, ◌&&◌, List, [], ◌∷◌, ◌++◌, Option, Some, None, refl, sym, ap, ◌∙◌, subst, ⊎_elim, append_assoc, eq-eqb, length}
 use Rattle.std.specs.Prelude.{take}
 use Rattle.std.proofs.lemmas.Bool.{eqb-true}
 use Rattle.std.proofs.lemmas.List.{append-nil}
 use Rattle.fv_plane.specs.declared.key.Key.{Key}
-use Rattle.clip_graph.specs.Plan.{Application, IsPlan}
+use Rattle.clip_graph.specs.Plan.{Application}
 use Rattle.clip_graph.specs.Unfolding.{input_keys}
 use Rattle.inst_table.specs.declared.place.Place.{Place}
 use Rattle.serve_events.specs.declared.event.Event.{Event}
@@ -14,7 +14,7 @@ use Rattle.serve_events.specs.Keys.{frame_key, mode_at, instance_of}
 use Rattle.serve_events.specs.Own.{own_events}
 use Rattle.serve_events.specs.SerialRun.{eviction, leases}
 use Rattle.serve_events.specs.Work.{Production, hit, made, Productions, done, more, CutShort, refused, inside, entered, unpublished, CutInputs, between, within, Deliveries, none, also, untaken, taken}
-use Rattle.serve_events.proofs.KeyLemmas.{test, left_true, right_true}
+use Rattle.serve_events.proofs.KeyLemmas.{test, left_true}
 use Rattle.serve_machine.specs.Law.{start_of}
 use Rattle.serve_machine.specs.Machine.{Machine, in_turn, meets, allowed, change, replay}
 use Rattle.serve_machine.specs.Renders.{is_eviction}

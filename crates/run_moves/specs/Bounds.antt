@@ -1,18 +1,21 @@
 -- How many events a window has at most.
-use Rattle.std.specs.Prelude.{◌≡◌, ℕ, zero, suc, ◌+◌, ◌*◌, ◌<◌, ◌≤◌, true, if◌then◌else◌, List, [], ◌∷◌, ◌++◌, length, is_some, Some}
+use Rattle.std.specs.Prelude.{◌≡◌, ◌⊎◌, ℕ, zero, suc, ◌+◌, ◌*◌, ◌<◌, ◌≤◌, true, if◌then◌else◌, List, [], ◌∷◌, ◌++◌, length, is_some, Some}
 use Rattle.std.specs.List.{list_all}
 use Rattle.fv_plane.specs.declared.key.Key.{Key}
-use Rattle.clip_graph.specs.Plan.{Application, IsPlan}
+use Rattle.clip_graph.specs.Plan.{Application, application_at, IsPlan}
 use Rattle.clip_graph.specs.Unfolding.{input_keys}
 use Rattle.inst_table.specs.declared.place.Place.{Place}
 use Rattle.serve_events.specs.declared.event.Event.{Event}
 use Rattle.serve_events.specs.declared.event.Event.TheVariants.{Claim}
+use Rattle.serve_events.specs.declared.event.WindowStop.{WindowStop}
 use Rattle.serve_events.specs.Keys.{frame_key}
-use Rattle.serve_events.specs.Work.{Production}
+use Rattle.serve_events.specs.Own.{own_events}
+use Rattle.serve_events.specs.Work.{Production, CutDeliveries, FailedWork}
 use Rattle.serve_machine.specs.Law.{start_of}
 use Rattle.serve_machine.specs.Machine.{Machine, replay}
 use Rattle.serve_machine.specs.Renders.{is_eviction}
 use Rattle.serve_machine.specs.State.{State}
+use Rattle.run_moves.specs.Moves.{InWork}
 use Rattle.run_moves.specs.Waiting.{AllInWork}
 use Rattle.run_moves.specs.Moving.{CanRender, IsUnderWay, Moves}
 
@@ -53,10 +56,19 @@ claim_cost plan e = 0
 abbrev pub eviction_cost : Event → ℕ
 eviction_cost e = if is_eviction e then 1 else 0
 
+-- work that a stop cut short, closed, and perhaps with the worker's own failure at its end
+pub data IsClosed (plan : List Application) (root w : ℕ) : List Event → Type 0 where
+  closed : {done closing : List Event} → CutDeliveries plan root w done closing → IsClosed plan root w (done ++ closing)
+  failed : {why : WindowStop} {events : List Event} → FailedWork plan root w why events → IsClosed plan root w events
+
 module _ {F : Type 0} (m : Machine F) (cache : List (Key × F)) (places : List Place) where
   -- no run of the window has more events while it is under way
   abbrev pub most_events : ℕ
   most_events = window_events m.fixed.plan m.fixed.root m.fixed.first m.fixed.count
+
+  -- nor more than this where a stop came: a worker gives back what it holds, and may fail
+  abbrev pub most_stopped : ℕ
+  most_stopped = most_events + m.fixed.workers * ((application_at m.fixed.plan m.fixed.root).depth + 2)
 
   -- a way on that delivers all outputs
   pub record Ends (events : List Event) : Type 0 where
@@ -74,13 +86,18 @@ pub record WorkIsBounded (F : Type 0) : Type 0 where
       → IsPlan m.fixed.plan → m.fixed.root < length m.fixed.plan
       → replay m (start_of m cache places) events ≡ Some s → AllInWork m events
       → length events ≤ most_events m cache places
+  -- also where some workers closed their work after a stop
+  pub stopped : (m : Machine F) (cache : List (Key × F)) (places : List Place) (events : List Event) (s : State F)
+      → IsPlan m.fixed.plan → m.fixed.root < length m.fixed.plan → replay m (start_of m cache places) events ≡ Some s
+      → ((w : ℕ) → w < m.fixed.workers → InWork m.fixed.plan m.fixed.root w (own_events w events)
+      ⊎ IsClosed m.fixed.plan m.fixed.root w (own_events w events)) → length events ≤ most_stopped m cache places
   -- by what was claimed and evicted
   pub claims : (m : Machine F) (cache : List (Key × F)) (places : List Place) (events : List Event) (s : State F)
       → IsPlan m.fixed.plan → m.fixed.root < length m.fixed.plan
       → replay m (start_of m cache places) events ≡ Some s → AllInWork m events
       → length events ≤ 3 * length s.taken + sum_of (claim_cost m.fixed.plan) events + sum_of eviction_cost events
   -- where no one can take a turn, all outputs are delivered
-  pub stands : (m : Machine F) (cache : List (Key × F)) (places : List Place) (events : List Event) (s : State F)
+  pub complete : (m : Machine F) (cache : List (Key × F)) (places : List Place) (events : List Event) (s : State F)
       → CanRender m cache places → IsUnderWay m cache places events s
       → ((w : ℕ) → Moves m cache places events s w → ⊥) → list_all is_some s.frames ≡ true
   -- and from every state of such a run all outputs can be delivered

@@ -58,6 +58,9 @@ module _ {F : Type 0} (m : Machine F) (cache : List (Key × F)) (places : List P
     rests : holdings_of m.fixed s w ≡ nothing → m.fixed.count ≤ length s.taken → GoesOn events s w
 
 pub record SomeoneMoves (F : Type 0) : Type 0 where
+  -- a window that begins is under way
+  pub begins : (m : Machine F) (cache : List (Key × F)) (places : List Place)
+      → IsUnderWay m cache places [] (start_of m cache places)
   -- each worker can take a turn, or waits for another, or has no more to do
   pub each : (m : Machine F) (cache : List (Key × F)) (places : List Place) (events : List Event) (s : State F) (w : ℕ)
       → CanRender m cache places → IsUnderWay m cache places events s → w < m.fixed.workers

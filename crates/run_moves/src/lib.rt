@@ -20,15 +20,17 @@ pub fn waiting_goes_down<F>()
     ensures { WaitingGoesDown F }
 {}
 
-/// While no stop has come and an output is not delivered, some worker can take a turn: one event, or an eviction with its
-/// publication. After it each worker is somewhere in its work again. It is not said which worker is given the turn.
+/// While no stop has come, each worker can take a turn, or waits for another, or has no more to do; and while an output is
+/// not delivered, some worker can take a turn: one event, or an eviction with its publication. After it each worker is
+/// somewhere in its work again. It is not said which worker is given the turn.
 pub fn someone_moves<F>()
     ensures { SomeoneMoves F }
 {}
 
-/// A key is produced in at most five events for each key of its tree, and a window in two more for each output. So a window
-/// whose workers take turns while they can ends, with all outputs delivered, within that number of events. It is not
-/// said how long a turn takes, nor that the workers are given turns.
+/// A key is produced in at most five events for each key of its tree, and a window in two more for each output; where a stop
+/// came, a worker has at most two events more than filters stand one on another. So a window whose workers take turns
+/// while they can ends, with all outputs delivered or with a stop, within a stated number of events. It is not said how
+/// long a turn takes, nor that the workers are given turns.
 pub fn work_is_bounded<F>()
     ensures { WorkIsBounded F }
 {}
