@@ -261,8 +261,8 @@ module _ {F : Type 0} (m : Machine F) where
         go k (by_claim new among) = input new among
         go _ (by_output free) = output free
 
-    ask : (w : ℕ) → w < m.fixed.workers → (k : Key) → IsKey m.fixed.plan k → k.node < newest_node nodes (own_of w).claims → IsWanted m.fixed.plan m.fixed.root (own_of w).claims k → Goes w (Hit w k ∷ []) → Goes w (Claim w k ∷ []) → MovesOrWaits w
-    ask w less k is low wanted h c =
+    ask : (w : ℕ) → w < m.fixed.workers → (k : Key) → IsKey m.fixed.plan k → k.node < newest_node nodes (own_of w).claims → IsWanted m.fixed.plan m.fixed.root (own_of w).claims k → (own_of w).leases ≡ [] → Goes w (Hit w k ∷ []) → Goes w (Claim w k ∷ []) → MovesOrWaits w
+    ask w less k is low wanted unlent h c =
         let none = unclaimed w k low in
         let not_mine : is_by w (at_key k s.claims) ≡ false = sym ((tells w).claim k) ∙ none in
         ⊎_elim
@@ -270,7 +270,7 @@ module _ {F : Type 0} (m : Machine F) where
         (λ (uncached : has_key k s.cache ≡ false). ⊎_elim
         (λ (by : has_key k s.claims ≡ true).
         let found = some_value (at_key k s.claims) by in
-        inr (found.0, for_frame (needed_by w k wanted) found.1))
+        inr (found.0, for_frame (subst (λ (g : Holdings). g.leases ≡ []) (tells w).holdings unlent) (needed_by w k wanted) found.1))
         (λ (free : has_key k s.claims ≡ false).
         let key : is_key m.fixed.plan k ≡ true = both_true (lt-ltb k.node (length m.fixed.plan) is.node) (lt-ltb k.n _ is.number) in
         inl (one w (Claim w k) refl less (both_true (both_true (both_true key (rw uncached refl)) (rw free refl)) running) refl under.settled c)) (test (has_key k s.claims)))
@@ -319,7 +319,7 @@ module _ {F : Type 0} (m : Machine F) where
         (both_true (both_true (both_true mine idle) got) (lt-ltb (length (take (m.fixed.capacity - 1) s.cache)) m.fixed.capacity short)) (e (Some gone.0))) (cases_lt (length s.cache) m.fixed.capacity)
 
     produce : (w : ℕ) → w < m.fixed.workers → (P : Type 0) → P → Next m.fixed.plan m.fixed.root w P (own_of w) (own_events w events) (Goes w) → MovesOrWaits w
-    produce w less P premise (asks k is low wanted h c) = ask w less k (is premise) low wanted h c
+    produce w less P premise (asks k is low wanted free h c) = ask w less k (is premise) low wanted free h c
     produce w less P premise (enters k there new at has' free needed e) = enter w less k there new has' free needed e
     produce w less P premise (leaves k lent e) =
         let p : Place = place_named m.fixed.plan k.node (instance_of m.fixed.plan w k.node) in
@@ -362,7 +362,7 @@ module _ {F : Type 0} (m : Machine F) where
 
     -- who is waited for has something
     waited : (w v : ℕ) → Waits m s w v → HasSome v
-    waited w v (for_frame {k = k} needs at) empty =
+    waited w v (for_frame {k = k} free needs at) empty =
         let there = has_claim m cache places events s can.plan can.root under.runs under.work v k at in
         let bad : false ≡ true = sym (ap (λ (g : Holdings). has k g.claims) empty) ∙ there in absurd (cc)
     waited w v (for_instance {k = k} new free held) empty =

@@ -47,7 +47,7 @@ pub data IsWanted (plan : List Application) (root : ℕ) (claims : List Key) : K
 
 -- where the premise of the work holds, what a worker with these holdings and these events does next, within a production
 pub data Next (plan : List Application) (root w : ℕ) (Premise : Type 0) (g : Holdings) (es : List Event) (Goes : List Event → Type 0) : Type 0 where
-  asks : (k : Key) → (Premise → IsKey plan k) → k.node < newest_node (length plan) g.claims → IsWanted plan root g.claims k → Goes (Hit w k ∷ []) → Goes (Claim w k ∷ []) → Next plan root w Premise g es Goes
+  asks : (k : Key) → (Premise → IsKey plan k) → k.node < newest_node (length plan) g.claims → IsWanted plan root g.claims k → g.leases ≡ [] → Goes (Hit w k ∷ []) → Goes (Claim w k ∷ []) → Next plan root w Premise g es Goes
   enters : (k : Key) → k.node < length plan → IsNewest k g.claims → newest_node (length plan) g.claims ≡ k.node → has k g.claims ≡ true → g.leases ≡ [] → (mode_at plan k.node ≡ 1 → ⊥)
       → Goes (Enter w k.node (instance_of plan w k.node) ∷ []) → Next plan root w Premise g es Goes
   leaves : (k : Key) → g.leases ≡ place_named plan k.node (instance_of plan w k.node) ∷ [] → Goes (Leave w k.node (instance_of plan w k.node) ∷ []) → Next plan root w Premise g es Goes
@@ -58,7 +58,7 @@ pub data Next (plan : List Application) (root w : ℕ) (Premise : Type 0) (g : H
 map_next : {plan : List Application} {root w : ℕ} {P Q : Type 0} {g : Holdings} {es fs : List Event} {A B : List Event → Type 0} → (Q → P)
     → ((ks : List Key) → has_got_all w ks es ≡ true → has_got_all w ks fs ≡ true) → ((gs : List Event) → A gs → B gs)
     → Next plan root w P g es A → Next plan root w Q g fs B
-map_next premise got on (asks k is less wanted h c) = asks k (λ q. is (premise q)) less wanted (on _ h) (on _ c)
+map_next premise got on (asks k is less wanted free h c) = asks k (λ q. is (premise q)) less wanted free (on _ h) (on _ c)
 map_next premise got on (enters k there new at has free needed e) = enters k there new at has free needed (on _ e)
 map_next premise got on (leaves k lent e) = leaves k lent (on _ e)
 map_next premise got on (publishes k has free all e) = publishes k has free (got _ all) (λ gone. on _ (e gone))
@@ -84,7 +84,7 @@ has_middle ks j js all e = ap (has j) e ∙ go ks
 module _ (plan : List Application) (root w : ℕ) (is : IsPlan plan) where
   next_refused : (k : Key) (h : Holdings) → IsWanted plan root h.claims k → IsReady plan (suc k.node) h → Next plan root w (IsKey plan k) h [] (Ahead plan w k [])
   next_refused k h wanted r = let low = r.low in
-      asks k (λ q. q) (omega (arith, low)) wanted (inr hit) (inl (Abandon w k ∷ [], inside (between (input_keys plan k) refl done)))
+      asks k (λ q. q) (omega (arith, low)) wanted r.unlent (inr hit) (inl (Abandon w k ∷ [], inside (between (input_keys plan k) refl done)))
 
   on_input : (ks : List Key) (j : Key) (js all : List Key) (es fs gs : List Event) → all ≡ ks ++ j ∷ js → Productions plan w ks es → Ahead plan w j fs gs
       → AheadInputs plan w all (es ++ fs) gs

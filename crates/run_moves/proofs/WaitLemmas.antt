@@ -130,7 +130,7 @@ module _ {F : Type 0} (m : Machine F) where
     need_low w _ (output {n = n} free) = let at : node_of m s w ≡ length m.fixed.plan = ap (newest_node (length m.fixed.plan)) free in omega (arith, at, there)
 
     pub goes_down : (w v : ℕ) → Waits m s w v → GoesDown m s w v
-    goes_down w v (for_frame {k = k} needs at) = let low = claimed_low v k at in let less = need_low w k needs in below (omega (arith, low, less))
+    goes_down w v (for_frame {k = k} free needs at) = let low = claimed_low v k at in let less = need_low w k needs in below (omega (arith, low, less))
     goes_down w v (for_instance {k = k} new free held) =
         let at = newest_is w k new in
         let p : Place = place_named m.fixed.plan k.node (instance_of m.fixed.plan w k.node) in

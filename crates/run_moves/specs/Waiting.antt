@@ -29,10 +29,10 @@ module _ {F : Type 0} (m : Machine F) where
     input : {j k : Key} → IsNewest j (claims_of w s.claims) → has k (input_keys m.fixed.plan j) ≡ true → Needs s w k
     output : {n : ℕ} → claims_of w s.claims ≡ [] → Needs s w (frame_key m.fixed.root n)
 
-  -- worker w cannot go on before worker v does
+  -- worker w cannot go on before worker v does; who has an instance waits for nobody
   pub data Waits (s : State F) (w v : ℕ) : Type 0 where
     -- the other has claimed a frame that it needs
-    for_frame : {k : Key} → Needs s w k → at_key k s.claims ≡ Some v → Waits s w v
+    for_frame : {k : Key} → leases_of w s.places ≡ [] → Needs s w k → at_key k s.claims ≡ Some v → Waits s w v
     -- the other has the instance that it needs for its newest claim
     for_instance : {k : Key} → IsNewest k (claims_of w s.claims) → leases_of w s.places ≡ []
         → holder_of m.fixed.plan k.node (instance_of m.fixed.plan w k.node) s.places ≡ Some v → Waits s w v
@@ -50,7 +50,7 @@ module _ {F : Type 0} (m : Machine F) where
   pub data GoesDown (s : State F) (w v : ℕ) : Type 0 where
     -- the other is at an earlier node
     below : node_of s v < node_of s w → GoesDown s w v
-    -- or it has an instance of that very node, which is all that it has to give back
+    -- or it has an instance of that very node, and so it waits for nobody
     leased : node_of s v ≡ node_of s w → leases_of w s.places ≡ []
         → leases_of v s.places ≡ place_named m.fixed.plan (node_of s w) (instance_of m.fixed.plan w (node_of s w)) ∷ []
         → GoesDown s w v

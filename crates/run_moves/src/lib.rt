@@ -13,9 +13,9 @@ pub fn workers_hold_little<F>()
     ensures { WorkersHoldLittle F }
 {}
 
-/// A worker that waits for another waits for one at an earlier node, or for one that has an instance of its own node and
-/// nothing more to do than to give it back. So workers never wait in a circle. It is not said that the other is given
-/// a turn soon, nor how long the lock makes a worker wait.
+/// A worker that waits for another waits for one at an earlier node, or for one that has an instance of its own node, and
+/// who has an instance waits for nobody. So workers never wait in a circle. It is not said that the other is given a
+/// turn soon, nor how long the lock makes a worker wait.
 pub fn waiting_goes_down<F>()
     ensures { WaitingGoesDown F }
 {}
