@@ -15,7 +15,7 @@ use Rattle.serve_events.specs.declared.event.WindowStop.{WindowStop}
 use Rattle.serve_events.specs.Events.{worker_of}
 use Rattle.serve_events.specs.Own.{own_events}
 use Rattle.serve_events.specs.Windows.{WindowEvents}
-use Rattle.serve_events.specs.Work.{CutDeliveries, FailedWork, failed, CutWork}
+use Rattle.serve_events.specs.Work.{FailedWork, failed}
 use Rattle.serve_events.proofs.KeyLemmas.{left_true, right_true}
 use Rattle.serve_machine.specs.Law.{start_of}
 use Rattle.serve_machine.specs.Machine.{Machine, meets, allowed, change, replay}
