@@ -11,19 +11,21 @@ use Rattle.inst_table.specs.declared.place.Place.{Place}
 use Rattle.inst_table.proofs.CallerLemmas.{test}
 use Rattle.serve_events.specs.declared.event.Event.{Event}
 use Rattle.serve_events.specs.declared.event.Event.TheVariants.{Hit, Claim, Enter, Leave, Evict, Publish, Abandon, Take, Deliver, Fail}
+use Rattle.serve_events.specs.declared.event.WindowStop.{WindowStop}
 use Rattle.serve_events.specs.Events.{worker_of}
 use Rattle.serve_events.specs.Own.{own_events}
 use Rattle.serve_events.specs.Windows.{WindowEvents}
-use Rattle.serve_events.specs.Work.{Deliveries, none as no_output, also as and_output}
+use Rattle.serve_events.specs.Work.{FailedWork, failed}
 use Rattle.serve_events.proofs.KeyLemmas.{left_true, right_true}
 use Rattle.serve_machine.specs.Law.{start_of}
 use Rattle.serve_machine.specs.Machine.{Machine, meets, allowed, change, replay}
-use Rattle.serve_machine.specs.Renders.{in_window, after_window, AreRuns, done, next, all_events, is_claim, has_claimed, IsReached}
+use Rattle.serve_machine.specs.Renders.{in_window, after_window, AreRuns, done, next, all_events, is_claim, has_claimed, IsReached, TakesBelow}
 use Rattle.serve_machine.specs.State.{State, is_running}
-use Rattle.serve_machine.proofs.ReachLemmas.{work_reaches}
+use Rattle.serve_machine.proofs.ReachLemmas.{first_below, outputs_below, work_reaches, cut_work_reaches}
 use Rattle.serve_machine.proofs.RenderLemmas.{makes_once}
 use Rattle.serve_machine.proofs.TruthLemmas.{either, or_true}
-use Rattle.prefetch.specs.CrewJournal.{KeyCache, crew_machine, IsWholeWindow, IsNext, AreWhole, none, also, CrewsMakeOnce}
+use Rattle.serve_shared.specs.Shares.{IsWork}
+use Rattle.prefetch.specs.CrewJournal.{KeyCache, crew_machine, IsWholeWindow, IsCutWindow, IsNext, AreWhole, none, also, AreCrewCut, CrewsMakeOnce, CutCrewsMakeOnce}
 
 -- RUNS
 
@@ -67,28 +69,15 @@ module _ {F : Type 0} (m : Machine F) where
 
 -- OUTPUTS
 
--- an output that is taken is below a number
-abbrev IsBelow : ℕ → Event → Type 0
-IsBelow total (Take w n) = n < total
-IsBelow total e = Unit {0}
-
 module _ (total : ℕ) where
-  own_below : (w : ℕ) (es : List Event) → AllByRecursion (IsBelow total) es → AllByRecursion (IsBelow total) (own_events w es)
+  own_below : (w : ℕ) (es : List Event) → AllByRecursion (TakesBelow total) es → AllByRecursion (TakesBelow total) (own_events w es)
   own_below w [] all = tt
   own_below w (e ∷ es) all = ⊎_elim
       (λ (mine : (worker_of e == w) ≡ true). rw mine (all.0, own_below w es all.1))
       (λ (other : (worker_of e == w) ≡ false). rw other (own_below w es all.1)) (test (worker_of e == w))
 
-  later_below : (es fs : List Event) → AllByRecursion (IsBelow total) (es ++ fs) → AllByRecursion (IsBelow total) fs
-  later_below [] fs all = all
-  later_below (e ∷ es) fs all = later_below es fs all.1
-
-  outputs_below : {plan : List Application} {root w : ℕ} {ns : List ℕ} {es : List Event} → Deliveries plan root w ns es → AllByRecursion (IsBelow total) es → AllByRecursion (λ n. n < total) ns
-  outputs_below no_output all = tt
-  outputs_below {w = w} (and_output {n = n} {es = es} {fs = fs} p q) all = (all.0, outputs_below q (later_below (es ++ Deliver w n ∷ []) fs all.1))
-
   module _ {F : Type 0} (m : Machine F) (most : m.fixed.first + m.fixed.count ≤ total) where
-    taken_below : (s : State F) (e : Event) → meets m s e ≡ true → IsBelow total e
+    taken_below : (s : State F) (e : Event) → meets m s e ≡ true → TakesBelow total e
     taken_below s (Hit w k) met = tt
     taken_below s (Claim w k) met = tt
     taken_below s (Enter w i j) met = tt
@@ -104,7 +93,7 @@ module _ (total : ℕ) where
     taken_below s (Deliver w n) met = tt
     taken_below s (Fail w why) met = tt
 
-    run_below : (es : List Event) (s t : State F) → replay m s es ≡ Some t → AllByRecursion (IsBelow total) es
+    run_below : (es : List Event) (s t : State F) → replay m s es ≡ Some t → AllByRecursion (TakesBelow total) es
     run_below [] s t ran = tt
     run_below (e ∷ es) s t ran = ⊎_elim
         (λ (ok : allowed m s e ≡ true). (taken_below s e (right_true _ _ (right_true _ _ ok)), run_below es (change m s e) t (rw ok at ran)))
@@ -132,6 +121,48 @@ module _ (plan : List Application) (root capacity workers : ℕ) (places : List 
       (λ (now : has_claimed k window.events ≡ true). window_reaches n cache window s is whole k now)
       (claimed_in k (all_events windows) window.events (subst (λ es. has_claimed k es ≡ true) (events_more windows window) h))
 
+-- WORK THAT WAS CUT SHORT
+
+module _ (plan : List Application) (root total w : ℕ) (k : Key) where
+  -- a failure claims nothing
+  failed_reaches : (why : WindowStop) (own : List Event) → FailedWork plan root w why own → AllByRecursion (TakesBelow total) own → has_claimed k own ≡ true → IsReached plan root total k
+  failed_reaches why _ (failed {done = so_far} {closing = closing} cut) all h =
+      cut_work_reaches plan root w total so_far closing k cut (first_below total so_far (closing ++ Fail w why ∷ []) all)
+      (⊎_elim
+      (λ (e : has_claimed k (so_far ++ closing) ≡ true). e)
+      (λ (e : has_claimed k (Fail w why ∷ []) ≡ true). absurd (cc))
+      (claimed_in k (so_far ++ closing) (Fail w why ∷ []) (subst (λ es. has_claimed k es ≡ true) (sym (append_assoc so_far closing (Fail w why ∷ []))) h)))
+
+  any_reaches : (count : ℕ) (journal own : List Event) → IsWork plan root count w journal own → AllByRecursion (TakesBelow total) own → has_claimed k own ≡ true → IsReached plan root total k
+  any_reaches count journal own (inl whole) all h = work_reaches plan root w total whole.outputs own k whole.delivered (outputs_below total whole.delivered all) h
+  any_reaches count journal own (inr (why, inl it)) all h = failed_reaches why own it all h
+  any_reaches count journal own (inr (why, inr it)) all h =
+      cut_work_reaches plan root w total (own_events w it.before) (own_events w it.after) k it.cut
+      (first_below total (own_events w it.before) (own_events w it.after) (subst (AllByRecursion (TakesBelow total)) it.own_is all)) (subst (λ es. has_claimed k es ≡ true) it.own_is h)
+
+module _ (plan : List Application) (root capacity workers : ℕ) (places : List Place) (size total : ℕ) (why : WindowStop) where
+  cut_reaches : (n : ℕ) (cache : KeyCache) (window : WindowEvents) → IsNext plan root capacity workers places size total n window → IsCutWindow plan root capacity workers places why cache window
+      → (k : Key) → has_claimed k window.events ≡ true → IsReached plan root total k
+  cut_reaches n cache window is cut k h =
+      let m = in_window (crew_machine plan root capacity workers places) cache window in
+      let some = is.some in
+      let first = is.first in
+      let count = is.count in
+      let by = claimer m k window.events (start_of m cache places) cut.state cut.runs h in
+      any_reaches plan root total by.0 k window.count window.events (own_events by.0 window.events) (cut.work by.0 by.1)
+      (own_below total by.0 window.events (run_below total m (omega arith) window.events (start_of m cache places) cut.state cut.runs)) by.2
+
+  module _ (windows : List WindowEvents) (n : ℕ) (are : AreCrewCut plan root capacity workers places size total why windows n) where
+    all_runs : AreRuns (crew_machine plan root capacity workers places) places [] windows (let cut = are.cut in let s = cut.state in s.cache)
+    all_runs = let cut = are.cut in
+        subst (λ vs. AreRuns (crew_machine plan root capacity workers places) places [] vs (let s = cut.state in s.cache)) (sym are.windows_are) (one_run_more are.last cut.state (are_runs plan root capacity workers places size total are.first) cut.runs)
+
+    all_reached : (k : Key) → has_claimed k (all_events windows) ≡ true → IsReached plan root total k
+    all_reached k h = let last = are.last in ⊎_elim
+        (λ (early : has_claimed k (all_events are.whole) ≡ true). windows_reach plan root capacity workers places size total are.first k early)
+        (λ (now : has_claimed k last.events ≡ true). cut_reaches n are.left are.last are.next are.cut k now)
+        (claimed_in k (all_events are.whole) last.events (subst (λ es. has_claimed k es ≡ true) (ap all_events are.windows_are ∙ events_more are.whole are.last) h))
+
 differ_none : (same : Key → Key → Bool) → IsDistinct same []
 unfolding IsDistinct
 differ_none same = tt
@@ -142,4 +173,12 @@ crews_make_once = record {
       (makes_once (Unit {0})).once (crew_machine plan root capacity workers places) places [] left windows (differ_none _) (omega arith) (are_runs plan root capacity workers places size total whole) quiet k;
   enough = λ plan root capacity workers size total n places windows left keys is_plan few reach whole.
       (makes_once (Unit {0})).enough (crew_machine plan root capacity workers places) places left windows total keys few reach (are_runs plan root capacity workers places size total whole) (windows_reach plan root capacity workers places size total whole);
+}
+
+pub cut_crews_make_once : CutCrewsMakeOnce
+cut_crews_make_once = record {
+  once = λ plan root capacity workers size total n places why windows cut quiet k.
+      (makes_once (Unit {0})).once (crew_machine plan root capacity workers places) places [] _ windows (differ_none _) (omega arith) (all_runs plan root capacity workers places size total why windows n cut) quiet k;
+  enough = λ plan root capacity workers size total n places why windows keys is_plan few reach cut.
+      (makes_once (Unit {0})).enough (crew_machine plan root capacity workers places) places _ windows total keys few reach (all_runs plan root capacity workers places size total why windows n cut) (all_reached plan root capacity workers places size total why windows n cut);
 }

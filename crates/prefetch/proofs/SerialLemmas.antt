@@ -24,9 +24,9 @@ use Rattle.serve_worker.proofs.CallerLemmas.{places_kept}
 use Rattle.serve_worker.proofs.Tables.{none_leased, all_free}
 use Rattle.prefetch.specs.Journal.{AreFirst, AreCut}
 use Rattle.prefetch.specs.OneWindow.{with_window, WindowEnds}
-use Rattle.prefetch.specs.SerialWindows.{window_of, IsSerialWindow, IsAloneWindow, IsCutSerial, AreSerial}
+use Rattle.prefetch.specs.SerialWindows.{window_of, IsSerialWindow, IsAloneWindow, IsCutSerial, IsAloneCut, AreSerial}
 use Rattle.prefetch.specs.Windows.{frames_at}
-use Rattle.prefetch.proofs.AloneLemmas.{alone_window}
+use Rattle.prefetch.proofs.AloneLemmas.{alone_window, alone_cut}
 use Rattle.prefetch.proofs.WindowLemmas.{ended_stays, window_delivered, window_stopped}
 
 -- A WINDOW BEGINS
@@ -62,7 +62,7 @@ module _ {I : Type 0} (holds : I → Option Info) (feed : I → Option (List Pic
     pub window_ends : (r : Result (Unit {0}) WindowStop) (finished : Finished) → OnOk r (Served holds feed faults ends c.fixed.plan c1 count c2) → IfErr r (λ why. WindowCut holds feed faults ends c.fixed.plan c1 why c2)
         → finished.frames.items ≡ c2.outputs.frames → finished.events.items ≡ c2.journal → finished.stop ≡ c2.stop → length finished.frames.items ≡ c2.fixed.count
         → ((j : ℕ) (x : Picture) → slice_get finished.frames.items j ≡ Some (Some x) → x.shape ≡ shape_at c2.fixed.plan c2.fixed.root)
-        → WindowEnds holds feed faults ends c (IsAloneWindow c first count) (IsCutSerial c) first count finished finished.stop d
+        → WindowEnds holds feed faults ends c (IsAloneWindow c first count) (IsAloneCut c first count) first count finished finished.stop d
     window_ends (Ok u) finished ok err frames events stop size shapes =
         let running : finished.stop ≡ None = stop ∙ ok.stop ∙ ap (λ (z : CoreValue I). z.stop) begins in
         let same : serial_window c.fixed.plan c1.fixed.root c1.fixed.capacity (keys_of c1.cache) c1.fixed.first count ≡ window_of c first count = ap (λ (z : CoreValue I). serial_window c.fixed.plan z.fixed.root z.fixed.capacity (keys_of z.cache) z.fixed.first count) begins in
@@ -72,7 +72,7 @@ module _ {I : Type 0} (holds : I → Option Info) (feed : I → Option (List Pic
         let made : finished.events.items ≡ (window_of c first count).events
         = events ∙ (ok.journal ∙ (ap (λ (z : CoreValue I). z.journal ++ (serial_window c.fixed.plan c1.fixed.root c1.fixed.capacity (keys_of c1.cache) c1.fixed.first count).events) begins ∙ ap (λ (s : Serial). s.events) same)) in
         let now = run (subst (λ (z : Fixed). 0 < z.count) (sym fixed) more) in
-        subst (λ s. WindowEnds holds feed faults ends c (IsAloneWindow c first count) (IsCutSerial c) first count finished s d) (sym running) (
+        subst (λ s. WindowEnds holds feed faults ends c (IsAloneWindow c first count) (IsAloneCut c first count) first count finished s d) (sym running) (
           window_delivered holds feed faults ends c c1 c2 d first count plan begins ok.fixed ends_it finished stays (λ book numbers s. (ok.right book numbers s).0) frames size shapes ok.steady ok.delivered,
           record {
             serial = record { events_are = made; keys_are = ap (λ (z : CoreValue I). keys_of z.cache) ends_it ∙ (ok.keys ∙ ap (λ (s : Serial). s.keys) same) };
@@ -81,19 +81,23 @@ module _ {I : Type 0} (holds : I → Option Info) (feed : I → Option (List Pic
         )
     window_ends (Err why) finished ok err frames events stop size shapes =
         let stays = ended_stays holds feed faults ends c c1 c2 d first count plan begins err.fixed ends_it err.claims err.free err.held in
-        subst (λ s. WindowEnds holds feed faults ends c (IsAloneWindow c first count) (IsCutSerial c) first count finished s d) (sym (stop ∙ err.stop)) (
+        let fixed : c2.fixed ≡ (begun c first count).fixed = err.fixed ∙ ap (λ (z : CoreValue I). z.fixed) begins in
+        let places = places_kept holds c1.table c2.table err.held ∙ ap (λ (z : CoreValue I). keys_of z.table) begins in
+        let cut = subst (FailedWork c.fixed.plan c.fixed.root 0 why) (sym (events ∙ (err.journal ∙ ap (λ (z : CoreValue I). z.journal ++ err.events) begins))) (subst (λ (z : CoreValue I). FailedWork c.fixed.plan z.fixed.root 0 why err.events) begins err.cut) in
+        let now = run (subst (λ (z : Fixed). 0 < z.count) (sym fixed) more) in
+        subst (λ s. WindowEnds holds feed faults ends c (IsAloneWindow c first count) (IsAloneCut c first count) first count finished s d) (sym (stop ∙ err.stop)) (
           window_stopped holds feed faults ends c c1 c2 d first count plan begins err.fixed ends_it why stays err.right err.ended,
           record {
-            cut = subst (FailedWork c.fixed.plan c.fixed.root 0 why) (sym (events ∙ (err.journal ∙ ap (λ (z : CoreValue I). z.journal ++ err.events) begins))) (subst (λ (z : CoreValue I). FailedWork c.fixed.plan z.fixed.root 0 why err.events) begins err.cut);
-            named = err.named;
+            serial = record { cut = cut; named = err.named };
+            crew = alone_cut c c2 d first count plan root fixed places ends_it now finished.events.items events why cut err.stop err.named;
           },
         )
 
   -- what it leaves of the serial run alone
-  pub serial_ends : (c d : CoreValue I) (first count : ℕ) (finished : Finished) (stop : Option WindowStop) → WindowEnds holds feed faults ends c (IsAloneWindow c first count) (IsCutSerial c) first count finished stop d
+  pub serial_ends : (c d : CoreValue I) (first count : ℕ) (finished : Finished) (stop : Option WindowStop) → WindowEnds holds feed faults ends c (IsAloneWindow c first count) (IsAloneCut c first count) first count finished stop d
       → WindowEnds holds feed faults ends c (IsSerialWindow c first count) (IsCutSerial c) first count finished stop d
   serial_ends c d first count finished None w = (w.0, w.1.serial)
-  serial_ends c d first count finished (Some why) w = w
+  serial_ends c d first count finished (Some why) w = (w.0, w.1.serial)
 
 -- WINDOWS TOGETHER
 

@@ -13,7 +13,7 @@ use Rattle.serve_machine.specs.Machine.{Machine}
 use Rattle.serve_machine.specs.Lifted.{keys_machine}
 use Rattle.serve_machine.specs.Renders.{after_window, all_events, has_evicted, publications, IsReached}
 use Rattle.serve_shared.specs.Shares.{IsWork}
-use Rattle.prefetch.specs.Journal.{IsWholeJournal}
+use Rattle.prefetch.specs.Journal.{AreFirst, AreCut, IsWholeJournal}
 
 -- keys without their frames, the most recently used first
 abbrev pub KeyCache : Type 0
@@ -83,6 +83,16 @@ module _ (plan : List Application) (root capacity workers : ℕ) (places : List 
       pub next : IsNext n last
       pub cut : IsCutWindow why left last
 
+    -- the beginning of that run
+    pub record AreAloneFirst (windows : List WindowEvents) (n : ℕ) : Type 0 where
+      pub serial : AreFirst plan root capacity size total windows n
+      pub crew : AreCrewFirst windows n
+
+    -- and up to a window that this stop cut short
+    pub record AreAloneCut (why : WindowStop) (windows : List WindowEvents) (n : ℕ) : Type 0 where
+      pub serial : AreCut plan root capacity size total why windows n
+      pub crew : AreCrewCut why windows n
+
 -- over whole windows no frame is made twice where nothing is evicted, and nothing is evicted where the outputs reach no
 -- more keys than may be cached
 pub record CrewsMakeOnce : Type 0 where
@@ -95,3 +105,13 @@ pub record CrewsMakeOnce : Type 0 where
       → ((k : Key) → IsReached plan root total k → has k keys ≡ true)
       → AreWhole plan root capacity workers places size total windows n left
       → has_evicted (all_events windows) ≡ false
+
+-- and the same over the windows of a render that a stop cut short
+pub record CutCrewsMakeOnce : Type 0 where
+  pub once : (plan : List Application) (root capacity workers size total n : ℕ) (places : List Place) (why : WindowStop)
+      (windows : List WindowEvents) → AreCrewCut plan root capacity workers places size total why windows n
+      → has_evicted (all_events windows) ≡ false → (k : Key) → publications k (all_events windows) ≤ 1
+  pub enough : (plan : List Application) (root capacity workers size total n : ℕ) (places : List Place) (why : WindowStop)
+      (windows : List WindowEvents) (keys : List Key) → IsPlan plan → length keys ≤ capacity
+      → ((k : Key) → IsReached plan root total k → has k keys ≡ true)
+      → AreCrewCut plan root capacity workers places size total why windows n → has_evicted (all_events windows) ≡ false

@@ -8,7 +8,7 @@ use Rattle.serve_events.specs.SerialRun.{Serial, serial_window, windows_after}
 use Rattle.serve_events.specs.Windows.{WindowEvents}
 use Rattle.serve_events.specs.Work.{FailedWork}
 use Rattle.serve_core.specs.CoreValue.{CoreValue}
-use Rattle.prefetch.specs.Crew.{IsCrewWindow}
+use Rattle.prefetch.specs.Crew.{IsCrewWindow, IsCutCrew}
 use Rattle.prefetch.specs.Windows.{frames_at}
 
 module _ {I : Type 0} (c : CoreValue I) where
@@ -28,6 +28,11 @@ module _ {I : Type 0} (c : CoreValue I) where
   pub record IsCutSerial (why : WindowStop) (events : List Event) : Type 0 where
     pub cut : FailedWork c.fixed.plan c.fixed.root 0 why events
     pub named : names_source c.fixed.plan why ≡ true
+
+  -- and they are a run of the machine too
+  pub record IsAloneCut (first count : ℕ) (why : WindowStop) (events : List Event) : Type 0 where
+    pub serial : IsCutSerial why events
+    pub crew : IsCutCrew c first count why events
 
   -- the windows are the first of the serial run, have the first n outputs, and left what is cached in d
   pub record AreSerial (size n : ℕ) (windows : List WindowEvents) (d : CoreValue I) : Type 0 where

@@ -17,8 +17,7 @@ use Rattle.serve_worker.specs.Alone.{AllFree, held_in, counts_in}
 use Rattle.prefetch.specs.declared.stops.RenderStop.{RenderStop}
 use Rattle.prefetch.specs.declared.stops.RenderStop.TheVariants.{Stopped, Write, Memory}
 use Rattle.prefetch.specs.Clips.{pictures_from}
-use Rattle.prefetch.specs.Journal.{AreFirst, AreCut}
-use Rattle.prefetch.specs.CrewJournal.{AreCrewFirst, AreCrewCut, IsAloneJournal}
+use Rattle.prefetch.specs.CrewJournal.{AreCrewFirst, AreCrewCut, IsAloneJournal, AreAloneFirst, AreAloneCut}
 
 -- the frames that are there
 abbrev pub given : {A : Type 0} → List (Option A) → List A
@@ -114,15 +113,17 @@ module _ {I : Type 0} (holds : I → Option Info) (feed : I → Option (List Pic
       RenderEnds IsFirst IsCut windows d Write = FailedAfter IsFirst windows d
       RenderEnds IsFirst IsCut windows d Memory = EndedBetween IsFirst windows d
 
-      -- by one worker the journal is the serial run, and its windows are a crew's too, or it is the beginning of that run
+      -- by one worker the journal is the serial run, or the beginning of it, and its windows are a crew's too
       abbrev pub RendersAll : ℕ → List WindowEvents → CoreValue I → Type 0
       RendersAll size windows d = AllRendered (IsAloneJournal c.fixed.plan c.fixed.root c.fixed.capacity c.fixed.workers
           (keys_of c.table) size (frames_at c.fixed.plan c.fixed.root)) windows d
 
       abbrev pub RenderStops : ℕ → List WindowEvents → CoreValue I → RenderStop → Type 0
       RenderStops size windows d stop = RenderEnds
-          (AreFirst c.fixed.plan c.fixed.root c.fixed.capacity size (frames_at c.fixed.plan c.fixed.root))
-          (AreCut c.fixed.plan c.fixed.root c.fixed.capacity size (frames_at c.fixed.plan c.fixed.root)) windows d stop
+          (AreAloneFirst c.fixed.plan c.fixed.root c.fixed.capacity c.fixed.workers (keys_of c.table) size
+          (frames_at c.fixed.plan c.fixed.root))
+          (AreAloneCut c.fixed.plan c.fixed.root c.fixed.capacity c.fixed.workers (keys_of c.table) size
+          (frames_at c.fixed.plan c.fixed.root)) windows d stop
 
       -- by several workers it is that of a crew
       abbrev pub CrewRendersAll : ℕ → List WindowEvents → CoreValue I → Type 0

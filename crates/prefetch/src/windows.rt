@@ -6,7 +6,7 @@ ghost use Rattle.clip_graph.specs.Plan.{IsPlan};
 ghost use Rattle.serve_events.specs.Windows.{windows_of};
 ghost use Rattle.serve_core.specs.Kept.{leases_out};
 ghost use Rattle.prefetch.specs.OneWindow.{WindowEnds, PutsWindow, WindowShows, MakesWindow, UnmadeWindow};
-ghost use Rattle.prefetch.specs.SerialWindows.{IsSerialWindow, IsAloneWindow, IsCutSerial};
+ghost use Rattle.prefetch.specs.SerialWindows.{IsSerialWindow, IsAloneWindow, IsCutSerial, IsAloneCut};
 ghost use Rattle.prefetch.specs.Windows.{frames_at, RendersAll, RenderStops};
 
 use crate::finished::{keep_events, put_finished};
@@ -36,7 +36,7 @@ fn run_window<I: Works>(
     requires few { count ≤ 32 }
     requires numbers { first + count ≤ frames_at core.old.fixed.plan core.old.fixed.root }
     ensures ends { IfOk result (λ finished. WindowEnds I.holds I.feed I.faults I.ends core.old
-        (IsAloneWindow core.old first count) (IsCutSerial core.old) first count finished finished.stop core.new) }
+        (IsAloneWindow core.old first count) (IsAloneCut core.old first count) first count finished finished.stop core.new) }
     ensures err { OnErr result (core.new ≡ core.old) }
     ensures worker { worker.new ≡ worker.old }
 {
@@ -69,10 +69,10 @@ fn render_window<I: Works, K: Sink>(
     requires few { count ≤ 32 }
     requires numbers { first + count ≤ frames_at core.old.fixed.plan core.old.fixed.root }
     ensures ok { OnOk result (PutsWindow I.holds I.feed I.faults I.ends core.old
-        (IsAloneWindow core.old first count) (IsCutSerial core.old) first count
+        (IsAloneWindow core.old first count) (IsAloneCut core.old first count) first count
         (windows_of journal.old) (windows_of journal.new) core.new K.Sink out.old out.new) }
     ensures stop { IfErr result (WindowShows I.holds I.feed I.faults I.ends core.old
-        (IsAloneWindow core.old first count) (IsCutSerial core.old) first count
+        (IsAloneWindow core.old first count) (IsAloneCut core.old first count) first count
         (windows_of journal.old) (windows_of journal.new) core.new K.Sink out.old out.new) }
     ensures later { IsLater K.Sink out.old out.new }
     ensures worker { worker.new ≡ worker.old }

@@ -8,10 +8,10 @@ use Rattle.clip_graph.specs.Unfolding.{input_keys}
 use Rattle.frame_cache.specs.Cached.{same_key, Differ}
 use Rattle.inst_table.specs.declared.place.Place.{Place}
 use Rattle.serve_events.specs.declared.event.Event.{Event}
-use Rattle.serve_events.specs.declared.event.Event.TheVariants.{Claim, Evict, Publish}
+use Rattle.serve_events.specs.declared.event.Event.TheVariants.{Claim, Evict, Publish, Take}
 use Rattle.serve_events.specs.Keys.{frame_key, has}
 use Rattle.serve_events.specs.Windows.{WindowEvents}
-use Rattle.serve_events.specs.Work.{Deliveries}
+use Rattle.serve_events.specs.Work.{Deliveries, CutDeliveries}
 use Rattle.serve_machine.specs.State.{State}
 use Rattle.serve_machine.specs.Machine.{Machine, replay}
 use Rattle.serve_machine.specs.Law.{start_of}
@@ -82,8 +82,19 @@ pub record MakesOnce (F : Type 0) : Type 0 where
       → ((k : Key) → has_claimed k (all_events windows) ≡ true → IsReached m.fixed.plan m.fixed.root total k)
       → has_evicted (all_events windows) ≡ false
 
+-- an output that is taken is below a number
+abbrev pub TakesBelow : ℕ → Event → Type 0
+TakesBelow total (Take w n) = n < total
+TakesBelow total e = Unit {0}
+
 -- whole work on outputs below a number claims only keys that these reach
 abbrev pub WorkReaches : Type 0
 WorkReaches = (plan : List Application) (root w total : ℕ) (ns : List ℕ) (events : List Event) (k : Key)
     → Deliveries plan root w ns events → AllByRecursion (λ n. n < total) ns → has_claimed k events ≡ true
     → IsReached plan root total k
+
+-- and so does work that a stop cut short
+abbrev pub CutWorkReaches : Type 0
+CutWorkReaches = (plan : List Application) (root w total : ℕ) (done closing : List Event) (k : Key)
+    → CutDeliveries plan root w done closing → AllByRecursion (TakesBelow total) done
+    → has_claimed k (done ++ closing) ≡ true → IsReached plan root total k

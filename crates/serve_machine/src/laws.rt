@@ -6,7 +6,7 @@ ghost use Rattle.serve_machine.specs.Examples.{claimed_twice, entered_twice, wro
 ghost use Rattle.serve_machine.specs.Holdings.{OwnEventsTell};
 ghost use Rattle.serve_machine.specs.Law.{RunsRefine, ToldRunsRefine};
 ghost use Rattle.serve_machine.specs.Lifted.{RunsLift};
-ghost use Rattle.serve_machine.specs.Renders.{MakesOnce, WorkReaches};
+ghost use Rattle.serve_machine.specs.Renders.{MakesOnce, WorkReaches, CutWorkReaches};
 
 /// Whatever the workers do and in whichever order: each frame that is cached, got or delivered is the one that its key
 /// stands for, no key is cached twice or claimed twice, and each instance has one holder at a time.
@@ -39,6 +39,11 @@ pub fn makes_once<F>()
 /// A worker that delivers outputs claims only keys that these reach.
 pub fn work_reaches()
     ensures { WorkReaches }
+{}
+
+/// A worker whose work a stop cut short claims only keys that its outputs reach.
+pub fn cut_work_reaches()
+    ensures { CutWorkReaches }
 {}
 
 /// Work closes what it opens, by a worker's own events.

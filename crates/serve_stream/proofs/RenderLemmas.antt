@@ -12,8 +12,7 @@ use Rattle.serve_worker.specs.Alone.{counts_in}
 use Rattle.serve_worker.specs.Instances.{Ends, feed_of, faults_of, holds_of}
 use Rattle.prefetch.specs.declared.stops.RenderStop.{RenderStop}
 use Rattle.prefetch.specs.declared.stops.RenderStop.TheVariants.{Stopped, Write, Memory}
-use Rattle.prefetch.specs.Journal.{AreFirst, AreCut}
-use Rattle.prefetch.specs.CrewJournal.{AreCrewFirst, AreCrewCut}
+use Rattle.prefetch.specs.CrewJournal.{AreCrewFirst, AreCrewCut, AreAloneFirst, AreAloneCut}
 use Rattle.prefetch.specs.Windows.{frames_at, Stays, RenderEnds, RendersAll, RenderStops, CrewRendersAll, CrewStops}
 use Rattle.serve_stream.specs.ByWorkers.{IsFirstBy, IsCutBy}
 use Rattle.serve_stream.specs.Renders.{hands_at, RendersBy, StopsBy}
@@ -82,9 +81,9 @@ module _ {S K : Type 0} (of : of_source.Ghosts S) (c : CoreValue (Instance S)) (
   pub alone_stops : c.fixed.workers ≡ 1 → (done : Result (Unit {0}) RenderStop)
       → IfErr done (RenderStops holds_of (feed_of of) (faults_of of) (Ends of) c sink old new window windows d) → IfErr done (StopsBy of c sink old new window windows d)
   alone_stops one done = IfErr-weaker done (RenderStops holds_of (feed_of of) (faults_of of) (Ends of) c sink old new window windows d) (StopsBy of c sink old new window windows d)
-      (ends_by (AreFirst c.fixed.plan c.fixed.root c.fixed.capacity window (frames_at c.fixed.plan c.fixed.root)) (AreCut c.fixed.plan c.fixed.root c.fixed.capacity window (frames_at c.fixed.plan c.fixed.root))
-      (λ n first. record { alone = λ is. first; crew = λ several. absurd (omega (arith, one, several)) })
-      (λ why n cut. record { named = cut.cut.named; alone = λ is. cut; crew = λ several. absurd (omega (arith, one, several)) }))
+      (ends_by (AreAloneFirst c.fixed.plan c.fixed.root c.fixed.capacity c.fixed.workers (keys_of c.table) window (frames_at c.fixed.plan c.fixed.root)) (AreAloneCut c.fixed.plan c.fixed.root c.fixed.capacity c.fixed.workers (keys_of c.table) window (frames_at c.fixed.plan c.fixed.root))
+      (λ n first. record { alone = λ is. first.serial; crew = λ some. (keys_of c.table, first.crew) })
+      (λ why n cut. record { named = (let serial = cut.serial in let last = serial.cut in last.named); alone = λ is. cut.serial; crew = λ some. (keys_of c.table, cut.crew) }))
 
   -- the stop of a render by several
   pub together_stops : 1 < c.fixed.workers → (done : Result (Unit {0}) RenderStop)

@@ -20,14 +20,14 @@ module _ (plan : List Application) (root capacity : ℕ) (by : Hands) (total : �
   -- whole windows with the first n outputs
   pub record IsFirstBy (windows : List WindowEvents) (n : ℕ) : Type 0 where
     pub alone : by.workers ≡ 1 → AreFirst plan root capacity by.window total windows n
-    pub crew : 1 < by.workers
+    pub crew : 0 < by.workers
         → (places : List Place) × AreCrewFirst plan root capacity by.workers places by.window total windows n
 
   -- and after them one that this stop cut short
   pub record IsCutBy (why : WindowStop) (windows : List WindowEvents) (n : ℕ) : Type 0 where
     pub named : names_source plan why ≡ true
     pub alone : by.workers ≡ 1 → AreCut plan root capacity by.window total why windows n
-    pub crew : 1 < by.workers
+    pub crew : 0 < by.workers
         → (places : List Place) × AreCrewCut plan root capacity by.workers places by.window total why windows n
 
   abbrev pub IsJournalBy : Option WindowStop → List WindowEvents → ℕ → Type 0

@@ -1,11 +1,13 @@
 -- Window after window.
 use Rattle.std.proofs.Common.{◌≡◌, ◌∙◌, ◌<◌, ◌-◌, ◌+◌, min, sym, ap, subst, arith}
+use Rattle.std.specs.Map.{keys_of}
 use Rattle.serve_events.specs.Windows.{windows_of}
 use Rattle.serve_worker.proofs.Tables.{all_free}
 use Rattle.prefetch.specs.Crew.{AreOfCrew}
-use Rattle.prefetch.specs.Journal.{AreFirst, AreCut}
-use Rattle.prefetch.specs.SerialWindows.{IsAloneWindow, IsCutSerial, AreSerial}
+use Rattle.prefetch.specs.CrewJournal.{AreAloneFirst, AreAloneCut}
+use Rattle.prefetch.specs.SerialWindows.{IsAloneWindow, IsAloneCut, AreSerial}
 use Rattle.prefetch.specs.Windows.{frames_at}
+use Rattle.prefetch.proofs.CrewTogether as together
 use Rattle.prefetch.proofs.CrewTogether.{IsFirstOf, none_crew, first_crew, more_crew}
 use Rattle.prefetch.proofs.RenderLemmas.{keeps_first, keeps_on, put_none, ends_at_once, put_more, window_stops, renders_all}
 use Rattle.prefetch.proofs.SerialLemmas.{none_serial, first_serial, all_serial, more_serial, first_more, cut_more}
@@ -23,7 +25,9 @@ returns-in_default-clause-stop g c =
     let core = c.args.core.now in
     let kept = keeps_first g.I.Held.holds g.I.Held.feed g.I.Held.faults g.I.Held.ends core c.requires.between c.requires.unclaimed (all_free core.table c.requires.unlent) in
     let none = subst (λ ws. AreSerial core c.args.window 0 ws core) (sym c.requires.fresh) (none_serial core c.args.window) in
-    ends_at_once g.I.Held.holds g.I.Held.feed g.I.Held.faults g.I.Held.ends core g.K.Sink c.args.out.now (windows_of c.args.journal.now) kept (first_serial core c.args.window 0 (windows_of c.args.journal.now) core none c.requires.empty)
+    let crew = subst (λ ws. AreOfCrew core c.args.window 0 ws core) (sym c.requires.fresh) (none_crew core c.args.window c.requires.empty) in
+    ends_at_once g.I.Held.holds g.I.Held.feed g.I.Held.faults g.I.Held.ends core g.K.Sink c.args.out.now (windows_of c.args.journal.now) kept
+    (record { serial = first_serial core c.args.window 0 (windows_of c.args.journal.now) core none c.requires.empty; crew = first_crew core c.args.window 0 (windows_of c.args.journal.now) core crew })
 
 pub loop-first-init : goal.loop-first-init
 loop-first-init g c =
@@ -53,11 +57,20 @@ returns-in-Err-clause-stop g c =
     let longer = windows_of w.journal in
     let before = c.loop-first.core in
     let same : (before.fixed.plan ≡ core.fixed.plan) × (before.fixed.root ≡ core.fixed.root) × (before.fixed.capacity ≡ core.fixed.capacity) = (i.keeps.stays.plan, i.keeps.stays.root, i.keeps.stays.capacity) in
-    window_stops g.I.Held.holds g.I.Held.feed g.I.Held.faults g.I.Held.ends core g.K.Sink c.args.out.now c.loop-first.out w.out before w.core n count i.keeps (IsAloneWindow before n count) (IsCutSerial before)
-    (AreFirst core.fixed.plan core.fixed.root core.fixed.capacity c.args.window frames) (AreCut core.fixed.plan core.fixed.root core.fixed.capacity c.args.window frames) log longer (omega arith) i.later
-    (first_serial core c.args.window n log before i.serial c.requires.empty)
-    (λ finished a. first_more core c.args.window n log before i.serial count c.requires.some less is same finished.events.items w.core longer a.log_is a.whole.serial c.requires.empty)
-    (λ why a. cut_more core c.args.window n log before i.serial count c.requires.some less is same why a.events longer a.log_is a.cut c.requires.empty) i.put c.in-Err.stop c.in-Err.ensures.stop
+    window_stops g.I.Held.holds g.I.Held.feed g.I.Held.faults g.I.Held.ends core g.K.Sink c.args.out.now c.loop-first.out w.out before w.core n count i.keeps (IsAloneWindow before n count) (IsAloneCut before n count)
+    (AreAloneFirst core.fixed.plan core.fixed.root core.fixed.capacity core.fixed.workers (keys_of core.table) c.args.window frames)
+    (AreAloneCut core.fixed.plan core.fixed.root core.fixed.capacity core.fixed.workers (keys_of core.table) c.args.window frames) log longer (omega arith) i.later
+    (record { serial = first_serial core c.args.window n log before i.serial c.requires.empty; crew = first_crew core c.args.window n log before i.crew })
+    (λ finished a.
+    record {
+      serial = first_more core c.args.window n log before i.serial count c.requires.some less is same finished.events.items w.core longer a.log_is a.whole.serial c.requires.empty;
+      crew = together.first_more core c.args.window g.I.Held.holds n log before i.crew count less is i.keeps.stays finished.events.items w.core longer a.log_is a.whole.crew;
+    })
+    (λ why a.
+    record {
+      serial = cut_more core c.args.window n log before i.serial count c.requires.some less is same why a.events longer a.log_is a.cut.serial c.requires.empty;
+      crew = together.cut_more core c.args.window g.I.Held.holds n log before i.crew count less is i.keeps.stays why a.events longer a.log_is a.cut.crew;
+    }) i.put c.in-Err.stop c.in-Err.ensures.stop
 
 pub loop-first-preserved : goal.loop-first-preserved
 loop-first-preserved g c =
