@@ -23,7 +23,7 @@ LAYERS = [
     ("what scripts mean", "avs_meaning avs_state"),
     ("the core", "frame_cache serve_events serve_machine turn_lock serve_core"),
     ("workers and windows", "serve_worker run_text serve_stream"),
-    ("the program", "serve_text serve_app avsserve fv_real"),
+    ("the program", "serve_text serve_replay serve_app avsserve fv_real"),
 ]
 FILLS = ["#eef3fb", "#ffffff"]
 
