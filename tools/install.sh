@@ -1,5 +1,6 @@
 #!/usr/bin/env bash
-# Copies the program that was built, its page for man, the completion for bash, the syntax for Vim, and the examples.
+# Copies the program that was built, its page for man, the completion for bash, the syntax for Vim, the client and the preview,
+# what shows a journal, and the examples.
 #
 #     tools/install.sh PREFIX
 #
@@ -22,6 +23,12 @@ copies 755 "$program" bin/avsserve
 copies 644 "$top/docs/avsserve.1" share/man/man1/avsserve.1
 copies 644 "$top/tools/completion.bash" share/bash-completion/completions/avsserve
 copies 644 "$top/tools/avs.vim" share/avsserve/avs.vim
+# The client finds the program in PATH, and the preview its page beside itself.
+for it in avsserve.py preview.html preview.js preview_paint.js; do
+    copies 644 "$top/tools/$it" "share/avsserve/tools/$it"
+done
+copies 755 "$top/tools/preview.py" share/avsserve/tools/preview.py
+copies 755 "$top/bench/journal_stats.py" share/avsserve/tools/journal_stats.py
 for it in "$top"/examples/*; do
     mode=644
     [ ! -x "$it" ] || mode=755
