@@ -9,7 +9,7 @@ damaged in one place, in many ways, and replayed with caches of other sizes and 
 line. Renders print few of the journals that there are, so N walks go through the machine at random, with failures, claims that
 are given up, and windows that stay open; after some of their lines comes one more, which may or may not be lawful. Tables have
 texts at the limits and say which line is wrong. Then there are files that are no journals, words that are refused, and outputs
-that fail.
+that fail; and journals must show as many workers at work at once as were asked for.
 
 The program is built first, unless the environment names one as AVSSERVE. Each run has its time. With --keep the folder gets
 each script and text on which program and second reading differ.
@@ -784,6 +784,31 @@ def outputs(t):
     os.close(writer)
 
 
+def at_work(text):
+    """The workers that a journal names, and the most outputs that were being made at once."""
+    workers, open_now, most = set(), 0, 0
+    for line in text.decode().splitlines():
+        words = line.split(" ")
+        if words[0] == "take":
+            workers.add(words[1])
+            open_now += 1
+            most = max(most, open_now)
+        elif words[0] == "deliver":
+            open_now -= 1
+    return len(workers), most
+
+
+def crews(t):
+    """As many workers as were asked for are seen at work at once, in one of a few renders of frames that take their time."""
+    t.put("slow.avs", 'BlankClip(width=1280, height=720, length=32, pixel_type="YV12").GeneralConvolution(0, "1 2 1 2 4 2 1 2 1").Invert')
+    for threads in (1, 2, 3, 4, 8, 16):
+        seen = []
+        while len(seen) < 20 and (threads, threads) not in seen:
+            status, _, err = t.run(["render", "slow.avs", "--threads", str(threads), "--journal"])
+            seen.append(at_work(err) if status == 0 else status)
+        t.judge(f"{threads} workers are asked for", (threads, threads) in seen and max(seen) == (threads, threads), True)
+
+
 def main():
     parser = argparse.ArgumentParser(description=__doc__, formatter_class=argparse.RawDescriptionHelpFormatter)
     parser.add_argument("--runs", type=int, default=60)
@@ -796,7 +821,7 @@ def main():
     with tempfile.TemporaryDirectory() as folder, concurrent.futures.ThreadPoolExecutor(3) as pool:
         t = Runs(folder, pool, options.keep)
         t.put("m4.y4m", M4)
-        for part in (worked, words_of_both, files, outputs, tables, full_caches, one_frame_cached, large_texts):
+        for part in (worked, words_of_both, files, outputs, crews, tables, full_caches, one_frame_cached, large_texts):
             part(t)
         renders(t, options.runs, options.seed)
         walks(t, options.walks, options.seed)
