@@ -2,13 +2,15 @@
 """Renders clips at the limits of the program, and far past the sizes of other tests: many frames, filters, inputs and columns.
 
 Each is rendered by one worker and, where it has no more than 200,000 frames, by several, with a small cache and a large one, and
-compared with a stream that is computed here. One more than a limit is a fault with its name, and never `no memory`. The program is built first, unless the environment
-names one as AVSSERVE.
+compared with a stream that is computed here. One more than a limit is a fault with its name, and never `no memory`. Filters that
+show a part of a picture share its samples, so that 500 of them over 12 MB fit into little memory. The program is built first,
+unless the environment names one as AVSSERVE.
 """
 
 import array
 import os
 import random
+import resource
 import subprocess
 import sys
 import tempfile
@@ -167,6 +169,21 @@ def fault_of(done, wanted):
     return None if right else f"status {done.returncode}, {said!r}, not {wanted}"
 
 
+def shared(folder):
+    """What is wrong with renders of 500 filters, each of which shows a part of a picture of 12 MB or turns it over, in 400 MB."""
+    def limited():
+        resource.setrlimit(resource.RLIMIT_AS, (400 << 20, 400 << 20))
+
+    with open(os.path.join(folder, "s.avs"), "w", encoding="ascii") as file:
+        file.write('BlankClip(length=1, width=4000, height=3000, pixel_type="Y8", fps=25, color_yuv=$078080)\n')
+        file.write("for (i = 1, 250) { Crop(1, 0, 0, 0).FlipVertical }\nlast")
+    wanted = blank_head(3750, 3000) + b"FRAME\n" + bytes([7]) * (3750 * 3000)
+    for crew in (["--plain", "--cache", "256"], ["--threads", "2", "--cache", "256"]):
+        words = [PROGRAM, "render", "s.avs", *crew]
+        done = subprocess.run(words, cwd=folder, capture_output=True, timeout=SECONDS, check=False, preexec_fn=limited)
+        yield crew, fault_of(done, wanted)
+
+
 def main():
     if "AVSSERVE" not in os.environ:
         subprocess.run([os.path.join(ROOT, "build")], check=True, stdout=subprocess.DEVNULL)
@@ -184,6 +201,11 @@ def main():
                 if fault:
                     wrong += 1
                     print(f"sizes: {what} {' '.join(crew)}: {fault}, after {time.monotonic() - begin:.1f} s")
+        for crew, fault in shared(folder):
+            runs += 1
+            if fault:
+                wrong += 1
+                print(f"sizes: windows share their samples, {' '.join(crew)}: {fault}")
     print(f"sizes: {runs} runs, {wrong} wrong")
     return 1 if wrong else 0
 
