@@ -157,6 +157,11 @@ def check_install():
         same("install.sh without a folder", run(os.path.join(ROOT, "tools", "install.sh")).returncode, 1)
 
 
+def check_reading_list():
+    done = run(os.path.join(ROOT, "docs", "reading_list.py"), "--check")
+    same("the table of definitions in docs/proved.md: is it that of docs/reading_list.py", (done.returncode, done.stderr), (0, ""))
+
+
 def main():
     if "AVSSERVE" not in os.environ:
         subprocess.run([os.path.join(ROOT, "build")], check=True, stdout=subprocess.DEVNULL)
@@ -164,10 +169,11 @@ def main():
     check_completion()
     check_syntax()
     check_install()
+    check_reading_list()
     for it in wrong:
         print(f"tools: {it}")
     if not wrong:
-        print("tools: the page, the completion, the syntax and what is installed agree with the program and the manual")
+        print("tools: the page, the completion, the syntax, what is installed and the reading list agree with the program and the manual")
     return 1 if wrong else 0
 
 
