@@ -18,12 +18,12 @@ WIDTH, FONT = 900, "font-family='sans-serif' font-size='13'"
 LAYERS = [
     ("the outside", "fv_io self_test command_line"),
     ("frames and streams", "fv_rows fv_spares y4m_stream seq_source fv_session"),
-    ("scripts as trees", "avs_lex avs_values"),
+    ("scripts as trees", "avs_lex lex_laws avs_values"),
     ("clips and filters", "clip_term mt_modes clip_reference"),
-    ("what scripts mean", "avs_meaning avs_state"),
-    ("the core", "frame_cache serve_events serve_machine turn_lock serve_core"),
-    ("workers and windows", "serve_worker run_text serve_stream"),
-    ("the program", "serve_text serve_replay serve_app avsserve fv_real"),
+    ("what scripts mean", "avs_meaning row_laws avs_state"),
+    ("the core", "frame_cache serve_machine turn_lock serve_core"),
+    ("workers and windows", "serve_alone run_text"),
+    ("the program", "serve_text prefetch serve_replay serve_app avsserve fv_real"),
 ]
 FILLS = ["#eef3fb", "#ffffff"]
 

@@ -3,7 +3,7 @@ use crate::runs::{AGAIN, COPY, TWICE, files_of, run, start};
 use fv_io::Trip;
 use fv_plane::Key;
 use serve_app::Event;
-use serve_events::WindowStop;
+use serve_machine::WindowStop;
 use std::test::Fail;
 
 // The frame of a source, and the frame that is made of it.

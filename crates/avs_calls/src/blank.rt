@@ -12,7 +12,7 @@ ghost use Rattle.avs_state.specs.States.{state_of, AsksNothing};
 ghost use Rattle.avs_calls.specs.Views.{args_view, text_given};
 
 use crate::arguments::{number_at, text_at};
-use avs_meaning::{ScriptKind, ScriptStop};
+use avs_meaning::{EvalError, ScriptKind};
 use avs_state::{Machine, fault_at};
 use avs_values::Value;
 use clip_term::{BLACK, Filter, FilterFault, Op, colour_of, no_colour};
@@ -176,7 +176,7 @@ fn blank_like(
     args: &BlankArgs<'_>,
     script_name: &Text,
     line: u32,
-) -> Result<Value, ScriptStop>
+) -> Result<Value, EvalError>
     requires par { IsPar base.now.par }
     requires depth { has_depth base.now.shape.kind base.now.shape.bits ≡ true }
     ensures gives { Gives (λ x. x) (f.blank_like script_name.now base.now (args_view args.now) line (state_of
@@ -208,7 +208,7 @@ fn blank_of(
     args: &BlankArgs<'_>,
     script_name: &Text,
     line: u32,
-) -> Result<Value, ScriptStop>
+) -> Result<Value, EvalError>
     ensures gives { Gives (λ x. x) (f.blank_of script_name.now (option_map (λ value. value.now) clip.entry) (args_view
         args.now) line (state_of machine.old)) result (state_of machine.new) }
     ensures asks { AsksNothing machine.old machine.new }
@@ -232,7 +232,7 @@ pub(crate) fn blank(
     values: &[Value],
     script_name: &Text,
     line: u32,
-) -> Result<Value, ScriptStop>
+) -> Result<Value, EvalError>
     requires fit { IsTrue (all_fit_filters values.now) }
     ensures gives { Gives (λ x. x) (f.blank script_name.now signature values.now line (state_of machine.old)) result
         (state_of machine.new) }

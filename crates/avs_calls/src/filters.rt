@@ -12,7 +12,7 @@ ghost use Rattle.avs_state.specs.States.{state_of, AsksNothing};
 use crate::arguments::{add_clips, all_fit_filters};
 use crate::blank::blank;
 use crate::read::{Unread, read, takes};
-use avs_meaning::{ScriptKind, ScriptStop};
+use avs_meaning::{EvalError, ScriptKind};
 use avs_state::{Machine, fault_at};
 use avs_values::{Bound, Value};
 use clip_term::{Filter, FilterFault, Op, TimeOp};
@@ -31,7 +31,7 @@ fn apply_to(
     clip: &Info,
     script_name: &Text,
     line: u32,
-) -> Result<Value, ScriptStop>
+) -> Result<Value, EvalError>
     requires { clip.now.frames ≤ 1000000 }
     ensures gives { Gives (λ x. x) (f.applied_by script_name.now (a.reading script_of (bound_view given.now) clip.now filter)
         filter inputs.now line (state_of machine.old)) result (state_of machine.new) }
@@ -41,7 +41,7 @@ fn apply_to(
     let op = match read(alloc, given, clip, filter) {
         Ok(op) => op,
         Err(Unread::Refused(kind)) => return Err(fault_at(alloc, kind, script_name, line)),
-        Err(Unread::Memory) => return Err(ScriptStop::Memory),
+        Err(Unread::Memory) => return Err(EvalError::Memory),
     };
     if !takes(&op, inputs.len()) {
         return Err(fault_at(alloc, ScriptKind::NoMatch, script_name, line));
@@ -57,7 +57,7 @@ fn apply(
     given: &Bound,
     script_name: &Text,
     line: u32,
-) -> Result<Value, ScriptStop>
+) -> Result<Value, EvalError>
     ensures gives { Gives (λ x. x)
         (f.applied script_name.now script_of filter (bound_view given.now)
         (a.clips_among given.now.values.items ++ a.clips_among given.now.rest.items) line (state_of machine.old)) result
@@ -93,7 +93,7 @@ pub fn filter(
     given: &Bound,
     script_name: &Text,
     line: u32,
-) -> Result<Value, ScriptStop>
+) -> Result<Value, EvalError>
     requires { filter ≡ Filter.Y4MSource → ⊥ }
     ensures gives { (outside : Outside) → outside.trees ≡ script_of → Gives (λ x. x)
         (f.filtered script_name.now outside filter signature (bound_view given.now) line (state_of machine.old)) result
@@ -125,7 +125,7 @@ pub fn ranged(
     shown: &Value,
     script_name: &Text,
     line: u32,
-) -> Result<Value, ScriptStop>
+) -> Result<Value, EvalError>
     ensures gives { Gives (λ x. x) (f.ranged script_name.now clip first last line shown.now (state_of machine.old))
         result
         (state_of machine.new) }

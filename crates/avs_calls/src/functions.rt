@@ -4,7 +4,7 @@ ghost use Rattle.avs_values.specs.Views.{bound_view};
 ghost use Rattle.avs_meaning.specs.Operators as m;
 ghost use Rattle.avs_state.specs.Answers.{Answers};
 
-use avs_meaning::ScriptStop;
+use avs_meaning::EvalError;
 use avs_state::value_fault;
 use avs_values::{Bound, PlainFn, Value, call_plain};
 use fv_io::Text;
@@ -17,7 +17,7 @@ pub fn plain(
     given: &Bound,
     script_name: &Text,
     line: u32,
-) -> Result<Value, ScriptStop>
+) -> Result<Value, EvalError>
     ensures { Answers (λ x. x) (m.placed script_name.now line (p.plain function (bound_view given.now))) result }
 {
     match call_plain(alloc, function, given) {

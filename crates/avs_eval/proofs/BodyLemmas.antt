@@ -12,7 +12,7 @@ use Rattle.avs_meaning.specs.Meaning.{below}
 use Rattle.avs_meaning.specs.State.{State, Outcome, Run, and_then, pure, fails}
 use Rattle.avs_meaning.specs.Texts.{loaded_by}
 use Rattle.avs_meaning.specs.declared.fault.ScriptKind.TheVariants as k
-use Rattle.avs_meaning.specs.declared.stop.ScriptStop.{ScriptStop}
+use Rattle.avs_meaning.specs.declared.stop.EvalError.{EvalError}
 use Rattle.avs_state.specs.Answers.{Fails}
 use Rattle.avs_state.proofs.Failures.{is_fault, then_fails}
 use Rattle.avs_state.specs.declared.host.Host as host
@@ -44,7 +44,7 @@ module _ {H : Type 0} (h : host.Ghosts H) (n : ℕ) (from text here : Text) (lin
       → e.execute (context_in h n) from text here line s ≡ below (outside_by h.clips h.scripts) n from body.0 s'
   executed s s' body short is = execute_is s short ∙ ap (λ o. and_then o (λ body. below (outside_by h.clips h.scripts) n from body.0)) is
 
-  pub execute_fails : (s : State) (stop : ScriptStop) → length text ≤ text_limit → Fails (Unit {0}) (body_by (script_of text) from s) stop
+  pub execute_fails : (s : State) (stop : EvalError) → length text ≤ text_limit → Fails (Unit {0}) (body_by (script_of text) from s) stop
       → Fails (Unit {0}) (e.execute (context_in h n) from text here line s) stop
   execute_fails s stop short failed =
       is_fault _ _ stop (execute_is s short) (then_fails (body_by (script_of text) from s) (λ body. below (outside_by h.clips h.scripts) n from body.0) stop failed)

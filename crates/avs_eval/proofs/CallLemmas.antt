@@ -17,7 +17,7 @@ use Rattle.avs_meaning.specs.State.{State, Outcome, and_then, ◌>>=◌, fails}
 use Rattle.avs_meaning.specs.declared.builtin.Builtin.TheVariants as b
 use Rattle.avs_meaning.specs.declared.fault.ScriptKind.{ScriptKind}
 use Rattle.avs_meaning.specs.declared.fault.ScriptKind.TheVariants as k
-use Rattle.avs_meaning.specs.declared.stop.ScriptStop.{ScriptStop}
+use Rattle.avs_meaning.specs.declared.stop.EvalError.{EvalError}
 use Rattle.avs_state.specs.Answers.{Fails}
 use Rattle.avs_state.proofs.Failures.{is_fault, then_fails}
 use Rattle.avs_eval.specs.Ranges.{Given, given_in}
@@ -85,7 +85,7 @@ module _ (context : Context) (here : Text) (line : ℕ) where
       ∙ ap (λ o. and_then o (ranged here range.clip range.first range.last line)) (ap (λ l. apply context c l None here line s) (sym same) ∙ gave)
 
   -- the function fails
-  pub range_fails : (values rest : List Value) (range : Given) (c : Callee) (args : List binding.Given) (stop : ScriptStop) (s : State)
+  pub range_fails : (values rest : List Value) (range : Given) (c : Callee) (args : List binding.Given) (stop : EvalError) (s : State)
       → given_in values ≡ Ok range → called here range.name line s ≡ Ok (c, s) → args ≡ map unnamed (v.Clip range.clip ∷ rest)
       → Fails (Unit {0}) (apply context c args None here line s) stop → Fails (Unit {0}) (ranged_by (direct context) values rest here line s) stop
   range_fails values rest range c args stop s is known same failed =

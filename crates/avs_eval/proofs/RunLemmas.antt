@@ -10,8 +10,8 @@ use Rattle.avs_meaning.specs.Outside.{Outside}
 use Rattle.avs_meaning.specs.State.{State, Outcome, Run, and_then}
 use Rattle.avs_meaning.specs.declared.fault.FileKind.{FileKind}
 use Rattle.avs_meaning.specs.declared.fault.InputFault.{InputFault}
-use Rattle.avs_meaning.specs.declared.stop.ScriptStop.{ScriptStop}
-use Rattle.avs_meaning.specs.declared.stop.ScriptStop.TheVariants as e
+use Rattle.avs_meaning.specs.declared.stop.EvalError.{EvalError}
+use Rattle.avs_meaning.specs.declared.stop.EvalError.TheVariants as e
 use Rattle.avs_state.specs.Answers.{Fails}
 use Rattle.avs_eval.specs.OutsideBy.{outside_by}
 use Rattle.avs_eval.proofs.BodyLemmas.{loaded_then}
@@ -21,7 +21,7 @@ use Rattle.avs_eval.specs.Evaluates.{Evaluates}
 
 module _ (outside : Outside) (here : Text) where
   -- where the statements fail, there is no clip
-  pub run_fails : (body : Block) (line : ℕ) (s : State) (stop : ScriptStop) → Fails (Unit {0}) (run outside call_limit here body s) stop → Fails (Unit {0}) (to_clip outside here body line s) stop
+  pub run_fails : (body : Block) (line : ℕ) (s : State) (stop : EvalError) → Fails (Unit {0}) (run outside call_limit here body s) stop → Fails (Unit {0}) (to_clip outside here body line s) stop
   unfolding to_clip
   run_fails body line s stop failed = then_fails (run outside call_limit here body s) (clip_or_not here line) stop failed
 
@@ -48,7 +48,7 @@ module _ (clips : Text → Result Info InputFault) (scripts : Text → Result Te
   loaded_runs body s s' loaded = by_body s ∙ ap (λ o. and_then o goes_on) loaded
 
   -- where it has no tree
-  pub load_fails : (s : State) (stop : ScriptStop) → Fails ⊥ (body_by (script_of text) here s) stop
+  pub load_fails : (s : State) (stop : EvalError) → Fails ⊥ (body_by (script_of text) here s) stop
       → Fails (Unit {0}) (executed (outside_by clips scripts) here text s) stop
   load_fails s stop h =
       first_fails _ (body_by (script_of text) here s) goes_on stop (by_body s) (also_fails (body_by (script_of text) here s) stop h)
@@ -56,7 +56,7 @@ module _ (clips : Text → Result Info InputFault) (scripts : Text → Result Te
 -- ---- the answer
 
 -- what a stop shows of a run is what it tells of the script
-pub stop_shows : (outcome : Outcome ℕ) (stop : ScriptStop) → Fails (Unit {0}) outcome stop → Evaluates (meaning_by outcome) (Err stop)
+pub stop_shows : (outcome : Outcome ℕ) (stop : EvalError) → Fails (Unit {0}) outcome stop → Evaluates (meaning_by outcome) (Err stop)
 stop_shows outcome (e.Fault kind name line) h = ap meaning_by h
 stop_shows outcome (e.Input name why) h = ap meaning_by h
 stop_shows outcome e.Read h = tt

@@ -15,7 +15,7 @@ use crate::ranges::{positional_args, range_in};
 use crate::walker::Walker;
 use avs_calls::{clip_property, filter, plain, prefetch, ranged, set_mode};
 use avs_expressions::{Callee, called, fit_callee, parameters};
-use avs_meaning::{Builtin, ScriptKind, ScriptStop, Table, Variable};
+use avs_meaning::{Builtin, EvalError, ScriptKind, Table, Variable};
 use avs_state::{ByName, Definition, Host, Machine, stop_of};
 use avs_tree::Statement;
 use avs_values::{Bound, Given, Value};
@@ -34,7 +34,7 @@ impl<
         u32,
         &Text,
         &[Statement],
-    ) -> Result<Value, ScriptStop>,
+    ) -> Result<Value, EvalError>,
 > Walker<'t, H, F> {
     // Opens the clip of a file.
     fn open(
@@ -43,7 +43,7 @@ impl<
         host: &mut H,
         name: &Text,
         line: u32,
-    ) -> Result<Value, ScriptStop>
+    ) -> Result<Value, EvalError>
         ensures told { Told H.told (λ v. v) (f.open_by self.now.script_name.now (H.clips name.now) name.now line)
             machine.old result machine.new }
         ensures kept { Keeps H.Host machine.old host.old (stop_in result) machine.new host.new }
@@ -61,7 +61,7 @@ impl<
         host: &mut H,
         values: &[Value],
         line: u32,
-    ) -> Result<Value, ScriptStop>
+    ) -> Result<Value, EvalError>
         ensures told { Told H.told (λ v. v)
             (f.open_source self.now.script_name.now (outside_by H.clips H.scripts) values.now line)
             machine.old result machine.new }
@@ -80,7 +80,7 @@ impl<
         host: &mut H,
         definition: &Definition,
         env: ByName<Variable>,
-    ) -> Result<Value, ScriptStop>
+    ) -> Result<Value, EvalError>
         requires deeper { Deeper H.Host self.now.depth F.Fn self.now.run }
         requires room { 0 < self.now.depth }
         ensures told { Told H.told (λ v. v) (e.inside (context_in H.Host self.now.depth) (defined_view definition.now)
@@ -102,7 +102,7 @@ impl<
         signature: usize,
         given: &Bound,
         line: u32,
-    ) -> Result<Value, ScriptStop>
+    ) -> Result<Value, EvalError>
         ensures told { Told H.told (λ v. v) (f.filtered self.now.script_name.now (outside_by H.clips H.scripts) applied
             signature (bound_view given.now) line) machine.old result machine.new }
         ensures kept { Keeps H.Host machine.old host.old (stop_in result) machine.new host.new }
@@ -130,7 +130,7 @@ impl<
         signature: usize,
         given: &Bound,
         line: u32,
-    ) -> Result<Value, ScriptStop>
+    ) -> Result<Value, EvalError>
         requires deeper { Deeper H.Host self.now.depth F.Fn self.now.run }
         requires other { builtin ≡ Builtin.ApplyRange → ⊥ }
         ensures told { Told H.told (λ v. v) (e.performed (context_in H.Host self.now.depth) (c.builtin builtin) signature
@@ -177,7 +177,7 @@ impl<
         signature: usize,
         given: &Bound,
         line: u32,
-    ) -> Result<Value, ScriptStop>
+    ) -> Result<Value, EvalError>
         requires deeper { Deeper H.Host self.now.depth F.Fn self.now.run }
         requires other { callee_view callee.now ≡ c.builtin Builtin.ApplyRange → ⊥ }
         ensures told { Told H.told (λ v. v) (e.performed (context_in H.Host self.now.depth) (callee_view callee.now)
@@ -207,7 +207,7 @@ impl<
         host: &mut H,
         given: &Bound,
         line: u32,
-    ) -> Result<Value, ScriptStop>
+    ) -> Result<Value, EvalError>
         requires deeper { Deeper H.Host self.now.depth F.Fn self.now.run }
         ensures told { Told H.told (λ v. v) (e.ranged_by (e.direct (context_in H.Host self.now.depth)) given.now.values.items
             given.now.rest.items self.now.script_name.now line) machine.old result machine.new }
@@ -252,7 +252,7 @@ impl<
         args: Vec<Given>,
         last: Option<Value>,
         line: u32,
-    ) -> Result<Value, ScriptStop>
+    ) -> Result<Value, EvalError>
         requires deeper { Deeper H.Host self.now.depth F.Fn self.now.run }
         ensures told { Told H.told (λ v. v) (e.apply (context_in H.Host self.now.depth) (callee_view callee.now)
             args.items last self.now.script_name.now line) machine.old result machine.new }

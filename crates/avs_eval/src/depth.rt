@@ -6,7 +6,7 @@ ghost use Rattle.avs_eval.specs.OutsideBy.{outside_by};
 ghost use Rattle.avs_state.specs.Walks.{Keeps, stop_in};
 
 use crate::walker::Walker;
-use avs_meaning::{ScriptStop, Table};
+use avs_meaning::{EvalError, Table};
 use avs_state::{Host, Machine};
 use avs_statements::body_of;
 use avs_tree::Statement;
@@ -24,7 +24,7 @@ pub(crate) fn run<H: Host>(
     depth: u32,
     script_name: &Text,
     body: &[Statement],
-) -> Result<Value, ScriptStop>
+) -> Result<Value, EvalError>
     ensures told { Told H.told (λ x. x) (m.run (outside_by H.clips H.scripts) depth script_name.now (block_view
         body.now))
         machine.old result machine.new }

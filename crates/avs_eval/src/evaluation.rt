@@ -1,18 +1,18 @@
 // The public call `eval`: a text becomes the graph of its clip, or a stop.
-ghost use Rattle.std.specs.Prelude.{◌≡◌, ◌≤◌, ◌<◌, ◌+◌, [], length, IsTrue, IfOk, OnOk};
+ghost use Rattle.std.specs.Prelude.{◌≡◌, ◌≤◌, ◌<◌, [], length, IsTrue, IfOk, OnOk};
 ghost use Rattle.avs_tree.specs.View.{block_view};
 ghost use Rattle.avs_values.specs.Outcome.{text_limit};
-ghost use Rattle.avs_meaning.specs.Meaning.{clip_or_not, executed, text_imports, text_meaning, to_clip};
+ghost use Rattle.avs_meaning.specs.Meaning.{clip_or_not, executed, text_meaning, to_clip};
 ghost use Rattle.avs_state.specs.Answers.{Gives};
 ghost use Rattle.avs_state.specs.Hosts.{Told};
 ghost use Rattle.avs_eval.specs.OutsideBy.{outside_by};
 ghost use Rattle.avs_state.specs.States.{state_of};
-ghost use Rattle.avs_eval.specs.Evaluates.{Evaluates, Opens, CountsFaults};
+ghost use Rattle.avs_eval.specs.Evaluates.{Evaluates, Opens, CountsFaults, FetchesAll};
 ghost use Rattle.avs_state.specs.Walks.{Keeps, stop_in};
 
 use crate::depth::run;
 use crate::texts::load_body;
-use avs_meaning::{Crew, ScriptKind, ScriptStop, Table};
+use avs_meaning::{Crew, EvalError, ScriptKind, Table};
 use avs_state::{Host, Machine, fault_at};
 use avs_tree::Statement;
 use avs_values::Value;
@@ -38,7 +38,7 @@ fn clip_of(
     value: Value,
     name: &Text,
     line: u32,
-) -> Result<u32, ScriptStop>
+) -> Result<u32, EvalError>
     ensures gives { Gives (λ i. i) (clip_or_not name.now line value (state_of machine.now)) result
         (state_of machine.now) }
     ensures inside { IfOk result (λ i. i < length (state_of machine.now).plan) }
@@ -60,7 +60,7 @@ fn clip_of_run<H: Host>(
     name: &Text,
     statements: &[Statement],
     last_line: u32,
-) -> Result<u32, ScriptStop>
+) -> Result<u32, EvalError>
     ensures told { Told H.told (λ i. i) (to_clip (outside_by H.clips H.scripts) name.now (block_view statements.now)
         last_line) machine.old result machine.new }
     ensures kept { Keeps H.Host machine.old host.old (stop_in result) machine.new host.new }
@@ -78,7 +78,7 @@ fn execute<H: Host>(
     host: &mut H,
     name: &Text,
     text: &Text,
-) -> Result<u32, ScriptStop>
+) -> Result<u32, EvalError>
     requires { length text.now ≤ text_limit }
     ensures told { Told H.told (λ i. i) (executed (outside_by H.clips H.scripts) name.now text.now)
         machine.old result machine.new }
@@ -105,7 +105,7 @@ pub fn eval<H: Host>(
     host: &mut H,
     name: &Text,
     text: &Text,
-) -> Result<Opened, ScriptStop>
+) -> Result<Opened, EvalError>
     requires short { length text.now ≤ text_limit }
     requires none { H.opened host.old ≡ [] }
     // Where the host tells its files, the answer is the script's meaning there.
@@ -113,8 +113,7 @@ pub fn eval<H: Host>(
     // The sources of the graph are the clips that the host gave, in their order.
     ensures opened { IfOk result (λ opened. Opens opened (H.opened host.new)) }
     // A file is fetched for each clip that is opened, and for each Import that reads a script.
-    ensures fetched { IsTrue H.told → OnOk result (H.fetched host.new ≡ H.fetched host.old
-        + (length (H.opened host.new) + text_imports (outside_by H.clips H.scripts) name.now text.now)) }
+    ensures fetched { IsTrue H.told → OnOk result (FetchesAll H.Host name.now text.now host.old host.new) }
     ensures later { H.faults host.old ≤ H.faults host.new }
     ensures more { H.fetched host.old ≤ H.fetched host.new }
     // Only a failed read counts a fault, so none is tried again.

@@ -16,7 +16,7 @@ ghost use Rattle.avs_eval.specs.OutsideBy.{context_in, outside_by};
 ghost use Rattle.avs_eval.specs.Deeper.{Deeper};
 
 use crate::walker::Walker;
-use avs_meaning::{ScriptKind, ScriptStop, Table};
+use avs_meaning::{EvalError, ScriptKind, Table};
 use avs_parse::{LoadFault, Loaded, load};
 use avs_state::{Host, Machine, fault_at, stop_of};
 use avs_tree::{Script, Statement};
@@ -41,7 +41,7 @@ pub(crate) fn load_body(
     machine: &mut Machine,
     script_name: &Text,
     text: &Text,
-) -> Result<Body, ScriptStop>
+) -> Result<Body, EvalError>
     requires { length text.now ≤ text_limit }
     ensures gives { Gives body_view (body_by (script_of text.now) script_name.now (state_of machine.old)) result
         (state_of machine.new) }
@@ -69,7 +69,7 @@ pub(crate) fn load_body(
         Err(LoadFault::NestLimit { line }) => {
             Err(fault_at(alloc, ScriptKind::NestLimit, script_name, line))
         }
-        Err(LoadFault::Memory) => Err(ScriptStop::Memory),
+        Err(LoadFault::Memory) => Err(EvalError::Memory),
     }
 }
 
@@ -84,7 +84,7 @@ impl<
         u32,
         &Text,
         &[Statement],
-    ) -> Result<Value, ScriptStop>,
+    ) -> Result<Value, EvalError>,
 > Walker<'t, H, F> {
     /// Executes statements of the text of this name one call deeper.
     pub(crate) fn deeper(
@@ -93,7 +93,7 @@ impl<
         host: &mut H,
         script_name: &Text,
         body: &[Statement],
-    ) -> Result<Value, ScriptStop>
+    ) -> Result<Value, EvalError>
         requires deeper { Deeper H.Host self.now.depth F.Fn self.now.run }
         requires room { 0 < self.now.depth }
         ensures told { Told H.told (λ v. v) (m.below (outside_by H.clips H.scripts) self.now.depth script_name.now (block_view
@@ -120,7 +120,7 @@ impl<
         from: &Text,
         text: &Text,
         line: u32,
-    ) -> Result<Value, ScriptStop>
+    ) -> Result<Value, EvalError>
         requires deeper { Deeper H.Host self.now.depth F.Fn self.now.run }
         requires room { 0 < self.now.depth }
         ensures told { Told H.told (λ v. v)
@@ -142,7 +142,7 @@ impl<
         host: &mut H,
         text: &Text,
         line: u32,
-    ) -> Result<Value, ScriptStop>
+    ) -> Result<Value, EvalError>
         requires deeper { Deeper H.Host self.now.depth F.Fn self.now.run }
         requires room { 0 < self.now.depth }
         ensures told { Told H.told (λ v. v)
@@ -162,7 +162,7 @@ impl<
         host: &mut H,
         text: &Text,
         line: u32,
-    ) -> Result<Value, ScriptStop>
+    ) -> Result<Value, EvalError>
         requires deeper { Deeper H.Host self.now.depth F.Fn self.now.run }
         ensures told { Told H.told (λ v. v)
             (b.eval_text (context_in H.Host self.now.depth) self.now.script_name.now text.now line)
@@ -182,7 +182,7 @@ impl<
         host: &mut H,
         values: &[Value],
         line: u32,
-    ) -> Result<Value, ScriptStop>
+    ) -> Result<Value, EvalError>
         requires deeper { Deeper H.Host self.now.depth F.Fn self.now.run }
         ensures told { Told H.told (λ v. v)
             (e.eval (context_in H.Host self.now.depth) self.now.script_name.now values.now line) machine.old result
@@ -202,13 +202,13 @@ impl<
         host: &mut H,
         name: &Text,
         line: u32,
-    ) -> Result<Text, ScriptStop>
+    ) -> Result<Text, EvalError>
         ensures told { Told H.told (λ text. text) (e.script_by self.now.script_name.now (H.scripts name.now) line)
             machine.old result machine.new }
         ensures kept { Keeps H.Host machine.old host.old (stop_in result) machine.new host.new }
     {
         if !machine.can_import() {
-            return Err(ScriptStop::Memory);
+            return Err(EvalError::Memory);
         }
         match host.script(name) {
             Ok(text) => {
@@ -226,7 +226,7 @@ impl<
         host: &mut H,
         values: &[Value],
         line: u32,
-    ) -> Result<Value, ScriptStop>
+    ) -> Result<Value, EvalError>
         requires deeper { Deeper H.Host self.now.depth F.Fn self.now.run }
         ensures told { Told H.told (λ v. v)
             (e.import_ (context_in H.Host self.now.depth) self.now.script_name.now values.now line)

@@ -4,7 +4,7 @@ ghost use Rattle.avs_eval.specs.Deeper.{Deeper};
 ghost use Rattle.avs_eval.specs.OutsideBy.{context_in};
 
 use avs_expressions::{Callee, Calls, value_of};
-use avs_meaning::{ScriptKind, ScriptStop, Table};
+use avs_meaning::{EvalError, ScriptKind, Table};
 use avs_state::{Host, Machine, fault_at};
 use avs_statements::Evaluator;
 use avs_tree::{Expr, Statement};
@@ -30,7 +30,7 @@ pub(crate) struct Walker<'t, H, F> {
 
 impl<'t, H, F> Walker<'t, H, F> {
     /// A fault at a line of the text.
-    pub(crate) fn fault(&self, kind: ScriptKind, line: u32) -> ScriptStop
+    pub(crate) fn fault(&self, kind: ScriptKind, line: u32) -> EvalError
         ensures { Shows (script kind self.now.script_name.now line) result }
     {
         fault_at(self.alloc, kind, self.script_name, line)
@@ -48,7 +48,7 @@ impl<
         u32,
         &Text,
         &[Statement],
-    ) -> Result<Value, ScriptStop>,
+    ) -> Result<Value, EvalError>,
 > Calls<H> for Walker<'t, H, F> {
     ghost may = { λ walker. Deeper H.Host walker.depth F.Fn walker.run };
 
@@ -72,7 +72,7 @@ impl<
         args: Vec<Given>,
         last: Option<Value>,
         line: u32,
-    ) -> Result<Value, ScriptStop> {
+    ) -> Result<Value, EvalError> {
         self.call(machine, host, callee, args, last, line)
     }
 }
@@ -88,7 +88,7 @@ impl<
         u32,
         &Text,
         &[Statement],
-    ) -> Result<Value, ScriptStop>,
+    ) -> Result<Value, EvalError>,
 > Evaluator<H> for Walker<'t, H, F> {
     ghost may = { λ walker. Deeper H.Host walker.depth F.Fn walker.run };
 
@@ -105,7 +105,7 @@ impl<
         machine: &mut Machine,
         host: &mut H,
         expr: &Expr,
-    ) -> Result<Value, ScriptStop> {
+    ) -> Result<Value, EvalError> {
         value_of(self.alloc, self, machine, host, expr)
     }
 }

@@ -1,6 +1,6 @@
 // `Calls`: what makes the calls of a text.
 use crate::callee::Callee;
-use avs_meaning::{ScriptStop, Table};
+use avs_meaning::{EvalError, Table};
 use avs_state::{Host, Machine};
 use avs_values::{Given, Value};
 use fv_io::Text;
@@ -40,7 +40,7 @@ pub trait Calls<H: Host> {
         args: Vec<Given>,
         last: Option<Value>,
         line: u32,
-    ) -> Result<Value, ScriptStop>
+    ) -> Result<Value, EvalError>
         requires may { may self.now }
         ensures told { Told H.told (λ v. v)
             (e.apply (context self.now) (callee_view callee.now) args.items last (here self.now) line)

@@ -10,7 +10,7 @@ ghost use Rattle.avs_expressions.specs.Operands as s;
 use crate::calls::Calls;
 use crate::evaluation::Evaluation;
 use crate::operate::{combined, compared, prefixed};
-use avs_meaning::ScriptStop;
+use avs_meaning::EvalError;
 use avs_state::{Host, Machine, truth};
 use avs_tree::{Arg, DotCall, Expr, Operator, Step};
 use avs_values::{Given, UnaryOp, Value};
@@ -21,7 +21,7 @@ use std::marker::PhantomData;
 impl<'c, H: Host, C: Calls<H>> Evaluation<'c, H, C> {
     // The value of an expression.
     #[cycle(expressions)]
-    fn value_of(&self, machine: &mut Machine, host: &mut H, e: &Expr) -> Result<Value, ScriptStop>
+    fn value_of(&self, machine: &mut Machine, host: &mut H, e: &Expr) -> Result<Value, EvalError>
         requires may { C.may self.now.calls.now }
         ensures told { Told H.told (λ v. v)
             (m.value_of (C.context self.now.calls.now) (C.here self.now.calls.now) (expr_view e.now))
@@ -98,7 +98,7 @@ impl<'c, H: Host, C: Calls<H>> Evaluation<'c, H, C> {
         name: &Text,
         args: &[Arg],
         line: u32,
-    ) -> Result<Value, ScriptStop>
+    ) -> Result<Value, EvalError>
         requires may { C.may self.now.calls.now }
         ensures told { Told H.told (λ v. v) (m.value_of (C.context self.now.calls.now) (C.here self.now.calls.now)
             (t.call name.now (args_of (map arg_view args.now)) line)) machine.old result machine.new }
@@ -118,7 +118,7 @@ impl<'c, H: Host, C: Calls<H>> Evaluation<'c, H, C> {
         host: &mut H,
         args: &[Arg],
         mut given: Vec<Given>,
-    ) -> Result<Vec<Given>, ScriptStop>
+    ) -> Result<Vec<Given>, EvalError>
         requires may { C.may self.now.calls.now }
         ensures told { Told H.told (λ v. v.items) (m.givens_of (C.context self.now.calls.now) (C.here self.now.calls.now)
             (args_of (map arg_view args.now)) given.items) machine.old result machine.new }
@@ -144,7 +144,7 @@ impl<'c, H: Host, C: Calls<H>> Evaluation<'c, H, C> {
         host: &mut H,
         calls: &[DotCall],
         first: Value,
-    ) -> Result<Value, ScriptStop>
+    ) -> Result<Value, EvalError>
         requires may { C.may self.now.calls.now }
         ensures told { Told H.told (λ v. v) (m.calls_from (C.context self.now.calls.now) (C.here self.now.calls.now)
             (method_calls_of (map method_call_view calls.now)) first) machine.old result machine.new }
@@ -164,7 +164,7 @@ impl<'c, H: Host, C: Calls<H>> Evaluation<'c, H, C> {
         host: &mut H,
         call: &DotCall,
         first: Value,
-    ) -> Result<Value, ScriptStop>
+    ) -> Result<Value, EvalError>
         requires may { C.may self.now.calls.now }
         ensures told { Told H.told (λ v. v) (m.calls_from (C.context self.now.calls.now) (C.here self.now.calls.now)
             (method_calls_of (method_call_view call.now ∷ [])) first) machine.old result machine.new }
@@ -197,7 +197,7 @@ impl<'c, H: Host, C: Calls<H>> Evaluation<'c, H, C> {
         host: &mut H,
         steps: &[Step],
         first: Value,
-    ) -> Result<Value, ScriptStop>
+    ) -> Result<Value, EvalError>
         requires may { C.may self.now.calls.now }
         ensures told { Told H.told (λ v. v) (m.steps_from (C.context self.now.calls.now) (C.here self.now.calls.now)
             (steps_of (map step_view steps.now)) first) machine.old result machine.new }
@@ -220,7 +220,7 @@ impl<'c, H: Host, C: Calls<H>> Evaluation<'c, H, C> {
         op: Operator,
         line: u32,
         first: Value,
-    ) -> Result<Value, ScriptStop>
+    ) -> Result<Value, EvalError>
         requires may { C.may self.now.calls.now }
         ensures told { Told H.told (λ v. v) (s.joined (C.context self.now.calls.now) (C.here self.now.calls.now) op
             line (expr_view operand.now) first) machine.old result machine.new }
@@ -262,7 +262,7 @@ impl<'c, H: Host, C: Calls<H>> Evaluation<'c, H, C> {
         host: &mut H,
         operand: &Expr,
         line: u32,
-    ) -> Result<Value, ScriptStop>
+    ) -> Result<Value, EvalError>
         requires may { C.may self.now.calls.now }
         ensures told { Told H.told (λ v. v) (s.truth_of (C.context self.now.calls.now)
             (C.here self.now.calls.now) line (expr_view operand.now)) machine.old result machine.new }
@@ -281,7 +281,7 @@ pub fn value_of<H: Host, C: Calls<H>>(
     machine: &mut Machine,
     host: &mut H,
     e: &Expr,
-) -> Result<Value, ScriptStop>
+) -> Result<Value, EvalError>
     requires may { C.may calls.now }
     ensures told { Told H.told (λ v. v) (m.value_of (C.context calls.now) (C.here calls.now) (expr_view e.now))
         machine.old result machine.new }

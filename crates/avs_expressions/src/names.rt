@@ -11,7 +11,7 @@ ghost use Rattle.avs_expressions.specs.Views.{callee_view};
 use crate::callee::{Callee, callee_of};
 use crate::calls::Calls;
 use crate::evaluation::Evaluation;
-use avs_meaning::{ScriptKind, ScriptStop, Table};
+use avs_meaning::{EvalError, ScriptKind, Table};
 use avs_state::{Host, Machine, fault_at};
 use avs_values::{Given, Value};
 use fv_io::Text;
@@ -25,7 +25,7 @@ pub fn called<'t>(
     name: &Text,
     script_name: &Text,
     line: u32,
-) -> Result<Callee<'t>, ScriptStop>
+) -> Result<Callee<'t>, EvalError>
     ensures { Gives callee_view (e.called script_name.now name.now line (state_of machine.now)) result
         (state_of machine.now) }
 {
@@ -42,7 +42,7 @@ impl<'c, H: Host, C: Calls<H>> Evaluation<'c, H, C> {
         machine: &Machine,
         name: &Text,
         line: u32,
-    ) -> Result<Callee<'c>, ScriptStop>
+    ) -> Result<Callee<'c>, EvalError>
         ensures { Gives callee_view (e.called (C.here self.now.calls.now) name.now line (state_of machine.now)) result
             (state_of machine.now) }
     {
@@ -64,7 +64,7 @@ impl<'c, H: Host, C: Calls<H>> Evaluation<'c, H, C> {
         callee: &Callee<'_>,
         args: Vec<Given>,
         line: u32,
-    ) -> Result<Value, ScriptStop>
+    ) -> Result<Value, EvalError>
         requires may { C.may self.now.calls.now }
         ensures told { Told H.told (λ v. v) (e.apply_last (C.context self.now.calls.now) (C.here self.now.calls.now)
             (callee_view callee.now) args.items line) machine.old result machine.new }
@@ -82,7 +82,7 @@ impl<'c, H: Host, C: Calls<H>> Evaluation<'c, H, C> {
         host: &mut H,
         name: &Text,
         line: u32,
-    ) -> Result<Value, ScriptStop>
+    ) -> Result<Value, EvalError>
         requires may { C.may self.now.calls.now }
         ensures told { Told H.told (λ v. v) (e.value_of (C.context self.now.calls.now) (C.here self.now.calls.now)
             (t.name name.now line)) machine.old result machine.new }

@@ -6,7 +6,7 @@ ghost use Rattle.avs_state.specs.Answers.{Answers, Gives};
 ghost use Rattle.avs_state.specs.Sources.{sources_of};
 ghost use Rattle.avs_state.specs.States.{state_of, AsksNothing};
 
-use avs_meaning::{ScriptKind, ScriptStop};
+use avs_meaning::{EvalError, ScriptKind};
 use avs_state::{Machine, fault_at, value_fault};
 use avs_tree::Operator;
 use avs_values::{BinaryOp, UnaryOp, Value, binary, unary};
@@ -41,7 +41,7 @@ pub(crate) fn compared(
     right: &Value,
     script_name: &Text,
     line: u32,
-) -> Result<Value, ScriptStop>
+) -> Result<Value, EvalError>
     ensures { Answers (λ x. x) (m.placed script_name.now line (v.binary (m.binary_of op) left.now right.now)) result }
 {
     match binary(alloc, binary_of(op), left, right) {
@@ -57,7 +57,7 @@ pub(crate) fn prefixed(
     operand: &Value,
     script_name: &Text,
     line: u32,
-) -> Result<Value, ScriptStop>
+) -> Result<Value, EvalError>
     ensures { Answers (λ x. x) (m.placed script_name.now line (v.unary op operand.now)) result }
 {
     match unary(op, operand) {
@@ -75,7 +75,7 @@ pub(crate) fn combined(
     right: &Value,
     script_name: &Text,
     line: u32,
-) -> Result<Value, ScriptStop>
+) -> Result<Value, EvalError>
     ensures gives { Gives (λ x. x) (m.combined script_name.now op line left.now right.now (state_of machine.old)) result
         (state_of machine.new) }
     ensures asks { AsksNothing machine.old machine.new }

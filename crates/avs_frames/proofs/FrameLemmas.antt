@@ -1,8 +1,8 @@
 -- The innermost frame.
 use Rattle.std.proofs.Common.{◌≡◌, refl, ap, ◌+◌, ◌-◌, arith, List, [], ◌∷◌, ◌++◌, length, map, sum, slice_get, Some, None}
 use Rattle.std.proofs.lemmas.List.Sums.{sum_by-cons}
-use Rattle.avs_place.specs.ExprMachine as x
-use Rattle.avs_place.specs.Nesting.{frames_level}
+use Rattle.avs_tree.specs.ExprMachine as x
+use Rattle.avs_tree.specs.Nesting.{frames_level}
 use Rattle.avs_frames.specs.Open.{opens}
 use Rattle.avs_frames.specs.ExprViews.{frame_view, onto, frames_view}
 use Rattle.avs_frames.specs.declared.frame.Frame.{Frame}

@@ -1,7 +1,7 @@
 -- What the states of the code mean, in an expression.
 use Rattle.std.specs.Prelude.{◌≡◌, List, [], ◌∷◌, map, Result, IfOk}
 use Rattle.avs_tree.specs.View.{expr_view, arg_view, method_call_view, step_view}
-use Rattle.avs_place.specs.ExprMachine as x
+use Rattle.avs_tree.specs.ExprMachine as x
 use Rattle.avs_frames.specs.declared.memory.OutOfMemory.{OutOfMemory}
 use Rattle.avs_frames.specs.declared.frame.Callee.{Callee}
 use Rattle.avs_frames.specs.declared.frame.Callee.TheVariants as k

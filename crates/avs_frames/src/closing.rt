@@ -2,8 +2,8 @@
 ghost use Rattle.std.specs.Prelude.{◌≡◌, ◌∷◌, ◌++◌, [], None, map, IfOk};
 ghost use Rattle.avs_tree.specs.Lexeme.{precedence_of};
 ghost use Rattle.avs_tree.specs.View.{expr_view, arg_view, step_view};
-ghost use Rattle.avs_place.specs.Next.{operator_at};
-ghost use Rattle.avs_place.specs.ExprMachine as machine;
+ghost use Rattle.avs_tree.specs.Next.{operator_at};
+ghost use Rattle.avs_tree.specs.ExprMachine as machine;
 ghost use Rattle.avs_frames.specs.ExprViews.{Closes, callee_view, frame_view, expr_state_view, closing_view};
 ghost use Rattle.avs_frames.specs.Seen.{seen};
 
@@ -149,7 +149,7 @@ fn last_argument(
 }
 
 // After the value of an argument.
-#[tactic(auto, unfolding(avs_place::specs::ExprMachine::closing_argument))]
+#[tactic(auto, unfolding(avs_tree::specs::ExprMachine::closing_argument))]
 fn close_argument(
     callee: Callee,
     found: Vec<Arg>,

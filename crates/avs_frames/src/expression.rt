@@ -1,7 +1,7 @@
 // What a token does to an expression.
 ghost use Rattle.std.specs.Prelude.{◌≡◌, ◌∷◌, Some, map, IfOk};
 ghost use Rattle.avs_tree.specs.View.{expr_view, method_call_view};
-ghost use Rattle.avs_place.specs.ExprMachine as machine;
+ghost use Rattle.avs_tree.specs.ExprMachine as machine;
 ghost use Rattle.avs_frames.specs.ExprViews.{Makes, callee_view, frame_view, frames_view, expr_state_view};
 ghost use Rattle.avs_frames.specs.Seen.{seen};
 ghost use Rattle.avs_frames.specs.declared.frame.ExprState.TheVariants.{DotRead, MethodRead};
@@ -48,7 +48,7 @@ fn named(turn: Turn<'_>) -> Outcome<Named>
 }
 
 /// The first token of an operand.
-#[tactic(auto, unfolding(avs_place::specs::ExprMachine::operand))]
+#[tactic(auto, unfolding(avs_tree::specs::ExprMachine::operand))]
 pub fn operand(frames: Vec<Frame>, turn: Turn<'_>) -> Outcome<ExprStep>
     ensures { Makes result (machine.operand (frames_view frames.items) (seen turn.entry)) }
 {
@@ -84,7 +84,7 @@ fn operator(alloc: Global, first: Box<Expr>, op: Operator, line: u32) -> Frame
 }
 
 // The token that continues an expression.
-#[tactic(auto, unfolding(avs_place::specs::ExprMachine::grow))]
+#[tactic(auto, unfolding(avs_tree::specs::ExprMachine::grow))]
 fn grow(first: Box<Expr>, frames: Vec<Frame>, turn: Turn<'_>) -> Outcome<ExprStep>
     ensures { Makes result (machine.grow (expr_view first.value) (frames_view frames.items) (seen turn.entry)) }
 {

@@ -1,7 +1,7 @@
 //! Expressions of scripts, read one token a turn.
 //!
 //! An `ExprState` is what was read last of an expression, and each `Frame` is something that is open in it. `expr_step` does
-//! to them what the machine of `avs_place` does (`ExprMachine`); `specs/ExprViews.antt` says which states of that machine they
+//! to them what the machine of `avs_tree` does (`ExprMachine`); `specs/ExprViews.antt` says which states of that machine they
 //! mean. `frames_level` and `ExprState::level` tell how many levels of nesting are open.
 #![tactic(auto)]
 

@@ -1,6 +1,6 @@
 // How many levels of nesting are open in an expression.
 ghost use Rattle.std.specs.Prelude.{◌≡◌, ◌<◌, ◌≤◌, ◌^◌};
-ghost use Rattle.avs_place.specs.Nesting.{frames_level, expr_level};
+ghost use Rattle.avs_tree.specs.Nesting.{frames_level, expr_level};
 ghost use Rattle.avs_frames.specs.ExprViews.{frames_view, expr_state_view};
 
 use crate::frame::{ExprState, Frame};

@@ -2,8 +2,8 @@
 ghost use Rattle.std.specs.Prelude.{◌≡◌, Some, IfOk};
 ghost use Rattle.avs_lex.specs.TokenList.{IsTokenOf};
 ghost use Rattle.avs_tree.specs.Lexeme.{lexeme_of};
-ghost use Rattle.avs_place.specs.Next as next;
-ghost use Rattle.avs_place.specs.ExprMachine as machine;
+ghost use Rattle.avs_tree.specs.Next as next;
+ghost use Rattle.avs_tree.specs.ExprMachine as machine;
 ghost use Rattle.avs_frames.specs.Seen.{lexeme_view, seen};
 
 use crate::memory::Outcome;
@@ -44,7 +44,7 @@ impl<'a> Turn<'a> {
     }
 
     /// Whether the token is this punctuation.
-    #[tactic(auto, unfolding(avs_place::specs::Next::is_punctuation))]
+    #[tactic(auto, unfolding(avs_tree::specs::Next::is_punctuation))]
     pub fn is(self, punctuation: Punctuation) -> bool
         ensures { result ≡ next.is_punctuation punctuation (seen self.entry) }
     {
@@ -55,7 +55,7 @@ impl<'a> Turn<'a> {
     }
 
     /// The operator that the token is, if it has this precedence.
-    #[tactic(auto, unfolding(avs_place::specs::Next::operator_at))]
+    #[tactic(auto, unfolding(avs_tree::specs::Next::operator_at))]
     pub fn operator(self, precedence: u8) -> Option<Operator>
         ensures { result ≡ next.operator_at precedence (seen self.entry) }
     {
@@ -67,7 +67,7 @@ impl<'a> Turn<'a> {
 
     // The least precedence at which the token continues an expression: 9 where it ends any, and 0 where it cannot
     // follow one.
-    #[tactic(auto, unfolding(avs_place::specs::ExprMachine::reach))]
+    #[tactic(auto, unfolding(avs_tree::specs::ExprMachine::reach))]
     fn reach(self) -> u8
         ensures { result ≡ machine.reach (Some self.entry.symbol) }
     {
@@ -81,7 +81,7 @@ impl<'a> Turn<'a> {
     }
 
     /// Whether the token continues an expression of this precedence, where one of precedence `highest` may stand.
-    #[tactic(auto, unfolding(avs_place::specs::ExprMachine::continues))]
+    #[tactic(auto, unfolding(avs_tree::specs::ExprMachine::continues))]
     pub fn continues(self, precedence: u8, highest: u8) -> bool
         ensures { result ≡ machine.continues precedence highest (seen self.entry) }
     {

@@ -6,8 +6,8 @@ use Rattle.avs_values.specs.Values.{Text}
 use Rattle.avs_meaning.specs.declared.fault.InputFault.{InputFault}
 use Rattle.avs_meaning.specs.declared.fault.ScriptKind.{ScriptKind}
 use Rattle.avs_meaning.specs.declared.fault.ScriptKind.TheVariants as k
-use Rattle.avs_meaning.specs.declared.stop.ScriptStop.{ScriptStop}
-use Rattle.avs_meaning.specs.declared.stop.ScriptStop.TheVariants as s
+use Rattle.avs_meaning.specs.declared.stop.EvalError.{EvalError}
+use Rattle.avs_meaning.specs.declared.stop.EvalError.TheVariants as s
 
 pub data Fault : Type 0 where
   -- a fault at a line of the text of this name
@@ -26,7 +26,7 @@ kind_of v.TextLimit = k.TextLimit
 kind_of (v.AssertFailed message) = k.AssertFailed message
 
 -- what a stop shows: this fault, or that memory ran out
-abbrev pub Shows : Fault → ScriptStop → Type 0
+abbrev pub Shows : Fault → EvalError → Type 0
 Shows fault (s.Fault kind name line) = fault ≡ script kind name line
 Shows fault (s.Input name why) = fault ≡ input name why
 Shows fault s.Read = ⊥

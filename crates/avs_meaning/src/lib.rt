@@ -18,6 +18,6 @@ pub use builtin::{Builtin, ClipFn};
 pub use crew::Crew;
 pub use fault::{FileKind, InputFault, ScriptKind};
 pub use state::{SourceClip, Variable};
-pub use stop::ScriptStop;
+pub use stop::EvalError;
 pub use table::{Row, Table};
 pub use takes::signatures;

@@ -7,7 +7,7 @@ use std::alloc::{AllocError, AllocFailed};
 
 /// Why there is no value.
 #[derive(Drop, Debug)]
-pub enum ScriptStop {
+pub enum EvalError {
     /// A fault at a line of the text of this name.
     Fault {
         kind: ScriptKind,
@@ -25,22 +25,22 @@ pub enum ScriptStop {
     Memory,
 }
 
-impl From<AllocError> for ScriptStop {
-    ghost use Rattle.avs_meaning.specs.declared.stop.ScriptStop.TheVariants.{Memory};
+impl From<AllocError> for EvalError {
+    ghost use Rattle.avs_meaning.specs.declared.stop.EvalError.TheVariants.{Memory};
 
     ghost from_gives = { λ _ stop. stop ≡ Memory };
 
-    fn from(_: AllocError) -> ScriptStop {
-        ScriptStop::Memory
+    fn from(_: AllocError) -> EvalError {
+        EvalError::Memory
     }
 }
 
-impl<T: Drop> From<AllocFailed<T>> for ScriptStop {
-    ghost use Rattle.avs_meaning.specs.declared.stop.ScriptStop.TheVariants.{Memory};
+impl<T: Drop> From<AllocFailed<T>> for EvalError {
+    ghost use Rattle.avs_meaning.specs.declared.stop.EvalError.TheVariants.{Memory};
 
     ghost from_gives = { λ _ stop. stop ≡ Memory };
 
-    fn from(_: AllocFailed<T>) -> ScriptStop {
-        ScriptStop::Memory
+    fn from(_: AllocFailed<T>) -> EvalError {
+        EvalError::Memory
     }
 }

@@ -2,7 +2,7 @@
 use Rattle.std.proofs.Common.{◌≡◌, refl, ℕ, ◌+◌, ◌<◌, ◌≤◌, arith, List, [], ◌∷◌, ◌++◌, length, Option, Some, None}
 use Rattle.avs_tree.specs.Tree as t
 use Rattle.avs_tree.specs.View.{StatementIs}
-use Rattle.avs_place.specs.Machine as m
+use Rattle.avs_tree.specs.Machine as m
 use Rattle.avs_parse.specs.ScriptViews.{level_view, inside, within, outermost_view}
 use Rattle.avs_parse.specs.declared.state.Level.{Level}
 use Rattle.avs_parse.specs.declared.state.OpenFunction.{OpenFunction}

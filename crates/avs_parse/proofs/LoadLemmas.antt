@@ -9,8 +9,8 @@ use Rattle.avs_tree.specs.Lexeme.{Lexemes, lexemes}
 use Rattle.avs_tree.specs.Tree.{Script}
 use Rattle.avs_tree.specs.Script.{HasTree}
 use Rattle.avs_tree.specs.Loaded.{Loaded, NoTree, lexical, syntax, nests}
-use Rattle.avs_place.specs.Place.{Verdict, accepts, stops, too_deep, verdict, StopsAt, DeepAt, Answers}
-use Rattle.avs_place.proofs.CallerLemmas.{exact, accepted}
+use Rattle.avs_tree.specs.Place.{Verdict, accepts, stops, too_deep, verdict, StopsAt, DeepAt, Answers}
+use Rattle.avs_tree.proofs.CallerLemmas.{exact, accepted}
 use Rattle.avs_parse.specs.TokensOf.{Reading, tokens_of}
 use Rattle.avs_parse.specs.Load.{last_line, line_at, tree_by, script_by, script_of}
 use Rattle.avs_parse.specs.Laws.{HasScript, HasPlace, ScriptIsFound, FirstFaultIsTold, SyntaxIsTold, NestingIsTold}

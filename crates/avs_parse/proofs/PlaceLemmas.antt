@@ -11,8 +11,8 @@ use Rattle.avs_tree.specs.Tree.{Script}
 use Rattle.avs_tree.specs.Script.{IsScript, HasTree}
 use Rattle.avs_tree.specs.declared.symbol.Symbol.TheVariants as s
 use Rattle.avs_tree.specs.declared.symbol.Punctuation.TheVariants as m
-use Rattle.avs_place.specs.Place.{Verdict, accepts, stops, too_deep, verdict, StopsAt, DeepAt, Answers}
-use Rattle.avs_place.proofs.CallerLemmas.{exact, one_stop, one_deep, never_both, end_is_told}
+use Rattle.avs_tree.specs.Place.{Verdict, accepts, stops, too_deep, verdict, StopsAt, DeepAt, Answers}
+use Rattle.avs_tree.proofs.CallerLemmas.{exact, one_stop, one_deep, never_both, end_is_told}
 
 -- ---- what a verdict says
 

@@ -8,10 +8,10 @@ use Rattle.avs_lex.specs.declared.token.Token.{Token}
 use Rattle.avs_tree.specs.Lexeme.{Lexeme, Lexemes, lexeme_of, lexemes}
 use Rattle.avs_tree.specs.Tree.{Script}
 use Rattle.avs_tree.specs.Script.{nesting_limit}
-use Rattle.avs_place.specs.Nesting.{level_of}
-use Rattle.avs_place.specs.Machine.{State, Step, stuck, goes, whole, advance}
-use Rattle.avs_place.specs.Place.{Verdict, stops, too_deep, alone, go_on, run}
-use Rattle.avs_place.proofs.CallerLemmas.{same_advance}
+use Rattle.avs_tree.specs.Nesting.{level_of}
+use Rattle.avs_tree.specs.Machine.{State, Step, stuck, goes, whole, advance}
+use Rattle.avs_tree.specs.Place.{Verdict, stops, too_deep, alone, go_on, run}
+use Rattle.avs_tree.proofs.CallerLemmas.{same_advance}
 
 module _ (state : State) (t : Lexeme) (ts : Lexemes) where
   turn : (x : Step) → advance state (t ∷ []) ≡ x → run state (t ∷ ts) ≡ go_on x ts (λ next. run next ts)

@@ -7,7 +7,7 @@ use Rattle.avs_lex.specs.Tokens.{Tokens, LexFault}
 use Rattle.avs_tree.specs.Lexeme.{Lexemes, lexemes, line_of}
 use Rattle.avs_tree.specs.Loaded.{Loaded, lexical, syntax, nests}
 use Rattle.avs_tree.specs.Script.{HasTree}
-use Rattle.avs_place.specs.Place.{StopsAt, DeepAt}
+use Rattle.avs_tree.specs.Place.{StopsAt, DeepAt}
 use Rattle.avs_parse.specs.TokensOf.{tokens_of}
 use Rattle.avs_parse.specs.Load.{last_line, script_of}
 

@@ -5,7 +5,7 @@ use Rattle.avs_lex.specs.Characters.{Text}
 use Rattle.avs_tree.specs.Lexeme as x
 use Rattle.avs_tree.specs.Lexeme.{Lexemes, lexemes}
 use Rattle.avs_tree.specs.Loaded.{Loaded, NoTree, lexical, syntax, nests}
-use Rattle.avs_place.specs.Place.{Verdict, accepts, stops, too_deep, verdict}
+use Rattle.avs_tree.specs.Place.{Verdict, accepts, stops, too_deep, verdict}
 use Rattle.avs_parse.specs.TokensOf.{Reading, tokens_of}
 
 abbrev pub line_of : Option Token → ℕ

@@ -2,7 +2,7 @@
 use Rattle.std.specs.Prelude.{◌≡◌, ℕ, List, [], ◌∷◌, map, Option, Some, None, option_map, Result, IfOk}
 use Rattle.avs_tree.specs.Tree as t
 use Rattle.avs_tree.specs.View.{StatementIs, expr_view, arm_view, statement_view, function_view, script_view, arms_of, else_of, block_view}
-use Rattle.avs_place.specs.Machine as m
+use Rattle.avs_tree.specs.Machine as m
 use Rattle.avs_frames.specs.ExprViews.{frames_view, expr_state_view}
 use Rattle.avs_frames.specs.declared.memory.OutOfMemory.{OutOfMemory}
 use Rattle.avs_parse.specs.declared.state.Use.{Use}

@@ -1,6 +1,6 @@
 -- What the code's verdict means.
 use Rattle.avs_tree.specs.View.{script_view}
-use Rattle.avs_place.specs.Place as p
+use Rattle.avs_tree.specs.Place as p
 use Rattle.avs_parse.specs.declared.machine.Verdict.{Verdict}
 use Rattle.avs_parse.specs.declared.machine.Verdict.TheVariants as v
 

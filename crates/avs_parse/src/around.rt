@@ -1,7 +1,7 @@
 // What stands around a statement or a function, and how braces change it.
 ghost use Rattle.std.specs.Prelude.{◌≡◌, ◌∷◌, ◌++◌, [], map, option_map, IfOk};
 ghost use Rattle.avs_tree.specs.View.{expr_view, function_view, kind_view, statement_view};
-ghost use Rattle.avs_place.specs.Machine as machine;
+ghost use Rattle.avs_tree.specs.Machine as machine;
 ghost use Rattle.avs_parse.specs.ScriptViews.{Steps, ended_view, inner, outer, level_view, levels_view, owner_view, step_view};
 
 use crate::block::{close_level, close_outermost, goes, refused};

@@ -1,7 +1,7 @@
 // The ends of statements, of blocks and of the script.
 ghost use Rattle.std.specs.Prelude.{◌≡◌, ◌∷◌, ◌++◌, [], Some, map, IfOk};
 ghost use Rattle.avs_tree.specs.View.{expr_view, arm_view, function_view, statement_view, block_view};
-ghost use Rattle.avs_place.specs.Machine as machine;
+ghost use Rattle.avs_tree.specs.Machine as machine;
 ghost use Rattle.avs_parse.specs.ScriptViews.{Steps, ended_view, inner, levels_view, owner_view, outermost_view, statement_state_view, step_view};
 
 use crate::around::{Around, Levels};

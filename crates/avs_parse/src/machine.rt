@@ -3,8 +3,8 @@ ghost use Rattle.std.specs.Prelude.{◌≡◌, All, IfOk};
 ghost use Rattle.avs_lex.specs.TokenList.{IsTokenOf};
 ghost use Rattle.avs_tree.specs.Lexeme.{lexemes};
 ghost use Rattle.avs_tree.specs.View.{script_view};
-ghost use Rattle.avs_place.specs.Machine as machine;
-ghost use Rattle.avs_place.specs.Place.{verdict, alone};
+ghost use Rattle.avs_tree.specs.Machine as machine;
+ghost use Rattle.avs_tree.specs.Place.{verdict, alone};
 ghost use Rattle.avs_parse.specs.ScriptViews.{Steps, state_view};
 ghost use Rattle.avs_parse.specs.VerdictView.{verdict_view};
 ghost use Rattle.avs_frames.specs.Seen.{seen};
@@ -67,7 +67,7 @@ fn alone(script: Script, text: &str, after: &[Token]) -> Verdict
 }
 
 /// The verdict on tokens.
-#[tactic(auto, unfolding(avs_place::specs::Place::verdict))]
+#[tactic(auto, unfolding(avs_tree::specs::Place::verdict))]
 pub fn run(alloc: Global, text: &str, tokens: &[Token]) -> Outcome<Verdict>
     requires { All (IsTokenOf text.now) tokens.now }
     ensures { IfOk result (λ made. verdict_view made ≡ verdict (lexemes text.now tokens.now)) }

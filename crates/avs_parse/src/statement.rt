@@ -2,9 +2,9 @@
 ghost use Rattle.std.specs.Prelude.{◌≡◌, ◌∷◌, ◌++◌, [], Some, map, if◌then◌else◌};
 ghost use Rattle.avs_tree.specs.View.{expr_view, arm_view, statement_view};
 ghost use Rattle.avs_tree.specs.declared.symbol.Punctuation.TheVariants.{RightParen};
-ghost use Rattle.avs_place.specs.Next.{is_punctuation};
-ghost use Rattle.avs_place.specs.ExprMachine as expr;
-ghost use Rattle.avs_place.specs.Machine as machine;
+ghost use Rattle.avs_tree.specs.Next.{is_punctuation};
+ghost use Rattle.avs_tree.specs.ExprMachine as expr;
+ghost use Rattle.avs_tree.specs.Machine as machine;
 ghost use Rattle.avs_frames.specs.ExprViews.{expr_state_view, frames_view};
 ghost use Rattle.avs_parse.specs.ScriptViews.{Steps, ended_view, inner, levels_view, owner_view, statement_state_view, step_view, use_view};
 ghost use Rattle.avs_frames.specs.Seen.{seen};

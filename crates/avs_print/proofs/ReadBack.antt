@@ -12,7 +12,7 @@ use Rattle.avs_tree.specs.Tree.{Script}
 use Rattle.avs_tree.specs.Grammar.{IsPunctuation}
 use Rattle.avs_tree.specs.Script.{IsScript, HasTree, script_nesting, nesting_limit}
 use Rattle.avs_tree.specs.declared.symbol.Punctuation.TheVariants as m
-use Rattle.avs_place.proofs.CallerLemmas.{one_tree}
+use Rattle.avs_tree.proofs.CallerLemmas.{one_tree}
 use Rattle.avs_lex.proofs.CallerLemmas.{one_reading, written_is_read}
 use Rattle.avs_print.specs.WithoutLines.{script_without_lines}
 use Rattle.avs_print.specs.Printed.{script_words, printed}

@@ -6,7 +6,7 @@ use Rattle.std.proofs.lemmas.List.{length-append}
 use Rattle.avs_meaning.specs.Meaning.{start}
 use Rattle.avs_meaning.specs.State.{State}
 use Rattle.avs_meaning.specs.declared.state.SourceClip.{SourceClip}
-use Rattle.avs_meaning.specs.declared.stop.ScriptStop.{ScriptStop}
+use Rattle.avs_meaning.specs.declared.stop.EvalError.{EvalError}
 use Rattle.avs_state.specs.States.{state_of}
 use Rattle.avs_state.specs.declared.host.Host as host
 use Rattle.avs_state.specs.declared.machine.Machine.{Machine}
@@ -16,7 +16,7 @@ abbrev pub Kept : {H : Type 0} → host.Ghosts H → Machine → H → Machine �
 Kept h old before new now = Keeps h old before None new now
 
 -- a clip that was opened was fetched
-pub one_fetched : {H X : Type 0} (h : host.Ghosts H) (old new : Machine) (before now : H) (clip : SourceClip) (r : Result X ScriptStop) → h.fetched now ≡ h.fetched before + 1
+pub one_fetched : {H X : Type 0} (h : host.Ghosts H) (old new : Machine) (before now : H) (clip : SourceClip) (r : Result X EvalError) → h.fetched now ≡ h.fetched before + 1
     → OnOk r ((state_of new).opened ≡ (state_of old).opened ++ clip ∷ []) → (state_of new).imports ≡ (state_of old).imports → IfNone (stop_in r) (unasked h new now ≡ unasked h old before)
 one_fetched h old new before now clip (Err stop) fetched opened imports = tt
 one_fetched h old new before now clip (Ok x) fetched opened imports =

@@ -1,20 +1,20 @@
 -- What the parts of a run ensure, over any host.
 use Rattle.std.specs.Prelude.{◌≡◌, ℕ, ◌+◌, ℤ, pos, ◌-ℤ◌, ◌≤◌, length, Option, Some, None, IfNone, Result, Ok, Err}
 use Rattle.fv_io.specs.Faults.{HasRisen}
-use Rattle.avs_meaning.specs.declared.stop.ScriptStop.{ScriptStop}
-use Rattle.avs_meaning.specs.declared.stop.ScriptStop.TheVariants as e
+use Rattle.avs_meaning.specs.declared.stop.EvalError.{EvalError}
+use Rattle.avs_meaning.specs.declared.stop.EvalError.TheVariants as e
 use Rattle.avs_state.specs.Sources.{sources_of}
 use Rattle.avs_state.specs.States.{state_of}
 use Rattle.avs_state.specs.declared.host.Host as host
 use Rattle.avs_state.specs.declared.machine.Machine.{Machine}
 
 -- why a part of a run ended early, where it did
-abbrev pub stop_in : {X : Type 0} → Result X ScriptStop → Option ScriptStop
+abbrev pub stop_in : {X : Type 0} → Result X EvalError → Option EvalError
 stop_in (Ok x) = None
 stop_in (Err stop) = Some stop
 
 -- a failed read counts a fault and is answered, and nothing else counts one
-abbrev pub Counts : Option ScriptStop → ℕ → ℕ → Type 0
+abbrev pub Counts : Option EvalError → ℕ → ℕ → Type 0
 Counts (Some e.Read) before now = HasRisen before now
 Counts _ before now = now ≡ before
 
@@ -25,7 +25,7 @@ unasked h machine x = pos (h.fetched x) -ℤ pos (length (state_of machine).open
 -- Unless a part of a run ends early, the clips that were opened stay those that the host gave, and those of the plan's
 -- sources, and each file that the host fetched is a clip that was opened or a script that was imported. The host's counts of
 -- faults and of fetches never fall.
-pub record Keeps {H : Type 0} (h : host.Ghosts H) (old : Machine) (before : H) (ended : Option ScriptStop) (new : Machine)
+pub record Keeps {H : Type 0} (h : host.Ghosts H) (old : Machine) (before : H) (ended : Option EvalError) (new : Machine)
     (now : H) : Type 0 where
   pub given : (state_of old).opened ≡ h.opened before → IfNone ended ((state_of new).opened ≡ h.opened now)
   pub listed : sources_of (state_of old).plan ≡ (state_of old).opened

@@ -3,18 +3,13 @@ ghost use Rattle.avs_meaning.specs.Operators as m;
 ghost use Rattle.avs_state.specs.Answers.{Answers};
 
 use crate::fault::fault_at;
-use avs_meaning::{ScriptKind, ScriptStop};
+use avs_meaning::{EvalError, ScriptKind};
 use avs_values::Value;
 use fv_io::Text;
 use std::alloc::Global;
 
 /// Whether a condition, or an operand of `&&` or `||`, holds.
-pub fn truth(
-    alloc: Global,
-    value: &Value,
-    script_name: &Text,
-    line: u32,
-) -> Result<bool, ScriptStop>
+pub fn truth(alloc: Global, value: &Value, script_name: &Text, line: u32) -> Result<bool, EvalError>
     ensures { Answers (λ holds. holds) (m.truth script_name.now line value.now) result }
 {
     match value {

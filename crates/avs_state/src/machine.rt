@@ -18,7 +18,7 @@ ghost use Rattle.avs_state.specs.States.{state_of, defined_view, AsksNothing};
 
 use crate::variables::{set_in, value_in};
 use crate::{ByName, Definition, fault_at};
-use avs_meaning::{Crew, ScriptKind, ScriptStop, SourceClip, Variable};
+use avs_meaning::{Crew, EvalError, ScriptKind, SourceClip, Variable};
 use avs_tree::Function;
 use avs_values::Value;
 use clip_check::check;
@@ -110,7 +110,7 @@ impl Machine {
 
     /// Pays a unit for a statement or a turn at a line of the text of this name.
     #[tactic(auto, unfolding(crate::specs::States::state_of))]
-    pub fn spend(&mut self, alloc: Global, script_name: &Text, line: u32) -> Result<(), ScriptStop>
+    pub fn spend(&mut self, alloc: Global, script_name: &Text, line: u32) -> Result<(), EvalError>
         ensures gives { Gives (λ u. u) (d.spend script_name.now line (state_of self.old)) result (state_of self.new) }
         ensures asks { AsksNothing self.old self.new }
         ensures sources { OnOk result (sources_of (state_of self.new).plan ≡ sources_of (state_of self.old).plan) }
@@ -167,7 +167,7 @@ impl Machine {
 
     /// Sets a variable of the function that runs.
     #[tactic(auto, unfolding(crate::specs::States::state_of))]
-    pub fn set(&mut self, alloc: Global, name: &Text, value: Value) -> Result<(), ScriptStop>
+    pub fn set(&mut self, alloc: Global, name: &Text, value: Value) -> Result<(), EvalError>
         ensures gives { Gives (λ u. u) (d.set name.now value (state_of self.old)) result (state_of self.new) }
         ensures asks { AsksNothing self.old self.new }
         ensures sources { OnOk result (sources_of (state_of self.new).plan ≡ sources_of (state_of self.old).plan) }
@@ -178,7 +178,7 @@ impl Machine {
 
     /// Sets a global variable.
     #[tactic(auto, unfolding(crate::specs::States::state_of))]
-    pub fn set_global(&mut self, alloc: Global, name: &Text, value: Value) -> Result<(), ScriptStop>
+    pub fn set_global(&mut self, alloc: Global, name: &Text, value: Value) -> Result<(), EvalError>
         ensures gives { Gives (λ u. u) (d.set_global name.now value (state_of self.old)) result (state_of self.new) }
         ensures asks { AsksNothing self.old self.new }
         ensures sources { OnOk result (sources_of (state_of self.new).plan ≡ sources_of (state_of self.old).plan) }
@@ -215,7 +215,7 @@ impl Machine {
         alloc: Global,
         function: Function,
         script_name: &Text,
-    ) -> Result<(), ScriptStop>
+    ) -> Result<(), EvalError>
         ensures gives { Gives (λ u. u) (d.define (function_view function) script_name.now (state_of self.old)) result
             (state_of self.new) }
         ensures asks { AsksNothing self.old self.new }
@@ -240,7 +240,7 @@ impl Machine {
         alloc: Global,
         functions: Vec<Function>,
         script_name: &Text,
-    ) -> Result<(), ScriptStop>
+    ) -> Result<(), EvalError>
         ensures gives { Gives (λ u. u) (d.define_all (map function_view functions.items) script_name.now (state_of
             self.old)) result (state_of self.new) }
         ensures asks { AsksNothing self.old self.new }
@@ -260,7 +260,7 @@ impl Machine {
         i: u32,
         script_name: &Text,
         line: u32,
-    ) -> Result<Info, ScriptStop>
+    ) -> Result<Info, EvalError>
         ensures gives { Gives (λ info. info) (f.info_of script_name.now i line (state_of self.now)) result (state_of
             self.now) }
         ensures lawful { IfOk result IsLawful }
@@ -283,7 +283,7 @@ impl Machine {
         mode: u8,
         script_name: &Text,
         line: u32,
-    ) -> Result<Value, ScriptStop>
+    ) -> Result<Value, EvalError>
         requires places { All (λ i. i < length (state_of self.old).plan) inputs.now }
         requires sound { IsSound (act_of op) (length inputs.now) }
         requires told { check (act_of op) (infos_among (state_of self.old).plan inputs.now) ≡ Ok info }
@@ -309,7 +309,7 @@ impl Machine {
                 script_name,
                 line,
             )),
-            Err(GraphFault::Memory) => Err(ScriptStop::Memory),
+            Err(GraphFault::Memory) => Err(EvalError::Memory),
         }
     }
 
@@ -323,7 +323,7 @@ impl Machine {
         inputs: &[u32],
         script_name: &Text,
         line: u32,
-    ) -> Result<Value, ScriptStop>
+    ) -> Result<Value, EvalError>
         requires sound { IsSound (act_of op) (length inputs.now) }
         requires counted { IsCounted (act_of op) (sources_in (state_of self.old).plan)
             (mode_in (state_of self.old).modes filter) }
@@ -356,7 +356,7 @@ impl Machine {
         force: bool,
         script_name: &Text,
         line: u32,
-    ) -> Result<Value, ScriptStop>
+    ) -> Result<Value, EvalError>
         ensures gives { Gives (λ v. v) (w.set_mode_of script_name.now name.now mode force line (state_of self.old))
             result (state_of self.new) }
         ensures asks { AsksNothing self.old self.new }
@@ -367,7 +367,7 @@ impl Machine {
             Err(ModeFault::ModeRefused) => {
                 Err(fault_at(alloc, ScriptKind::ModeRefused, script_name, line))
             }
-            Err(ModeFault::Memory) => Err(ScriptStop::Memory),
+            Err(ModeFault::Memory) => Err(EvalError::Memory),
         }
     }
 
@@ -400,7 +400,7 @@ impl Machine {
         info: Info,
         script_name: &Text,
         line: u32,
-    ) -> Result<Value, ScriptStop>
+    ) -> Result<Value, EvalError>
         requires lawful { IsLawful info }
         ensures gives { Gives (λ v. v) (f.open_by script_name.now (Ok info) name.now line (state_of self.old)) result
             (state_of self.new) }

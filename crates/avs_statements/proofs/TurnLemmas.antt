@@ -3,7 +3,7 @@ use Rattle.std.proofs.Common.{◌≡◌, ◌∙◌, sym, Ok, ap, ℕ, ℤ, suc, 
 use Rattle.avs_values.specs.Values.{Text}
 use Rattle.avs_meaning.specs.Loops as m
 use Rattle.avs_meaning.specs.State.{State, Outcome, Run, and_then, ◌>>=◌, ◌>>◌, spend}
-use Rattle.avs_meaning.specs.declared.stop.ScriptStop.{ScriptStop}
+use Rattle.avs_meaning.specs.declared.stop.EvalError.{EvalError}
 use Rattle.avs_state.specs.Answers.{Fails}
 use Rattle.avs_state.proofs.Failures.{first_fails}
 
@@ -25,7 +25,7 @@ module _ (here : Text) where
       ap (λ k. m.counts here k x a z by line body s) less
 
   -- where a turn fails, the loop does
-  pub count_fails : (n i : ℕ) (x : Text) (a z by : ℤ) (line : ℕ) (body : Run m.Flow) (s : State) (whole : Outcome m.Flow) (stop : ScriptStop) → i < n
+  pub count_fails : (n i : ℕ) (x : Text) (a z by : ℤ) (line : ℕ) (body : Run m.Flow) (s : State) (whole : Outcome m.Flow) (stop : EvalError) → i < n
       → m.counts here (n - i) x a z by line body s ≡ whole → Fails (Unit {0}) (m.turn here x a z by line body s) stop → Fails (Unit {0}) whole stop
   count_fails n i x a z by line body s whole stop h same failed =
       first_fails whole (m.turn here x a z by line body s) (m.continues (λ k. m.counts here (n - (i + 1)) x k z by line body)) stop

@@ -1,5 +1,5 @@
 // `Evaluator`: what gives the expressions of a text their values.
-use avs_meaning::ScriptStop;
+use avs_meaning::EvalError;
 use avs_state::{Host, Machine};
 use avs_tree::Expr;
 use avs_values::Value;
@@ -29,12 +29,7 @@ pub trait Evaluator<H: Host> {
         ensures { result.now ≡ here self.now };
 
     /// The value of an expression.
-    fn value_of(
-        &self,
-        machine: &mut Machine,
-        host: &mut H,
-        expr: &Expr,
-    ) -> Result<Value, ScriptStop>
+    fn value_of(&self, machine: &mut Machine, host: &mut H, expr: &Expr) -> Result<Value, EvalError>
         requires may { may self.now }
         ensures told { Told H.told (λ v. v) (e.value_of (context self.now) (here self.now) (expr_view expr.now))
             machine.old result machine.new }

@@ -2,7 +2,7 @@
 ghost use Rattle.avs_meaning.specs.Faults.{Shows, script};
 
 use crate::evaluator::Evaluator;
-use avs_meaning::{ScriptKind, ScriptStop};
+use avs_meaning::{EvalError, ScriptKind};
 use avs_state::{Host, fault_at};
 use std::alloc::Global;
 use std::marker::PhantomData;
@@ -18,7 +18,7 @@ pub(crate) struct Executor<'e, H, E> {
 
 impl<'e, H: Host, E: Evaluator<H>> Executor<'e, H, E> {
     /// A fault at a line of the text.
-    pub(crate) fn fault(&self, kind: ScriptKind, line: u32) -> ScriptStop
+    pub(crate) fn fault(&self, kind: ScriptKind, line: u32) -> EvalError
         ensures { Shows (script kind (E.here self.now.evaluator.now) line) result }
     {
         fault_at(self.alloc, kind, self.evaluator.script_name(), line)

@@ -11,7 +11,7 @@ ghost use Rattle.avs_state.specs.Walks.{Keeps, stop_in};
 
 use crate::evaluator::Evaluator;
 use crate::executor::Executor;
-use avs_meaning::{ScriptKind, ScriptStop};
+use avs_meaning::{EvalError, ScriptKind};
 use avs_state::{Host, Machine, fault_at, truth};
 use avs_tree::Expr;
 use avs_values::Value;
@@ -38,7 +38,7 @@ fn number_by(
     value: Option<Value>,
     script_name: &Text,
     line: u32,
-) -> Result<i64, ScriptStop>
+) -> Result<i64, EvalError>
     ensures { Answers (λ n. n) (l.number_by script_name.now value line) result }
 {
     match value {
@@ -54,7 +54,7 @@ fn read_number(
     name: &Text,
     script_name: &Text,
     line: u32,
-) -> Result<i64, ScriptStop>
+) -> Result<i64, EvalError>
     ensures { Gives (λ n. n) (l.read_number script_name.now name.now line (state_of machine.now)) result
         (state_of machine.now) }
 {
@@ -70,7 +70,7 @@ pub(crate) fn advance(
     step: i64,
     script_name: &Text,
     line: u32,
-) -> Result<Option<i64>, ScriptStop>
+) -> Result<Option<i64>, EvalError>
     ensures gives { Gives (λ n. n) (l.advance script_name.now name.now step line (state_of machine.old)) result
         (state_of machine.new) }
     ensures asks { AsksNothing machine.old machine.new }
@@ -92,7 +92,7 @@ fn numbers(
     step: &Value,
     script_name: &Text,
     line: u32,
-) -> Result<(i64, i64, i64), ScriptStop>
+) -> Result<(i64, i64, i64), EvalError>
     ensures { Answers (λ n. n) (l.numbers script_name.now line first.now last.now step.now) result }
 {
     match (first, last, step) {
@@ -114,7 +114,7 @@ impl<'e, H: Host, E: Evaluator<H>> Executor<'e, H, E> {
         host: &mut H,
         e: &Expr,
         line: u32,
-    ) -> Result<bool, ScriptStop>
+    ) -> Result<bool, EvalError>
         requires may { E.may self.now.evaluator.now }
         ensures told { Told H.told (λ b. b)
             (s.condition (E.context self.now.evaluator.now) (E.here self.now.evaluator.now) (expr_view e.now) line)
@@ -131,7 +131,7 @@ impl<'e, H: Host, E: Evaluator<H>> Executor<'e, H, E> {
         machine: &mut Machine,
         host: &mut H,
         step: &Option<Expr>,
-    ) -> Result<Value, ScriptStop>
+    ) -> Result<Value, EvalError>
         requires may { E.may self.now.evaluator.now }
         ensures told { Told H.told (λ x. x) (s.step_of (E.context self.now.evaluator.now) (E.here self.now.evaluator.now)
             (option_map expr_view step.now)) machine.old result machine.new }
@@ -152,7 +152,7 @@ impl<'e, H: Host, E: Evaluator<H>> Executor<'e, H, E> {
         last: &Expr,
         step: &Option<Expr>,
         line: u32,
-    ) -> Result<(i64, i64, i64), ScriptStop>
+    ) -> Result<(i64, i64, i64), EvalError>
         requires may { E.may self.now.evaluator.now }
         ensures told { Told H.told (λ n. n) (s.bounds (E.context self.now.evaluator.now) (E.here self.now.evaluator.now)
             (expr_view first.now) (expr_view last.now) (option_map expr_view step.now) line) machine.old result

@@ -15,7 +15,7 @@ use crate::evaluator::Evaluator;
 use crate::executor::Executor;
 use crate::flow::{Counter, Flow, Turn};
 use crate::loops::{advance, is_past};
-use avs_meaning::{ScriptKind, ScriptStop};
+use avs_meaning::{EvalError, ScriptKind};
 use avs_state::{Host, Machine};
 use avs_tree::{Arm, Expr, Statement, StatementKind};
 use avs_values::Value;
@@ -24,7 +24,7 @@ use std::alloc::{AllocError, Global};
 use std::marker::PhantomData;
 
 // A clip becomes `last`.
-fn sets_last(alloc: Global, machine: &mut Machine, value: Value) -> Result<Flow, ScriptStop>
+fn sets_last(alloc: Global, machine: &mut Machine, value: Value) -> Result<Flow, EvalError>
     ensures gives { Gives flow_view (m.sets_last value (state_of machine.old)) result (state_of machine.new) }
     ensures asks { AsksNothing machine.old machine.new }
     ensures sources { OnOk result (sources_of (state_of machine.new).plan ≡ sources_of (state_of machine.old).plan) }
@@ -38,7 +38,7 @@ fn sets_last(alloc: Global, machine: &mut Machine, value: Value) -> Result<Flow,
 }
 
 // The value of the final statement, or else `last`.
-fn settled(alloc: Global, machine: &Machine, value: Value) -> Result<Value, ScriptStop>
+fn settled(alloc: Global, machine: &Machine, value: Value) -> Result<Value, EvalError>
     ensures { Gives (λ x. x) (m.settled value (state_of machine.now)) result (state_of machine.now) }
 {
     if !value.is_undefined() {
@@ -60,7 +60,7 @@ impl<'e, H: Host, E: Evaluator<H>> Executor<'e, H, E> {
         host: &mut H,
         kind: &StatementKind,
         line: u32,
-    ) -> Result<Flow, ScriptStop>
+    ) -> Result<Flow, EvalError>
         requires may { E.may self.now.evaluator.now }
         ensures told { Told H.told flow_view (m.effect_of (E.context self.now.evaluator.now) (E.here self.now.evaluator.now)
             (kind_view kind.now) line) machine.old result machine.new }
@@ -114,7 +114,7 @@ impl<'e, H: Host, E: Evaluator<H>> Executor<'e, H, E> {
         host: &mut H,
         arms: &[Arm],
         line: u32,
-    ) -> Result<Option<Flow>, ScriptStop>
+    ) -> Result<Option<Flow>, EvalError>
         requires may { E.may self.now.evaluator.now }
         ensures told { Told H.told (option_map flow_view) (m.arms_of (E.context self.now.evaluator.now)
             (E.here self.now.evaluator.now) (arms_of (map arm_view arms.now)) line) machine.old result machine.new }
@@ -139,7 +139,7 @@ impl<'e, H: Host, E: Evaluator<H>> Executor<'e, H, E> {
         body: &[Statement],
         test: &Expr,
         line: u32,
-    ) -> Result<Flow, ScriptStop>
+    ) -> Result<Flow, EvalError>
         requires may { E.may self.now.evaluator.now }
         ensures told { Told H.told flow_view (r.loop_of (E.context self.now.evaluator.now) (E.here self.now.evaluator.now)
             (expr_view test.now) line (block_view body.now)) machine.old result machine.new }
@@ -174,7 +174,7 @@ impl<'e, H: Host, E: Evaluator<H>> Executor<'e, H, E> {
         last: &Expr,
         step: &Option<Expr>,
         line: u32,
-    ) -> Result<Flow, ScriptStop>
+    ) -> Result<Flow, EvalError>
         requires may { E.may self.now.evaluator.now }
         ensures told { Told H.told flow_view (m.effect_of (E.context self.now.evaluator.now) (E.here self.now.evaluator.now)
             (t.for name.now (expr_view first.now) (expr_view last.now) (option_map expr_view step.now) (block_view
@@ -203,7 +203,7 @@ impl<'e, H: Host, E: Evaluator<H>> Executor<'e, H, E> {
         name: &Text,
         first: Counter,
         line: u32,
-    ) -> Result<Flow, ScriptStop>
+    ) -> Result<Flow, EvalError>
         requires may { E.may self.now.evaluator.now }
         ensures told { Told H.told flow_view (r.count_of (E.context self.now.evaluator.now) (E.here self.now.evaluator.now)
             name.now first.at first.last first.step line (block_view body.now)) machine.old result machine.new }
@@ -237,7 +237,7 @@ impl<'e, H: Host, E: Evaluator<H>> Executor<'e, H, E> {
         name: &Text,
         counter: &Counter,
         line: u32,
-    ) -> Result<Turn, ScriptStop>
+    ) -> Result<Turn, EvalError>
         requires may { E.may self.now.evaluator.now }
         ensures told { Told H.told turn_view (r.turn (E.context self.now.evaluator.now) (E.here self.now.evaluator.now) name.now
             counter.now.at counter.now.last counter.now.step line (block_view body.now)) machine.old result machine.new }
@@ -272,7 +272,7 @@ impl<'e, H: Host, E: Evaluator<H>> Executor<'e, H, E> {
         machine: &mut Machine,
         host: &mut H,
         statement: &Statement,
-    ) -> Result<Flow, ScriptStop>
+    ) -> Result<Flow, EvalError>
         requires may { E.may self.now.evaluator.now }
         ensures told { Told H.told flow_view (r.statement (E.context self.now.evaluator.now) (E.here self.now.evaluator.now)
             (statement_view statement.now)) machine.old result machine.new }
@@ -290,7 +290,7 @@ impl<'e, H: Host, E: Evaluator<H>> Executor<'e, H, E> {
         machine: &mut Machine,
         host: &mut H,
         body: &[Statement],
-    ) -> Result<Flow, ScriptStop>
+    ) -> Result<Flow, EvalError>
         requires may { E.may self.now.evaluator.now }
         ensures told { Told H.told flow_view (m.block_of (E.context self.now.evaluator.now) (E.here self.now.evaluator.now)
             (block_view body.now)) machine.old result machine.new }
@@ -312,7 +312,7 @@ impl<'e, H: Host, E: Evaluator<H>> Executor<'e, H, E> {
         machine: &mut Machine,
         host: &mut H,
         body: &[Statement],
-    ) -> Result<Value, ScriptStop>
+    ) -> Result<Value, EvalError>
         requires may { E.may self.now.evaluator.now }
         ensures told { Told H.told (λ x. x) (m.body_of (E.context self.now.evaluator.now) (E.here self.now.evaluator.now)
             (block_view body.now) Value.Undefined) machine.old result machine.new }
@@ -339,7 +339,7 @@ pub fn body_of<H: Host, E: Evaluator<H>>(
     machine: &mut Machine,
     host: &mut H,
     body: &[Statement],
-) -> Result<Value, ScriptStop>
+) -> Result<Value, EvalError>
     requires may { E.may evaluator.now }
     ensures told { Told H.told (λ x. x) (m.body_of (E.context evaluator.now) (E.here evaluator.now) (block_view body.now)
         Value.Undefined) machine.old result machine.new }

@@ -5,3 +5,10 @@ pub mod View
 pub mod Grammar
 pub mod Script
 pub mod Loaded
+pub mod Next
+pub mod ExprMachine
+pub mod Machine
+pub mod Nesting
+pub mod Place
+pub mod Laws
+pub mod Examples

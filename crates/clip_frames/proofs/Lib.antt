@@ -1,4 +1,3 @@
 pub mod CallerLemmas
 pub mod NodeLemmas
 pub mod InputLemmas
-pub mod MakeLemmas

@@ -1,19 +1,13 @@
 -- The frames that a frame is made of.
-use Rattle.std.specs.Prelude.{◌≡◌, ℕ, ◌<◌, List, length, map, slice_index_or}
+use Rattle.std.specs.Prelude.{ℕ, ◌<◌, List, length, slice_index_or}
 use Rattle.std.specs.Result.{IsOkAnd}
 use Rattle.fv_plane.specs.declared.format.Info.{Info}
 use Rattle.fv_plane.specs.declared.key.Key.{Key}
-use Rattle.fv_plane.specs.Picture.{Picture}
 use Rattle.clip_term.specs.declared.op.Origin.{Origin}
 use Rattle.clip_term.specs.Time.{from_input, in_range}
 use Rattle.clip_term.specs.ClipTerm.{Act}
 use Rattle.clip_term.specs.Terms.{AreLawful, IsSound, check}
-use Rattle.clip_graph.specs.Plan.{Application, application_at, infos_among}
-
--- the frames have the shapes of their keys' nodes
-abbrev pub AreOfKeys : List Application → List Key → List Picture → Type 0
-AreOfKeys plan keys frames =
-    map (λ (p : Picture). p.shape) frames ≡ map (λ (k : Key). (application_at plan k.node).info.shape) keys
+use Rattle.clip_graph.specs.Plan.{Application, infos_among}
 
 -- a frame of one of these places
 abbrev pub key_among : List ℕ → Origin → Key

@@ -1,11 +1,8 @@
-//! Which frames a frame of a node is made of, and what the node makes of them.
+//! Which frames a frame of a node is made of.
 //!
-//! `input_at` names the frames one by one, and `make_frame` makes the frame of them. Neither asks for a frame itself,
-//! so a caller may keep frames, and make several at once. The frames of sources are the caller's.
+//! `input_at` names them one by one. It asks for no frame itself, so a caller may keep frames, and make several at once.
 #![tactic(auto)]
 
 mod inputs;
-mod make;
 
 pub use inputs::input_at;
-pub use make::{make_frame, takes_memory};

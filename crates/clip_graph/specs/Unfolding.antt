@@ -37,6 +37,11 @@ abbrev pub key_made : List (List Picture) → List Application → Key → List 
 key_made book plan key pictures =
     make book (application_at plan key.node).act (infos_at plan key.node) (application_at plan key.node).info key.n pictures
 
+-- the frames have the shapes of their keys' places
+abbrev pub AreOfKeys : List Application → List Key → List Picture → Type 0
+AreOfKeys plan keys frames =
+    map (λ (p : Picture). p.shape) frames ≡ map (λ (k : Key). (application_at plan k.node).info.shape) keys
+
 -- a place stands for a sound term, whose info the plan holds
 pub record IsTermAt (plan : List Application) (i : ℕ) : Type 0 where
   pub sound : IsSoundTerm (term_at plan i)

@@ -22,3 +22,4 @@ pub mod AskedLemmas
 pub mod SoundLemmas
 pub mod BoundedLemmas
 pub mod ListedLemmas
+pub mod MatrixLemmas

@@ -9,6 +9,7 @@ mod fault;
 mod field;
 mod filter;
 pub mod laws;
+mod matrix;
 mod numbers;
 mod op;
 mod run;
@@ -21,6 +22,7 @@ pub use arguments::{
 pub use fault::FilterFault;
 pub use field::FieldOp;
 pub use filter::Filter;
+pub use matrix::{MatrixFault, read_matrix};
 pub use numbers::Numbers;
 pub use op::{
     Channels, JoinOp, Matrix, Op, Origin, SoftOp, SourcePart, SpaceOp, TimeOp, TrimBound,

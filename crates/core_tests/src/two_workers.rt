@@ -8,7 +8,6 @@ ghost use Rattle.serve_core.specs.Calls.{made};
 use crate::clips::over_a_source;
 use frame_cache::FrameCache;
 use fv_plane::{Field, Info, Key, Par, PixelType, Shape, Tag};
-use fv_spares::Spares;
 use inst_table::{Held, InstTable};
 use serve_core::{Admitted, Ask, Core, Event};
 use std::alloc::Global;
@@ -43,8 +42,6 @@ impl Held for Untold {
     ghost holds = { λ it. Some it.0 };
 
     ghost ends = { λ it frame want got. ⊥ };
-
-    fn take_memory(&mut self, _spares: &mut Spares) {}
 }
 
 // The instance of a source.

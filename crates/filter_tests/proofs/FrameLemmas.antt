@@ -7,7 +7,7 @@ use Rattle.fv_plane.specs.declared.format.Shape.{Shape}
 use Rattle.fv_plane.specs.declared.key.Key.{Key}
 use Rattle.fv_plane.specs.Picture.{Picture}
 use Rattle.clip_graph.specs.Plan.{Application, application_at}
-use Rattle.clip_frames.specs.Asked.{AreOfKeys}
+use Rattle.clip_graph.specs.Unfolding.{AreOfKeys}
 
 -- one frame more
 pub of_keys_more : (plan : List Application) (keys : List Key) (i : ℕ) (key : Key) (old new : List Picture) (frame : Picture) → Some key ≡ slice_get keys i → new ≡ old ++ frame ∷ []

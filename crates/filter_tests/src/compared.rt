@@ -12,12 +12,13 @@ use crate::clips::{book_of, info_of, picture};
 use crate::plans::add_row;
 use crate::terms::term_of_row;
 use clip_check::info;
-use clip_frames::{input_at, make_frame};
+use clip_frames::input_at;
 use clip_graph::Graph;
 use clip_reference::{Book, reference_frame};
 use clip_term::{Op, Term};
 use flt_soft::Scratch;
 use fv_plane::{Frame, FrameMemory, Info, Key, PixelType, Shape};
+use serve_worker::make_frame;
 use std::alloc::{AllocError, Global};
 use std::process::Abort;
 use std::test::Fail;
@@ -78,7 +79,7 @@ fn frame_of(
         i += 1;
     }
     let memory = memory_for(rt, alloc, node.info.shape, more)?;
-    make_frame(alloc, memory, graph, key, &frames, scratch)
+    make_frame(alloc, memory, graph, key, &frames, Some(scratch))
 }
 
 // Whether two frames are equal, row by row.

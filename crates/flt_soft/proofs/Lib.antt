@@ -1,4 +1,3 @@
 pub mod CallerLemmas
-pub mod MatrixLemmas
 pub mod PictureLemmas
 pub mod SoftenLemmas

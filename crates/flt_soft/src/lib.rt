@@ -7,13 +7,12 @@
 mod convolve;
 mod convolve_wide;
 mod make;
-mod matrix;
 mod rows;
 mod scratch;
 mod soften;
 mod soften_wide;
 
 pub use clip_check::check_soft;
+pub use clip_term::{MatrixFault, read_matrix};
 pub use make::{make_soft, takes_memory};
-pub use matrix::{MatrixFault, read_matrix};
 pub use scratch::Scratch;

@@ -7,3 +7,4 @@
 mod cache;
 
 pub use cache::FrameCache;
+pub use fv_plane::Key;

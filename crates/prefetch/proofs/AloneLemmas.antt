@@ -11,27 +11,27 @@ use Rattle.fv_plane.specs.Picture.{Picture}
 use Rattle.clip_graph.specs.Plan.{Application, IsPlan}
 use Rattle.clip_graph.specs.Unfolding.{input_keys}
 use Rattle.turn_lock.proofs.EntryLemmas.{entries_of-own, entries_of-other}
-use Rattle.serve_events.specs.declared.event.Event.{Event}
-use Rattle.serve_events.specs.declared.event.Event.TheVariants.{Hit, Claim, Enter, Leave, Evict, Publish, Abandon, Take, Deliver, Fail}
-use Rattle.serve_events.specs.declared.event.WindowStop.{WindowStop}
-use Rattle.serve_events.specs.Events.{worker_of}
-use Rattle.serve_events.specs.Keys.{mode_at, instance_of, frame_key}
-use Rattle.serve_events.specs.Own.{own_events, names_source}
-use Rattle.serve_events.specs.SerialRun.{eviction, leases}
-use Rattle.serve_events.specs.Work.{Production, Productions, hit, made, done, more, Deliveries, none, also}
-use Rattle.serve_events.specs.Work.{CutShort, refused, inside, entered, unpublished, CutInputs, between, within, CutDeliveries, untaken, taken, FailedWork, failed}
-use Rattle.serve_events.proofs.SerialLemmas.{serial_is_whole}
+use Rattle.serve_machine.specs.declared.event.Event.{Event}
+use Rattle.serve_machine.specs.declared.event.Event.TheVariants.{Hit, Claim, Enter, Leave, Evict, Publish, Abandon, Take, Deliver, Fail}
+use Rattle.serve_machine.specs.declared.event.WindowStop.{WindowStop}
+use Rattle.serve_machine.specs.Events.{worker_of}
+use Rattle.serve_machine.specs.Keys.{mode_at, instance_of, frame_key}
+use Rattle.serve_machine.specs.Own.{own_events, names_source}
+use Rattle.serve_machine.specs.SerialRun.{eviction, leases}
+use Rattle.serve_machine.specs.Work.{Production, Productions, hit, made, done, more, Deliveries, none, also}
+use Rattle.serve_machine.specs.Work.{CutShort, refused, inside, entered, unpublished, CutInputs, between, within, CutDeliveries, untaken, taken, FailedWork, failed}
+use Rattle.serve_machine.proofs.SerialLemmas.{serial_is_whole}
 use Rattle.serve_core.specs.Calls.{begun, ended}
 use Rattle.serve_core.specs.CoreValue.{CoreValue, Fixed}
 use Rattle.serve_core.specs.Runs.{IsRun}
 use Rattle.serve_shared.proofs.CallerLemmas.{entries_own}
 use Rattle.inst_table.specs.declared.place.Place.{Place}
 use Rattle.serve_core.specs.Runs.{keys_alone}
-use Rattle.serve_shared.specs.Shares.{IsWork}
+use Rattle.serve_machine.specs.Worked.{IsWork}
 use Rattle.prefetch.specs.Crew.{IsCrewWindow, IsCutCrew}
-use Rattle.prefetch.specs.CrewJournal.{IsCutWindow}
+use Rattle.serve_machine.specs.CrewJournal.{IsCutWindow}
 use Rattle.prefetch.specs.SerialWindows.{window_of}
-use Rattle.prefetch.proofs.CrewLemmas.{run_state, run_ran, whole_of_run, crew_window}
+use Rattle.prefetch.proofs.CrewLemmas.{run_check, run_ran, whole_of_run, crew_window}
 use Rattle.prefetch.proofs.WorkLemmas.{stopped_by}
 
 -- THE EVENTS OF WHOLE WORK
@@ -161,7 +161,7 @@ module _ {I : Type 0} (c c2 d : CoreValue I) (first count : ℕ) (plan : IsPlan 
   alone_cut events journal why cut stopped named =
       let there : IsCutWindow c2.fixed.plan c2.fixed.root c2.fixed.capacity c2.fixed.workers (keys_of c2.table) why (keys_alone c2.fixed.opening) (record { first = c2.fixed.first; count = c2.fixed.count; events = c2.journal })
       = record {
-        state = run_state c2 run;
+        state = run_check c2 run;
         runs = run_ran c2 run;
         stopped = stopped;
         named = subst (λ (z : Fixed). names_source z.plan why ≡ true) (sym fixed) named;

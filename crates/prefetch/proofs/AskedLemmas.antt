@@ -1,10 +1,9 @@
 -- A window of one output, for callers.
-use Rattle.std.proofs.Common.{◌≡◌, ℕ, List, [], ◌∷◌, ◌++◌, Option, ap, ◌∙◌}
+use Rattle.std.proofs.Common.{◌≡◌, ℕ, List, [], ◌∷◌, ◌++◌, ap, ◌∙◌}
 use Rattle.std.specs.Map.{keys_of}
-use Rattle.fv_plane.specs.declared.format.Info.{Info}
-use Rattle.fv_plane.specs.Picture.{Picture}
-use Rattle.serve_events.specs.declared.event.Event.{Event}
-use Rattle.serve_events.specs.Windows.{WindowEvents}
+use Rattle.inst_table.specs.declared.held.Held.{Ghosts as HeldGhosts}
+use Rattle.serve_machine.specs.declared.event.Event.{Event}
+use Rattle.serve_machine.specs.Windows.{WindowEvents}
 use Rattle.serve_core.specs.declared.answers.Finished.{Finished}
 use Rattle.serve_core.specs.CoreValue.{CoreValue}
 use Rattle.prefetch.specs.Asked.{window_asked, keys_left}
@@ -12,8 +11,8 @@ use Rattle.prefetch.specs.OneWindow.{AddsWindow}
 use Rattle.prefetch.specs.SerialWindows.{IsSerialWindow, IsCutSerial}
 
 -- the journal has the window of the output, and what is cached is what the serial run leaves
-pub asked_one : {I : Type 0} (holds : I → Option Info) (feed : I → Option (List Picture)) (faults : I → ℕ) (ends : I → ℕ → ℕ → ℕ → Type 0) (c d : CoreValue I) (n : ℕ) (log longer : List WindowEvents) (finished : Finished)
-    → AddsWindow holds feed faults ends c (IsSerialWindow c n 1) (IsCutSerial c) n 1 log longer d finished
+pub asked_one : {I : Type 0} (of : HeldGhosts I) (c d : CoreValue I) (n : ℕ) (log longer : List WindowEvents) (finished : Finished)
+    → AddsWindow of c (IsSerialWindow c n 1) (IsCutSerial c) n 1 log longer d finished
     → (longer ≡ log ++ window_asked c.fixed.plan c.fixed.root c.fixed.capacity (keys_of c.cache) n ∷ []) × (keys_of d.cache ≡ keys_left c.fixed.plan c.fixed.root c.fixed.capacity (keys_of c.cache) n)
-asked_one holds feed faults ends c d n log longer finished adds =
+asked_one of c d n log longer finished adds =
     (adds.log_is ∙ ap (λ (es : List Event). log ++ record { first = n; count = 1; events = es } ∷ []) adds.whole.events_are, adds.whole.keys_are)

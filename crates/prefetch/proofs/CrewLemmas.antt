@@ -6,22 +6,22 @@ use Rattle.std.proofs.lemmas.List.Elements.{All-contains}
 use Rattle.std.proofs.lemmas.Option.{slice_get-map}
 use mathlib.Core.Logic.{dite}
 use native.Mathlib.Decide.{ℕ_discrete, dec_le}
-use Rattle.fv_plane.specs.declared.format.Info.{Info}
 use Rattle.fv_plane.specs.declared.key.Key.{Key}
 use Rattle.fv_plane.specs.Picture.{Picture}
 use Rattle.clip_graph.specs.Plan.{Application, IsPlan}
+use Rattle.inst_table.specs.declared.held.Held.{Ghosts as HeldGhosts}
 use Rattle.inst_table.specs.declared.place.Place.{Place}
 use Rattle.inst_table.specs.Places.{PlacesDiffer}
 use Rattle.turn_lock.specs.declared.view.Ended.{Ended}
 use Rattle.turn_lock.specs.Entries.{IsPrefix, entries_of}
 use Rattle.turn_lock.specs.SeatView.{TableId, first_seat, HasEnded, HasAllNumbers}
-use Rattle.serve_events.specs.declared.event.Event.{Event}
-use Rattle.serve_events.specs.declared.event.Event.TheVariants.{Fail}
-use Rattle.serve_events.specs.declared.event.WindowStop.{WindowStop}
-use Rattle.serve_events.specs.declared.event.WindowStop.TheVariants.{Read, Changed, Memory}
-use Rattle.serve_events.specs.Events.{worker_of}
-use Rattle.serve_events.specs.Own.{own_events}
-use Rattle.serve_events.specs.Work.{Deliveries, none, untaken, failed}
+use Rattle.serve_machine.specs.declared.event.Event.{Event}
+use Rattle.serve_machine.specs.declared.event.Event.TheVariants.{Fail}
+use Rattle.serve_machine.specs.declared.event.WindowStop.{WindowStop}
+use Rattle.serve_machine.specs.declared.event.WindowStop.TheVariants.{Read, Changed, Memory}
+use Rattle.serve_machine.specs.Events.{worker_of}
+use Rattle.serve_machine.specs.Own.{own_events}
+use Rattle.serve_machine.specs.Work.{Deliveries, none, untaken, failed}
 use Rattle.serve_machine.specs.Lifted.{bare, keys_machine}
 use Rattle.serve_machine.specs.Machine.{replay}
 use Rattle.serve_machine.specs.Renders.{after_window}
@@ -42,11 +42,11 @@ use Rattle.serve_core.proofs.Standing.{calls_stand}
 use Rattle.serve_core.proofs.StepLemmas.{keys_again}
 use Rattle.serve_core.proofs.SteadyLemmas.{turns_are_steady}
 use Rattle.serve_shared.specs.Seats.{CoreSeat, HasWorker}
-use Rattle.serve_shared.specs.Shares.{DeliversAll, IsWork}
-use Rattle.serve_worker.specs.Alone.{AllFree, held_in, counts_in}
-use Rattle.serve_worker.proofs.Tables.{all_free}
+use Rattle.serve_machine.specs.Worked.{DeliversAll, IsWork}
+use Rattle.serve_core.specs.Tables.{AllFree, held_in, counts_in}
+use Rattle.serve_core.proofs.Tables.{all_free}
 use Rattle.prefetch.specs.Crew.{HasWorked, MayGather, IsGathered, IsNew, WorkIsDone, IsCrewWindow, IsCutCrew}
-use Rattle.prefetch.specs.CrewJournal.{crew_machine, IsWholeWindow, IsCutWindow}
+use Rattle.serve_machine.specs.CrewJournal.{crew_machine, IsWholeWindow, IsCutWindow}
 use Rattle.prefetch.specs.OneWindow.{WindowEnds}
 use Rattle.prefetch.specs.Windows.{frames_at, Stays}
 use Rattle.serve_shared.proofs.CallerLemmas.{entries_own, work_grows}
@@ -56,30 +56,30 @@ use Rattle.prefetch.proofs.WorkLemmas.{first_or_later, failure_of, read_by, chan
 
 -- WITHOUT A WORKER
 
-module _ {I : Type 0} (feed : I → Option (List Picture)) (faults : I → ℕ) (ends : I → ℕ → ℕ → ℕ → Type 0) where
-  not_begun : (s : CoreValue I) → IsNew s → WorkIsDone feed faults ends s (failing s 0 Memory)
+module _ {I : Type 0} (of : HeldGhosts I) where
+  not_begun : (s : CoreValue I) → IsNew s → WorkIsDone of s (failing s 0 Memory)
   not_begun s fresh =
       let journal : s.journal ++ Fail 0 Memory ∷ [] ≡ Fail 0 Memory ∷ [] = ap (λ es. es ++ Fail 0 Memory ∷ []) fresh.empty in
       record {
         stands = record {
           fixed = refl;
           places = refl;
-          right = λ book numbers v. (calls_stand feed faults).fail book numbers s 0 Memory v tt;
+          right = λ book numbers v. (calls_stand of.feed of.faults).fail book numbers s 0 Memory v tt;
           ended = λ w why h. none_shown w why (subst (λ es. Contains es (Fail w why)) journal h);
         };
-        steady = let law : TurnsAreSteady faults = turns_are_steady faults in law.fail s s 0 Memory;
+        steady = let law : TurnsAreSteady of.faults = turns_are_steady of.faults in law.fail s s 0 Memory;
         work = λ w less. subst (λ es. IsWork s.fixed.plan s.fixed.root s.fixed.count w es (own_events w es)) (sym journal) (dite (ℕ_discrete 0 w)
             (λ e. subst (λ v. IsWork s.fixed.plan s.fixed.root s.fixed.count v (Fail 0 Memory ∷ []) (own_events v (Fail 0 Memory ∷ []))) e (inr (Memory, inl (failed (untaken none)))))
             (λ ne. rw (ne_eqb 0 w ne) (inl (record { outputs = []; delivered = none; all = λ bad. absurd (cc) }))));
       }
     where
-      none_shown : (w : ℕ) (why : WindowStop) → Contains (Fail 0 Memory ∷ []) (Fail w why) → EndShows ends s.table why
+      none_shown : (w : ℕ) (why : WindowStop) → Contains (Fail 0 Memory ∷ []) (Fail w why) → EndShows of.ends s.table why
       none_shown w why h = ⊎_elim
-          (λ (is : Fail 0 Memory ≡ Fail w why). let same : Memory ≡ why = cc in subst (EndShows ends s.table) same tt)
+          (λ (is : Fail 0 Memory ≡ Fail w why). let same : Memory ≡ why = cc in subst (EndShows of.ends s.table) same tt)
           (λ (rest : Contains [] (Fail w why)). let less = rest.1 in absurd (omega arith)) (first_or_later (Fail 0 Memory) [] (Fail w why) h)
 
-  pub without_workers : (s c : CoreValue I) → IsNew s → c ≡ failing s 0 Memory → WorkIsDone feed faults ends s c
-  without_workers s c fresh is = subst (WorkIsDone feed faults ends s) (sym is) (not_begun s fresh)
+  pub without_workers : (s c : CoreValue I) → IsNew s → c ≡ failing s 0 Memory → WorkIsDone of s c
+  without_workers s c fresh is = subst (WorkIsDone of s) (sym is) (not_begun s fresh)
 
 -- THE SEATS
 
@@ -149,11 +149,11 @@ module _ {I : Type 0} (plan : List Application) (lock : TableId) (limit : ℕ) (
     of_each n = dite (dec_le (suc n) later.number) (λ less. of_worker n less)
         (λ more. dite (ℕ_discrete n later.number) (λ e. of_none n (subst (λ m. entries_of worker_of m list ≡ []) (sym e) (own ∙ gathered.own))) (λ ne. of_none n (none' n (let next = gathered.next in omega arith))))
 
-pub closed_done : {I : Type 0} (feed : I → Option (List Picture)) (faults : I → ℕ) (ends : I → ℕ → ℕ → ℕ → Type 0) (lock : TableId) (limit : ℕ) (s c : CoreValue I) (others : ℕ) (later : CoreSeat I) → IsGathered s.fixed.plan others (first_seat lock limit s) later
+pub closed_done : {I : Type 0} (of : HeldGhosts I) (lock : TableId) (limit : ℕ) (s c : CoreValue I) (others : ℕ) (later : CoreSeat I) → IsGathered s.fixed.plan others (first_seat lock limit s) later
     → All (λ x. IsPrefix x.seen c.journal) later.ended → All (λ x. entries_of worker_of x.number c.journal ≡ x.entries) later.ended → entries_of worker_of later.number c.journal ≡ later.own
-    → ((n : ℕ) → later.next ≤ n → entries_of worker_of n c.journal ≡ []) → IfSome later.tag (λ z. StandsFor feed faults ends c z × IsSteady faults c z) → WorkIsDone feed faults ends s c
-closed_done feed faults ends lock limit s c others later gathered seen same own none' stands =
-    let both : StandsFor feed faults ends c s × IsSteady faults c s = subst (λ tag. IfSome tag (λ z. StandsFor feed faults ends c z × IsSteady faults c z)) gathered.tag stands in record {
+    → ((n : ℕ) → later.next ≤ n → entries_of worker_of n c.journal ≡ []) → IfSome later.tag (λ z. StandsFor of.feed of.faults of.ends c z × IsSteady of.faults c z) → WorkIsDone of s c
+closed_done of lock limit s c others later gathered seen same own none' stands =
+    let both : StandsFor of.feed of.faults of.ends c s × IsSteady of.faults c s = subst (λ tag. IfSome tag (λ z. StandsFor of.feed of.faults of.ends c z × IsSteady of.faults c z)) gathered.tag stands in record {
       stands = both.0;
       steady = both.1;
       work = λ w less. of_each s.fixed.plan lock limit s others later gathered c.journal seen same own none' w;
@@ -170,16 +170,16 @@ there_bare o x is = subst (λ z. option_map (option_map bare) z ≡ Some (Some t
 
 -- the run of a window
 module _ {I : Type 0} (c2 : CoreValue I) (run : IsRun c2) where
-  abbrev pub run_state : State (Unit {0})
-  run_state = state_of c2 run.got run.entered
+  abbrev pub run_check : State (Unit {0})
+  run_check = state_of c2 run.got run.entered
 
-  pub run_ran : after_window (crew_machine c2.fixed.plan c2.fixed.root c2.fixed.capacity c2.fixed.workers (keys_of c2.table)) (keys_of c2.table) (keys_alone c2.fixed.opening) (record { first = c2.fixed.first; count = c2.fixed.count; events = c2.journal }) ≡ Some run_state
+  pub run_ran : after_window (crew_machine c2.fixed.plan c2.fixed.root c2.fixed.capacity c2.fixed.workers (keys_of c2.table)) (keys_of c2.table) (keys_alone c2.fixed.opening) (record { first = c2.fixed.first; count = c2.fixed.count; events = c2.journal }) ≡ Some run_check
   run_ran = ap (λ ks. replay (keys_machine (record c2.fixed { opening = ks })) (opening_of c2) c2.journal) (keys_back c2.fixed.opening) ∙ run.runs
 
   -- it is whole where no stop is kept, each output is delivered, and each worker's work is whole
   pub whole_of_run : c2.stop ≡ None → ((j : ℕ) → j < c2.fixed.count → (x : Picture) × (slice_get c2.outputs.frames j ≡ Some (Some x)))
       → ((w : ℕ) → w < c2.fixed.workers → (outputs : List ℕ) × Deliveries c2.fixed.plan c2.fixed.root w outputs (own_events w c2.journal))
-      → IsWholeWindow c2.fixed.plan c2.fixed.root c2.fixed.capacity c2.fixed.workers (keys_of c2.table) (keys_alone c2.fixed.opening) (record { first = c2.fixed.first; count = c2.fixed.count; events = c2.journal }) run_state
+      → IsWholeWindow c2.fixed.plan c2.fixed.root c2.fixed.capacity c2.fixed.workers (keys_of c2.table) (keys_alone c2.fixed.opening) (record { first = c2.fixed.first; count = c2.fixed.count; events = c2.journal }) run_check
   whole_of_run running delivered work = record {
     runs = run_ran;
     running = running;
@@ -189,19 +189,19 @@ module _ {I : Type 0} (c2 : CoreValue I) (run : IsRun c2) where
 
 -- and then it is a window of the core with which it began
 pub crew_window : {I : Type 0} (c c2 d : CoreValue I) (first count : ℕ) → c2.fixed ≡ (begun c first count).fixed → keys_of c2.table ≡ keys_of c.table → d ≡ ended c2 → (run : IsRun c2) (events : List Event) → events ≡ c2.journal
-    → IsWholeWindow c2.fixed.plan c2.fixed.root c2.fixed.capacity c2.fixed.workers (keys_of c2.table) (keys_alone c2.fixed.opening) (record { first = c2.fixed.first; count = c2.fixed.count; events = c2.journal }) (run_state c2 run)
+    → IsWholeWindow c2.fixed.plan c2.fixed.root c2.fixed.capacity c2.fixed.workers (keys_of c2.table) (keys_alone c2.fixed.opening) (record { first = c2.fixed.first; count = c2.fixed.count; events = c2.journal }) (run_check c2 run)
     → IsCrewWindow c first count events d
 crew_window {I = I} c c2 d first count fixed places ends_it run events journal whole =
-    let there = subst (λ (z : Fixed × List Place). IsWholeWindow z.0.plan z.0.root z.0.capacity z.0.workers z.1 (keys_alone z.0.opening) (record { first = z.0.first; count = z.0.count; events = c2.journal }) (run_state c2 run)) (λ i. (fixed i, places i)) whole in
+    let there = subst (λ (z : Fixed × List Place). IsWholeWindow z.0.plan z.0.root z.0.capacity z.0.workers z.1 (keys_alone z.0.opening) (record { first = z.0.first; count = z.0.count; events = c2.journal }) (run_check c2 run)) (λ i. (fixed i, places i)) whole in
     record {
-      state = run_state c2 run;
-      whole = subst (λ es. IsWholeWindow c.fixed.plan c.fixed.root c.fixed.capacity c.fixed.workers (keys_of c.table) (keys_alone (keys_of c.cache)) (record { first = first; count = count; events = es }) (run_state c2 run)) (sym journal) there;
+      state = run_check c2 run;
+      whole = subst (λ es. IsWholeWindow c.fixed.plan c.fixed.root c.fixed.capacity c.fixed.workers (keys_of c.table) (keys_alone (keys_of c.cache)) (record { first = first; count = count; events = es }) (run_check c2 run)) (sym journal) there;
       left = sym (keys_again c2.cache) ∙ ap (λ (z : CoreValue I). keys_alone (keys_of z.cache)) (sym ends_it);
       places = ap (λ (z : CoreValue I). keys_of z.table) ends_it ∙ places;
     }
 
-module _ {I : Type 0} (holds : I → Option Info) (feed : I → Option (List Picture)) (faults : I → ℕ) (ends : I → ℕ → ℕ → ℕ → Type 0) (c c1 c2 : CoreValue I) (first count : ℕ) (plan : IsPlan c.fixed.plan) (root : c.fixed.root < length c.fixed.plan)
-    (begins : c1 ≡ begun c first count) (worked : WorkIsDone feed faults ends c1 c2) (run : IsRun c2) where
+module _ {I : Type 0} (of : HeldGhosts I) (c c1 c2 : CoreValue I) (first count : ℕ) (plan : IsPlan c.fixed.plan) (root : c.fixed.root < length c.fixed.plan)
+    (begins : c1 ≡ begun c first count) (worked : WorkIsDone of c1 c2) (run : IsRun c2) where
   fixed : c2.fixed ≡ (begun c first count).fixed
   fixed = worked.stands.fixed ∙ ap (λ (z : CoreValue I). z.fixed) begins
 
@@ -235,48 +235,48 @@ module _ {I : Type 0} (holds : I → Option Info) (feed : I → Option (List Pic
           let taken = (workers_tell I).taken c2 run in
           (workers_tell I).delivered c2 run (λ w low. work_delivered c2.fixed.plan c2.fixed.root w plan2 root2 c2.fixed.count c2.journal (own_events w c2.journal) (each_whole w low)) j (omega arith)
 
-      whole_run : IsWholeWindow c2.fixed.plan c2.fixed.root c2.fixed.capacity c2.fixed.workers (keys_of c2.table) (keys_alone c2.fixed.opening) (record { first = c2.fixed.first; count = c2.fixed.count; events = c2.journal }) (run_state c2 run)
+      whole_run : IsWholeWindow c2.fixed.plan c2.fixed.root c2.fixed.capacity c2.fixed.workers (keys_of c2.table) (keys_alone c2.fixed.opening) (record { first = c2.fixed.first; count = c2.fixed.count; events = c2.journal }) (run_check c2 run)
       whole_run = whole_of_run c2 run (stopped ∙ running) delivered (λ w less. let d = each_whole w less in (d.outputs, d.delivered))
 
     cut_run : (why : WindowStop) → first_stop c2.journal ≡ Some why → IsCutWindow c2.fixed.plan c2.fixed.root c2.fixed.capacity c2.fixed.workers (keys_of c2.table) why (keys_alone c2.fixed.opening) (record { first = c2.fixed.first; count = c2.fixed.count; events = c2.journal })
     cut_run why at =
         let f = failure_of c2.journal why at in
-        record { state = run_state c2 run; runs = run_ran c2 run; stopped = stopped ∙ at; named = named_by (keys_machine c2.fixed) (opening_of c2) (run_state c2 run) c2.journal f.0 why run.runs f.1; work = each_work }
+        record { state = run_check c2 run; runs = run_ran c2 run; stopped = stopped ∙ at; named = named_by (keys_machine c2.fixed) (opening_of c2) (run_check c2 run) c2.journal f.0 why run.runs f.1; work = each_work }
 
-  fits : (book : Book) (numbers : List ℕ) (w : ℕ) (why : WindowStop) → Contains c2.journal (Fail w why) → Stands feed faults book numbers c2 → StopFits feed faults book numbers c2.fixed.plan c2.table why
+  fits : (book : Book) (numbers : List ℕ) (w : ℕ) (why : WindowStop) → Contains c2.journal (Fail w why) → Stands of.feed of.faults book numbers c2 → StopFits of.feed of.faults book numbers c2.fixed.plan c2.table why
   fits book numbers w (Read i) h v = v.failed i (read_by c2.journal w i h)
   fits book numbers w (Changed i frame want got) h v = v.changed (changed_by c2.journal w i frame want got h)
   fits book numbers w Memory h v = tt
 
   module _ (d : CoreValue I) (ends_it : d ≡ ended c2) (finished : Finished) (frames : finished.frames.items ≡ c2.outputs.frames) (events : finished.events.items ≡ c2.journal) (stop : finished.stop ≡ c2.stop) (stopped : finished.stop ≡ first_stop c2.journal)
       (size : length finished.frames.items ≡ c2.fixed.count) (shapes : (j : ℕ) (x : Picture) → slice_get finished.frames.items j ≡ Some (Some x) → x.shape ≡ shape_at c2.fixed.plan c2.fixed.root)
-      (some : 0 < c.fixed.workers) (unlent : leases_out c.table ≡ 0) (differ : PlacesDiffer c.table) (theirs : HoldTheirs holds c.fixed.plan c.table) (differ' : PlacesDiffer c2.table) (theirs' : HoldTheirs holds c2.fixed.plan c2.table) where
-    stays : Stays holds c d
+      (some : 0 < c.fixed.workers) (unlent : leases_out c.table ≡ 0) (differ : PlacesDiffer c.table) (theirs : HoldTheirs of.holds c.fixed.plan c.table) (differ' : PlacesDiffer c2.table) (theirs' : HoldTheirs of.holds c2.fixed.plan c2.table) where
+    stays : Stays of.holds c d
     stays =
         let free = all_free c2.table none_open.1 in
-        let held = held_again holds c.fixed.plan c.table c2.table places (all_free c.table unlent) differ theirs free differ' (subst (λ (z : Fixed). HoldTheirs holds z.plan c2.table) fixed theirs') in
-        ended_stays holds feed faults ends c c1 c2 d first count plan begins worked.stands.fixed ends_it none_open.0 free (held ∙ sym (ap (λ (z : CoreValue I). held_in holds z.table) begins))
+        let held = held_again of.holds c.fixed.plan c.table c2.table places (all_free c.table unlent) differ theirs free differ' (subst (λ (z : Fixed). HoldTheirs of.holds z.plan c2.table) fixed theirs') in
+        ended_stays of c c1 c2 d first count plan begins worked.stands.fixed ends_it none_open.0 free (held ∙ sym (ap (λ (z : CoreValue I). held_in of.holds z.table) begins))
 
-    steady : c2.stop ≡ None → counts_in faults c2.table ≡ counts_in faults c1.table
+    steady : c2.stop ≡ None → counts_in of.faults c2.table ≡ counts_in of.faults c1.table
     steady running =
-        counts_again faults c1.table c2.table worked.stands.places (subst (λ (z : CoreValue I). AllFree z.table) (sym begins) (all_free c.table unlent)) (subst (λ (z : CoreValue I). PlacesDiffer z.table) (sym begins) differ)
+        counts_again of.faults c1.table c2.table worked.stands.places (subst (λ (z : CoreValue I). AllFree z.table) (sym begins) (all_free c.table unlent)) (subst (λ (z : CoreValue I). PlacesDiffer z.table) (sym begins) differ)
         (all_free c2.table none_open.1) differ' (worked.steady.counts running)
 
-    ends_by : (o : Option WindowStop) → finished.stop ≡ o → WindowEnds holds feed faults ends c (IsCrewWindow c first count) (IsCutCrew c first count) first count finished o d
+    ends_by : (o : Option WindowStop) → finished.stop ≡ o → WindowEnds of c (IsCrewWindow c first count) (IsCutCrew c first count) first count finished o d
     ends_by None is =
         let running = sym stopped ∙ is in
         let several : 0 < c2.fixed.workers = subst (λ (z : Fixed). 0 < z.workers) (sym fixed) some in (
-          window_delivered holds feed faults ends c c1 c2 d first count plan begins worked.stands.fixed ends_it finished stays worked.stands.right frames size shapes (steady (sym stop ∙ is)) (λ j less. delivered (sym stop ∙ stopped) running several j (subst (λ (z : Fixed). j < z.count) (sym fixed) less)),
+          window_delivered of c c1 c2 d first count plan begins worked.stands.fixed ends_it finished stays worked.stands.right frames size shapes (steady (sym stop ∙ is)) (λ j less. delivered (sym stop ∙ stopped) running several j (subst (λ (z : Fixed). j < z.count) (sym fixed) less)),
           crew_window c c2 d first count fixed places ends_it run finished.events.items events (whole_run (sym stop ∙ stopped) running several),
         )
     ends_by (Some why) is =
         let at = sym stopped ∙ is in
         let f = failure_of c2.journal why at in
         let cut = subst (λ (z : Fixed × List Place). IsCutWindow z.0.plan z.0.root z.0.capacity z.0.workers z.1 why (keys_alone z.0.opening) (record { first = z.0.first; count = z.0.count; events = c2.journal })) (λ i. (fixed i, places i)) (cut_run (sym stop ∙ stopped) why at) in (
-          window_stopped holds feed faults ends c c1 c2 d first count plan begins worked.stands.fixed ends_it why stays
-              (λ book numbers s. let v = worked.stands.right book numbers s in (v, subst (λ (z : Fixed). StopFits feed faults book numbers z.plan c2.table why) fixed (fits book numbers f.0 why f.1 v))) (worked.stands.ended f.0 why f.1),
+          window_stopped of c c1 c2 d first count plan begins worked.stands.fixed ends_it why stays
+              (λ book numbers s. let v = worked.stands.right book numbers s in (v, subst (λ (z : Fixed). StopFits of.feed of.faults book numbers z.plan c2.table why) fixed (fits book numbers f.0 why f.1 v))) (worked.stands.ended f.0 why f.1),
           subst (λ es. IsCutWindow c.fixed.plan c.fixed.root c.fixed.capacity c.fixed.workers (keys_of c.table) why (keys_alone (keys_of c.cache)) (record { first = first; count = count; events = es })) (sym events) cut,
         )
 
-    pub crew_ends : WindowEnds holds feed faults ends c (IsCrewWindow c first count) (IsCutCrew c first count) first count finished finished.stop d
+    pub crew_ends : WindowEnds of c (IsCrewWindow c first count) (IsCutCrew c first count) first count finished finished.stop d
     crew_ends = ends_by finished.stop refl

@@ -6,17 +6,18 @@ use Rattle.fv_io.specs.Sink.{IsLater}
 use Rattle.fv_plane.specs.declared.format.Info.{Info}
 use Rattle.fv_plane.specs.Picture.{Picture}
 use Rattle.clip_graph.specs.Plan.{Application}
+use Rattle.inst_table.specs.declared.held.Held.{Ghosts as HeldGhosts}
 use Rattle.inst_table.specs.declared.place.Place.{Place}
-use Rattle.serve_events.specs.declared.event.Event.{Event}
-use Rattle.serve_events.specs.declared.event.WindowStop.{WindowStop}
-use Rattle.serve_events.specs.Windows.{WindowEvents}
+use Rattle.serve_machine.specs.declared.event.Event.{Event}
+use Rattle.serve_machine.specs.declared.event.WindowStop.{WindowStop}
+use Rattle.serve_machine.specs.Windows.{WindowEvents}
 use Rattle.serve_core.specs.declared.answers.Finished.{Finished}
 use Rattle.serve_core.specs.CoreValue.{CoreValue}
 use Rattle.serve_core.specs.Runs.{keys_alone}
 use Rattle.prefetch.specs.declared.stops.RenderStop.{RenderStop}
 use Rattle.prefetch.specs.declared.stops.RenderStop.TheVariants.{Stopped, Write, Memory}
 use Rattle.prefetch.specs.Crew.{IsCrewWindow, IsCutCrew, AreOfCrew}
-use Rattle.prefetch.specs.CrewJournal.{IsWholeWindow, IsCutWindow, IsNext, AreWhole, none, also, AreCrewFirst, AreCrewCut}
+use Rattle.serve_machine.specs.CrewJournal.{IsWholeWindow, IsCutWindow, IsNext, AreWhole, none, also, AreCrewFirst, AreCrewCut}
 use Rattle.prefetch.specs.NextWindow.{AddsCrewWindow, LeavesOut, NextShows}
 use Rattle.prefetch.specs.OneWindow.{with_window, Keeps, WindowStopped}
 use Rattle.prefetch.specs.Windows.{frames_at, Stays, CrewStops}
@@ -69,23 +70,23 @@ module _ {I : Type 0} (c : CoreValue I) (size : ℕ) where
     }
 
   -- why a render stops
-  module _ (holds : I → Option Info) (feed : I → Option (List Picture)) (faults : I → ℕ) (ends : I → ℕ → ℕ → ℕ → Type 0) {K : Type 0} (sink : Ghosts K) (old here there : K) (n count : ℕ) (log longer : List WindowEvents) (d e : CoreValue I) (so_far : AreOfCrew c size n log d)
-      (less : n < frames_at c.fixed.plan c.fixed.root) (is : count ≡ min size (frames_at c.fixed.plan c.fixed.root - n)) (kept : Keeps holds feed faults ends c d) (frames : List (Option Picture)) (w : Waits holds feed faults ends c sink old here frames n) (later : IsLater sink old here) where
-    pub next_stops : (stop : RenderStop) → NextShows holds feed faults ends d n count log longer e sink frames here there stop → CrewStops holds feed faults ends c sink old there size longer e stop
+  module _ (of : HeldGhosts I) {K : Type 0} (sink : Ghosts K) (old here there : K) (n count : ℕ) (log longer : List WindowEvents) (d e : CoreValue I) (so_far : AreOfCrew c size n log d)
+      (less : n < frames_at c.fixed.plan c.fixed.root) (is : count ≡ min size (frames_at c.fixed.plan c.fixed.root - n)) (kept : Keeps of c d) (frames : List (Option Picture)) (w : Waits of c sink old here frames n) (later : IsLater sink old here) where
+    pub next_stops : (stop : RenderStop) → NextShows of d n count log longer e sink frames here there stop → CrewStops of c sink old there size longer e stop
     next_stops (Stopped why) s =
-        let put = put_waiting holds feed faults ends c sink old here there frames n w s.1 in
-        stopped_after holds feed faults ends c sink old here there d e n count kept log longer why (omega arith) put s.0 (cut_more holds n log d so_far count less is kept.stays why s.0.events longer s.0.log_is s.0.cut)
-    next_stops Memory s = ended_between holds feed faults ends c sink old here there d e n count kept log longer (omega arith) (put_waiting holds feed faults ends c sink old here there frames n w s.2) (first_crew n log d so_far) s.0 s.1
-    next_stops Write s = ⊎_elim (λ (both : (finished : Finished) × AddsCrewWindow holds feed faults ends d n count log longer e finished). whole both.0 both.1) (λ (out : LeavesOut holds feed faults ends d n count log longer e). left_out out.0 out.1) s.window
+        let put = put_waiting of c sink old here there frames n w s.1 in
+        stopped_after of c sink old here there d e n count kept log longer why (omega arith) put s.0 (cut_more of.holds n log d so_far count less is kept.stays why s.0.events longer s.0.log_is s.0.cut)
+    next_stops Memory s = ended_between of c sink old here there d e n count kept log longer (omega arith) (put_waiting of c sink old here there frames n w s.2) (first_crew n log d so_far) s.0 s.1
+    next_stops Write s = ⊎_elim (λ (both : (finished : Finished) × AddsCrewWindow of d n count log longer e finished). whole both.0 both.1) (λ (out : LeavesOut of d n count log longer e). left_out out.0 out.1) s.window
       where
-        fails : (m : ℕ) → n ≤ m → m ≤ frames_at c.fixed.plan c.fixed.root → Stays holds c e → IsFirstOf longer m → CrewStops holds feed faults ends c sink old there size longer e Write
-        fails m low most stays first = waiting_fails holds feed faults ends c sink old here there frames n w longer e m low most stays later s.failed s.cut first
+        fails : (m : ℕ) → n ≤ m → m ≤ frames_at c.fixed.plan c.fixed.root → Stays of.holds c e → IsFirstOf longer m → CrewStops of c sink old there size longer e Write
+        fails m low most stays first = waiting_fails of c sink old here there frames n w longer e m low most stays later s.failed s.cut first
 
-        whole : (finished : Finished) → AddsCrewWindow holds feed faults ends d n count log longer e finished → CrewStops holds feed faults ends c sink old there size longer e Write
-        whole finished a = fails (n + count) (omega arith) (omega arith) (stays_on holds feed faults ends c d e kept.stays a.delivered.keeps.stays) (first_more holds n log d so_far count less is kept.stays finished.events.items e longer a.log_is a.whole)
+        whole : (finished : Finished) → AddsCrewWindow of d n count log longer e finished → CrewStops of c sink old there size longer e Write
+        whole finished a = fails (n + count) (omega arith) (omega arith) (stays_on of c d e kept.stays a.delivered.keeps.stays) (first_more of.holds n log d so_far count less is kept.stays finished.events.items e longer a.log_is a.whole)
 
-        left_out : longer ≡ log → (e ≡ d) ⊎ ((why : WindowStop) × WindowStopped holds feed faults ends d why e) → CrewStops holds feed faults ends c sink old there size longer e Write
+        left_out : longer ≡ log → (e ≡ d) ⊎ ((why : WindowStop) × WindowStopped of d why e) → CrewStops of c sink old there size longer e Write
         left_out same ended =
             let first = subst (λ ws. IsFirstOf ws n) (sym same) (first_crew n log d so_far) in
-            ⊎_elim (λ (left : e ≡ d). fails n (omega arith) (omega arith) (subst (Stays holds c) (sym left) kept.stays) first)
-            (λ (cut : (why : WindowStop) × WindowStopped holds feed faults ends d why e). fails n (omega arith) (omega arith) (stays_on holds feed faults ends c d e kept.stays cut.1.stays) first) ended
+            ⊎_elim (λ (left : e ≡ d). fails n (omega arith) (omega arith) (subst (Stays of.holds c) (sym left) kept.stays) first)
+            (λ (cut : (why : WindowStop) × WindowStopped of d why e). fails n (omega arith) (omega arith) (stays_on of c d e kept.stays cut.1.stays) first) ended

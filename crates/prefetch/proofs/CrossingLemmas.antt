@@ -30,8 +30,8 @@ use Rattle.frame_cache.proofs.cache.FrameCache.TheSendSync as cache
 use Rattle.inst_table.proofs.table.InstTable.TheSendSync as table
 use Rattle.fv_plane.proofs.frame.Frame.TheSendSync as frame
 use Rattle.fv_spares.proofs.spares.Spares.TheSendSync as spares
-use Rattle.serve_events.proofs.event.Event.TheSendSync as event
-use Rattle.serve_events.proofs.event.WindowStop.TheSendSync as stop
+use Rattle.serve_machine.proofs.event.Event.TheSendSync as event
+use Rattle.serve_machine.proofs.event.WindowStop.TheSendSync as stop
 use Rattle.fv_plane.proofs.key.Key.TheSendSync as key
 
 ruleset expressions = (knot.send-RunExpr, knot.sync-RunExpr, knot.both_send-RunExpr, knot.both_sync-RunExpr)

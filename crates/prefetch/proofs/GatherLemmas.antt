@@ -7,7 +7,7 @@ use native.Mathlib.Decide.{ℕ_discrete}
 use Rattle.clip_graph.specs.Plan.{Application}
 use Rattle.turn_lock.specs.declared.view.Ended.{Ended}
 use Rattle.turn_lock.specs.SeatView.{TableId, joined_seat}
-use Rattle.serve_events.specs.declared.event.Event.{Event}
+use Rattle.serve_machine.specs.declared.event.Event.{Event}
 use Rattle.serve_shared.specs.Seats.{CoreSeat, HasWorker}
 use Rattle.prefetch.specs.Crew.{HasWorked, MayWork, WorkedAt, HasWorkers, MayGather, AllWorked, IsGathered}
 

@@ -11,7 +11,7 @@ use Rattle.inst_table.specs.Places.{same_place, slot_at, PlacesDiffer}
 use Rattle.inst_table.proofs.CallerLemmas.{test, same_places, place_itself}
 use Rattle.serve_core.specs.Sources.{opened_at, HoldTheirs, faults_at}
 use Rattle.serve_core.specs.Steady.{HasCount}
-use Rattle.serve_worker.specs.Alone.{AllFree, held_in, counts_in}
+use Rattle.serve_core.specs.Tables.{AllFree, held_in, counts_in}
 
 module _ {I : Type 0} where
   nowhere : (p : Place) (es : List (Place × Slot I)) → AllByRecursion (λ q. same_place p q ≡ false) (keys_of es) → slot_at p es ≡ None

@@ -9,6 +9,10 @@ pub mod WorkLemmas
 pub mod CrewLemmas
 pub mod CrewTogether
 pub mod AloneLemmas
-pub mod OnceLemmas
 pub mod AskedLemmas
 pub mod CrossingLemmas
+pub mod CoreRenders
+pub mod StreamLemmas
+pub mod CoreLemmas
+pub mod SessionLemmas
+pub mod AnsweredLemmas

@@ -14,7 +14,7 @@ use Rattle.fv_plane.specs.Picture.{Picture}
 use Rattle.y4m_stream.specs.Stream.{frame_text, frames_text}
 use Rattle.clip_graph.specs.Plan.{Application}
 use Rattle.clip_graph.specs.Unfolding.{key_picture}
-use Rattle.serve_events.specs.Keys.{frame_key}
+use Rattle.serve_machine.specs.Keys.{frame_key}
 use Rattle.prefetch.specs.OneWindow.{PutsFrames}
 use Rattle.prefetch.specs.Clips.{pictures_from}
 use Rattle.prefetch.specs.Windows.{given, pictures_text}

@@ -7,17 +7,17 @@ use Rattle.fv_io.specs.declared.sink.Sink.{Ghosts}
 use Rattle.fv_io.specs.Sink.{Puts, PutsPrefix, IsLater, SinkFailed}
 use Rattle.fv_io.specs.Told.{with_piece}
 use Rattle.fv_io.proofs.CallerLemmas.{with_piece_twice, with_no_piece, gets_more, gets_after}
-use Rattle.fv_plane.specs.declared.format.Info.{Info}
 use Rattle.fv_plane.specs.Picture.{Picture}
 use Rattle.clip_graph.specs.Plan.{Application}
-use Rattle.serve_events.specs.declared.event.Event.{Event}
-use Rattle.serve_events.specs.declared.event.WindowStop.{WindowStop}
-use Rattle.serve_events.specs.Windows.{WindowEvents}
+use Rattle.inst_table.specs.declared.held.Held.{Ghosts as HeldGhosts}
+use Rattle.serve_machine.specs.declared.event.Event.{Event}
+use Rattle.serve_machine.specs.declared.event.WindowStop.{WindowStop}
+use Rattle.serve_machine.specs.Windows.{WindowEvents}
 use Rattle.serve_core.specs.declared.answers.Finished.{Finished}
 use Rattle.serve_core.specs.CoreValue.{CoreValue}
 use Rattle.serve_core.specs.Sources.{shape_at}
 use Rattle.serve_core.specs.Stands.{Stands, StopFits}
-use Rattle.serve_worker.specs.Alone.{AllFree}
+use Rattle.serve_core.specs.Tables.{AllFree}
 use Rattle.prefetch.specs.declared.stops.RenderStop.{RenderStop}
 use Rattle.prefetch.specs.declared.stops.RenderStop.TheVariants.{Stopped, Write, Memory}
 use Rattle.prefetch.specs.Clips.{pictures_from}
@@ -25,8 +25,8 @@ use Rattle.prefetch.specs.OneWindow.{with_window, PutsFinished, PutStops, Keeps,
 use Rattle.prefetch.specs.Windows.{given, pictures_text, frames_at, Stays, PutsFirst, AllRendered, StoppedAfter, FailedAfter, EndedBetween, RenderEnds}
 use Rattle.prefetch.proofs.PutLemmas.{text_twice, pictures_more}
 
-module _ {I : Type 0} (holds : I → Option Info) (feed : I → Option (List Picture)) (faults : I → ℕ) (ends : I → ℕ → ℕ → ℕ → Type 0) (c : CoreValue I) where
-  pub stays_on : (d e : CoreValue I) → Stays holds c d → Stays holds d e → Stays holds c e
+module _ {I : Type 0} (of : HeldGhosts I) (c : CoreValue I) where
+  pub stays_on : (d e : CoreValue I) → Stays of.holds c d → Stays of.holds d e → Stays of.holds c e
   stays_on d e a b = record {
     between = b.between;
     plan = b.plan ∙ a.plan;
@@ -38,43 +38,43 @@ module _ {I : Type 0} (holds : I → Option Info) (feed : I → Option (List Pic
     held = b.held ∙ a.held;
   }
 
-  pub keeps_first : c.fixed.count ≡ 0 → c.claims ≡ [] → AllFree c.table → Keeps holds feed faults ends c c
+  pub keeps_first : c.fixed.count ≡ 0 → c.claims ≡ [] → AllFree c.table → Keeps of c c
   keeps_first between unclaimed free = record {
     stays = record { between = between; plan = refl; root = refl; workers = refl; capacity = refl; unclaimed = unclaimed; free = free; held = refl };
     stands = λ book numbers s. record { numbers = numbers; stands = s; with_it = tt };
     steady = refl;
   }
 
-  pub keeps_on : (d e : CoreValue I) → Keeps holds feed faults ends c d → Keeps holds feed faults ends d e → Keeps holds feed faults ends c e
+  pub keeps_on : (d e : CoreValue I) → Keeps of c d → Keeps of d e → Keeps of c e
   keeps_on d e a b = record { stays = stays_on d e a.stays b.stays; stands = λ book numbers s. let one = a.stands book numbers s in b.stands book one.numbers one.stands; steady = b.steady ∙ a.steady }
 
   -- a window that ended is put, or is not
   module _ (IsWhole : List Event → CoreValue I → Type 0) (IsCut : WindowStop → List Event → Type 0) (first count : ℕ) (d : CoreValue I) (finished : Finished)
-      (is : WindowEnds holds feed faults ends c IsWhole IsCut first count finished finished.stop d) where
-    pub ends_early : true ≡ is_some finished.stop → (why : WindowStop) × WindowStopped holds feed faults ends c why d
+      (is : WindowEnds of c IsWhole IsCut first count finished finished.stop d) where
+    pub ends_early : true ≡ is_some finished.stop → (why : WindowStop) × WindowStopped of c why d
     ends_early = go finished.stop is
       where
-        go : (stop : Option WindowStop) → WindowEnds holds feed faults ends c IsWhole IsCut first count finished stop d → true ≡ is_some stop → (why : WindowStop) × WindowStopped holds feed faults ends c why d
+        go : (stop : Option WindowStop) → WindowEnds of c IsWhole IsCut first count finished stop d → true ≡ is_some stop → (why : WindowStop) × WindowStopped of c why d
         go None w bad = absurd (cc)
         go (Some why) w some = (why, w.0)
 
     module _ (log longer : List WindowEvents) (log_is : longer ≡ with_window log first count finished.events.items) where
-      pub adds_window : finished.stop ≡ None → AddsWindow holds feed faults ends c IsWhole IsCut first count log longer d finished
+      pub adds_window : finished.stop ≡ None → AddsWindow of c IsWhole IsCut first count log longer d finished
       adds_window no_stop =
-          let both = subst (λ s. WindowEnds holds feed faults ends c IsWhole IsCut first count finished s d) no_stop is in
+          let both = subst (λ s. WindowEnds of c IsWhole IsCut first count finished s d) no_stop is in
           record { delivered = both.0; whole = both.1; log_is = log_is }
 
-      pub cuts_window : (why : WindowStop) → finished.stop ≡ Some why → CutsWindow holds feed faults ends c IsWhole IsCut first count log longer d why
+      pub cuts_window : (why : WindowStop) → finished.stop ≡ Some why → CutsWindow of c IsWhole IsCut first count log longer d why
       cuts_window why stopped =
-          let both = subst (λ s. WindowEnds holds feed faults ends c IsWhole IsCut first count finished s d) stopped is in
+          let both = subst (λ s. WindowEnds of c IsWhole IsCut first count finished s d) stopped is in
           record { events = finished.events.items; stopped = both.0; cut = both.1; log_is = log_is }
 
       module _ {K : Type 0} (sink : Ghosts K) (old new : K) where
-        pub window_put : (r : Result (Unit {0}) RenderStop) → OnOk r (PutsFinished sink old new finished) → OnOk r (PutsWindow holds feed faults ends c IsWhole IsCut first count log longer d sink old new)
+        pub window_put : (r : Result (Unit {0}) RenderStop) → OnOk r (PutsFinished sink old new finished) → OnOk r (PutsWindow of c IsWhole IsCut first count log longer d sink old new)
         window_put (Err stop) put = tt
         window_put (Ok u) put = record { finished = finished; adds = adds_window put.0; put = put.1 }
 
-        pub window_not_put : (r : Result (Unit {0}) RenderStop) → IfErr r (PutStops sink old new finished) → IfErr r (WindowShows holds feed faults ends c IsWhole IsCut first count log longer d sink old new)
+        pub window_not_put : (r : Result (Unit {0}) RenderStop) → IfErr r (PutStops sink old new finished) → IfErr r (WindowShows of c IsWhole IsCut first count log longer d sink old new)
         window_not_put (Ok u) put = tt
         window_not_put (Err (Stopped why)) put = (cuts_window why put.0, put.1)
         window_not_put (Err Write) put = record { finished = finished; adds = adds_window put.0; failed = put.1; cut = put.2 }
@@ -86,10 +86,10 @@ module _ {I : Type 0} (holds : I → Option Info) (feed : I → Option (List Pic
       pub pictures : List Picture
       pub count : length pictures + length (given frames) ≡ n
       pub shapes : All (λ (x : Picture). x.shape ≡ shape_at c.fixed.plan c.fixed.root) (pictures ++ given frames)
-      pub right : (b : List (List Picture)) (numbers : List ℕ) → Stands feed faults (Some b) numbers c → pictures ++ given frames ≡ pictures_from b c.fixed.plan c.fixed.root 0 n
+      pub right : (b : List (List Picture)) (numbers : List ℕ) → Stands of.feed of.faults (Some b) numbers c → pictures ++ given frames ≡ pictures_from b c.fixed.plan c.fixed.root 0 n
       pub put : Puts sink old here (pictures_text pictures)
 
-    pub put_none : PutsFirst holds feed faults ends c sink old old 0
+    pub put_none : PutsFirst of c sink old old 0
     put_none = record {
       pictures = [];
       count = refl;
@@ -108,7 +108,7 @@ module _ {I : Type 0} (holds : I → Option Info) (feed : I → Option (List Pic
     }
 
     module _ (here there : K) (frames : List (Option Picture)) (n : ℕ) (w : Waits here frames n) where
-      pub put_waiting : Puts sink here there (pictures_text (given frames)) → PutsFirst holds feed faults ends c sink old there n
+      pub put_waiting : Puts sink here there (pictures_text (given frames)) → PutsFirst of c sink old there n
       put_waiting put = record {
         pictures = w.pictures ++ given frames;
         count = length-append w.pictures (given frames) ∙ w.count;
@@ -119,8 +119,8 @@ module _ {I : Type 0} (holds : I → Option Info) (feed : I → Option (List Pic
       }
 
       -- the sink failed at them, and the journal has m outputs
-      pub waiting_fails : {IsFirst : List WindowEvents → ℕ → Type 0} (windows : List WindowEvents) (d : CoreValue I) (m : ℕ) → n ≤ m → m ≤ frames_at c.fixed.plan c.fixed.root → Stays holds c d → IsLater sink old here
-          → SinkFailed sink here there → PutsPrefix sink here there (pictures_text (given frames)) → IsFirst windows m → FailedAfter holds feed faults ends c sink old there IsFirst windows d
+      pub waiting_fails : {IsFirst : List WindowEvents → ℕ → Type 0} (windows : List WindowEvents) (d : CoreValue I) (m : ℕ) → n ≤ m → m ≤ frames_at c.fixed.plan c.fixed.root → Stays of.holds c d → IsLater sink old here
+          → SinkFailed sink here there → PutsPrefix sink here there (pictures_text (given frames)) → IsFirst windows m → FailedAfter of c sink old there IsFirst windows d
       waiting_fails windows d m low most stays later failed cut journal = record {
         stays = stays;
         count = m;
@@ -138,24 +138,24 @@ module _ {I : Type 0} (holds : I → Option Info) (feed : I → Option (List Pic
       }
 
     -- nothing was rendered yet
-    pub ends_at_once : {IsFirst : List WindowEvents → ℕ → Type 0} (windows : List WindowEvents) → Keeps holds feed faults ends c c → IsFirst windows 0 → EndedBetween holds feed faults ends c sink old old IsFirst windows c
+    pub ends_at_once : {IsFirst : List WindowEvents → ℕ → Type 0} (windows : List WindowEvents) → Keeps of c c → IsFirst windows 0 → EndedBetween of c sink old old IsFirst windows c
     ends_at_once windows kept first = record { stays = kept.stays; count = 0; few = omega arith; put = put_none; journal = first }
 
     -- all windows
-    pub renders_all : {IsWhole : List WindowEvents → Type 0} (here : K) (d : CoreValue I) (n : ℕ) (log : List WindowEvents) → n ≡ frames_at c.fixed.plan c.fixed.root → Keeps holds feed faults ends c d → PutsFirst holds feed faults ends c sink old here n → IsWhole log
-        → AllRendered holds feed faults ends c sink old here IsWhole log d
-    renders_all here d n log all kept p whole = record { stays = kept.stays; put = subst (PutsFirst holds feed faults ends c sink old here) all p; journal = whole; steady = kept.steady }
+    pub renders_all : {IsWhole : List WindowEvents → Type 0} (here : K) (d : CoreValue I) (n : ℕ) (log : List WindowEvents) → n ≡ frames_at c.fixed.plan c.fixed.root → Keeps of c d → PutsFirst of c sink old here n → IsWhole log
+        → AllRendered of c sink old here IsWhole log d
+    renders_all here d n log all kept p whole = record { stays = kept.stays; put = subst (PutsFirst of c sink old here) all p; journal = whole; steady = kept.steady }
 
-    module _ (here there : K) (d e : CoreValue I) (n count : ℕ) (kept : Keeps holds feed faults ends c d) where
-      module _ (finished : Finished) (w : WindowDelivered holds feed faults ends d n count finished e) where
+    module _ (here there : K) (d e : CoreValue I) (n count : ℕ) (kept : Keeps of c d) where
+      module _ (finished : Finished) (w : WindowDelivered of d n count finished e) where
         -- the pictures of the window, as the plan before it has them
-        these : (b : List (List Picture)) (numbers : List ℕ) → Stands feed faults (Some b) numbers c → given finished.frames.items ≡ pictures_from b c.fixed.plan c.fixed.root n count
+        these : (b : List (List Picture)) (numbers : List ℕ) → Stands of.feed of.faults (Some b) numbers c → given finished.frames.items ≡ pictures_from b c.fixed.plan c.fixed.root n count
         these b numbers s =
             let one = kept.stands (Some b) numbers s in
             w.right b one.numbers one.stands ∙ ap (λ (z : List Application × ℕ). pictures_from b z.0 z.1 n count) (λ i. (kept.stays.plan i, kept.stays.root i))
 
         -- its frames are still to be put
-        pub more_waits : PutsFirst holds feed faults ends c sink old here n → Waits here finished.frames.items (n + count)
+        pub more_waits : PutsFirst of c sink old here n → Waits here finished.frames.items (n + count)
         more_waits p = record {
           pictures = p.pictures;
           count = λ i. p.count i + w.all i;
@@ -165,12 +165,12 @@ module _ {I : Type 0} (holds : I → Option Info) (feed : I → Option (List Pic
           put = p.put;
         }
 
-        pub put_more : PutsFirst holds feed faults ends c sink old here n → Puts sink here there (pictures_text (given finished.frames.items)) → PutsFirst holds feed faults ends c sink old there (n + count)
+        pub put_more : PutsFirst of c sink old here n → Puts sink here there (pictures_text (given finished.frames.items)) → PutsFirst of c sink old there (n + count)
         put_more p = put_waiting here there finished.frames.items (n + count) (more_waits p)
 
       -- the window of the next outputs was cut short
       pub stopped_after : {IsWhole : List Event → CoreValue I → Type 0} {IsCut : WindowStop → List Event → Type 0} {IsCutAfter : WindowStop → List WindowEvents → ℕ → Type 0} (log longer : List WindowEvents) (why : WindowStop) → n + count ≤ frames_at c.fixed.plan c.fixed.root
-          → PutsFirst holds feed faults ends c sink old there n → CutsWindow holds feed faults ends d IsWhole IsCut n count log longer e why → IsCutAfter why longer n → StoppedAfter holds feed faults ends c sink old there IsCutAfter longer why e
+          → PutsFirst of c sink old there n → CutsWindow of d IsWhole IsCut n count log longer e why → IsCutAfter why longer n → StoppedAfter of c sink old there IsCutAfter longer why e
       stopped_after log longer why most p w journal = record {
         stays = stays_on d e kept.stays w.stopped.stays;
         count = n;
@@ -181,21 +181,21 @@ module _ {I : Type 0} (holds : I → Option Info) (feed : I → Option (List Pic
         stands = λ book numbers s.
             let one = kept.stands book numbers s in
             let two = w.stopped.stands book one.numbers one.stands in
-            record { numbers = two.numbers; stands = two.stands; with_it = subst (λ pl. StopFits feed faults book two.numbers pl e.table why) kept.stays.plan two.with_it };
+            record { numbers = two.numbers; stands = two.stands; with_it = subst (λ pl. StopFits of.feed of.faults book two.numbers pl e.table why) kept.stays.plan two.with_it };
       }
 
       -- it could not begin
-      pub ended_between : {IsFirst : List WindowEvents → ℕ → Type 0} (log longer : List WindowEvents) → n + count ≤ frames_at c.fixed.plan c.fixed.root → PutsFirst holds feed faults ends c sink old there n → IsFirst log n → longer ≡ log → e ≡ d
-          → EndedBetween holds feed faults ends c sink old there IsFirst longer e
+      pub ended_between : {IsFirst : List WindowEvents → ℕ → Type 0} (log longer : List WindowEvents) → n + count ≤ frames_at c.fixed.plan c.fixed.root → PutsFirst of c sink old there n → IsFirst log n → longer ≡ log → e ≡ d
+          → EndedBetween of c sink old there IsFirst longer e
       ended_between {IsFirst = IsFirst} log longer most p first same left =
-          subst (λ (z : List WindowEvents × CoreValue I). EndedBetween holds feed faults ends c sink old there IsFirst z.0 z.1) (λ i. (sym same i, sym left i)) (record { stays = kept.stays; count = n; few = omega arith; put = p; journal = first })
+          subst (λ (z : List WindowEvents × CoreValue I). EndedBetween of c sink old there IsFirst z.0 z.1) (λ i. (sym same i, sym left i)) (record { stays = kept.stays; count = n; few = omega arith; put = p; journal = first })
 
       -- why a render stops that puts the frames of each window at its end
       pub window_stops : (IsWhole : List Event → CoreValue I → Type 0) (IsCut : WindowStop → List Event → Type 0) (IsFirst : List WindowEvents → ℕ → Type 0) (IsCutAfter : WindowStop → List WindowEvents → ℕ → Type 0) (log longer : List WindowEvents)
-          → n + count ≤ frames_at c.fixed.plan c.fixed.root → IsLater sink old here → IsFirst log n → ((finished : Finished) → AddsWindow holds feed faults ends d IsWhole IsCut n count log longer e finished → IsFirst longer (n + count))
-          → ((why : WindowStop) → CutsWindow holds feed faults ends d IsWhole IsCut n count log longer e why → IsCutAfter why longer n) → PutsFirst holds feed faults ends c sink old here n
-          → (stop : RenderStop) → WindowShows holds feed faults ends d IsWhole IsCut n count log longer e sink here there stop → RenderEnds holds feed faults ends c sink old there IsFirst IsCutAfter longer e stop
-      window_stops IsWhole IsCut IsFirst IsCutAfter log longer most later first more cut_is p (Stopped why) w = stopped_after log longer why most (subst (λ z. PutsFirst holds feed faults ends c sink old z n) (sym w.1) p) w.0 (cut_is why w.0)
+          → n + count ≤ frames_at c.fixed.plan c.fixed.root → IsLater sink old here → IsFirst log n → ((finished : Finished) → AddsWindow of d IsWhole IsCut n count log longer e finished → IsFirst longer (n + count))
+          → ((why : WindowStop) → CutsWindow of d IsWhole IsCut n count log longer e why → IsCutAfter why longer n) → PutsFirst of c sink old here n
+          → (stop : RenderStop) → WindowShows of d IsWhole IsCut n count log longer e sink here there stop → RenderEnds of c sink old there IsFirst IsCutAfter longer e stop
+      window_stops IsWhole IsCut IsFirst IsCutAfter log longer most later first more cut_is p (Stopped why) w = stopped_after log longer why most (subst (λ z. PutsFirst of c sink old z n) (sym w.1) p) w.0 (cut_is why w.0)
       window_stops IsWhole IsCut IsFirst IsCutAfter log longer most later first more cut_is p Write w =
           waiting_fails here there w.finished.frames.items (n + count) (more_waits w.finished w.adds.delivered p) longer e (n + count) (omega arith) most (stays_on d e kept.stays w.adds.delivered.keeps.stays) later w.failed w.cut (more w.finished w.adds)
-      window_stops IsWhole IsCut IsFirst IsCutAfter log longer most later first more cut_is p Memory w = ended_between log longer most (subst (λ z. PutsFirst holds feed faults ends c sink old z n) (sym w.1) p) first w.0 w.2
+      window_stops IsWhole IsCut IsFirst IsCutAfter log longer most later first more cut_is p Memory w = ended_between log longer most (subst (λ z. PutsFirst of c sink old z n) (sym w.1) p) first w.0 w.2

@@ -2,27 +2,26 @@
 use Rattle.std.proofs.Common.{◌≡◌, ℕ, zero, suc, ◌+◌, ◌-◌, ◌<◌, ◌≤◌, min, true, false, List, [], ◌++◌, length, slice_get, Option, Some, None, Result, Ok, Err, OnOk, IfErr, sym, refl, ap, ◌∙◌, subst, arith, eq-eqb, ne_eqb}
 use Rattle.std.specs.Prelude.{replicate}
 use Rattle.std.specs.Map.{keys_of}
-use Rattle.fv_plane.specs.declared.format.Info.{Info}
 use Rattle.fv_plane.specs.declared.key.Key.{Key}
 use Rattle.fv_plane.specs.Picture.{Picture}
 use Rattle.clip_graph.specs.Plan.{Application, IsPlan}
-use Rattle.serve_events.specs.declared.event.Event.{Event}
-use Rattle.serve_events.specs.declared.event.WindowStop.{WindowStop}
-use Rattle.serve_events.specs.Own.{names_source}
-use Rattle.serve_events.specs.SerialRun.{Serial, SerialWindows, serial_window, one_more_window, windows_after, serial_run}
-use Rattle.serve_events.specs.Windows.{WindowEvents}
-use Rattle.serve_events.specs.Work.{FailedWork}
+use Rattle.inst_table.specs.declared.held.Held.{Ghosts as HeldGhosts}
+use Rattle.serve_machine.specs.declared.event.Event.{Event}
+use Rattle.serve_machine.specs.declared.event.WindowStop.{WindowStop}
+use Rattle.serve_machine.specs.Own.{names_source}
+use Rattle.serve_machine.specs.SerialRun.{Serial, SerialWindows, serial_window, one_more_window, windows_after, serial_run}
+use Rattle.serve_machine.specs.Windows.{WindowEvents}
+use Rattle.serve_machine.specs.Work.{FailedWork}
 use Rattle.serve_core.specs.declared.answers.Finished.{Finished}
 use Rattle.serve_core.specs.Calls.{begun, ended}
 use Rattle.serve_core.specs.CoreValue.{CoreValue, Fixed}
 use Rattle.serve_core.specs.Kept.{leases_out}
 use Rattle.serve_core.specs.Runs.{IsRun}
 use Rattle.serve_core.specs.Sources.{shape_at}
-use Rattle.serve_worker.specs.Alone.{Alone}
-use Rattle.serve_worker.specs.Windows.{Fresh, Served, WindowCut}
-use Rattle.serve_worker.proofs.CallerLemmas.{places_kept}
-use Rattle.serve_worker.proofs.Tables.{none_leased, all_free}
-use Rattle.prefetch.specs.Journal.{AreFirst, AreCut}
+use Rattle.serve_alone.specs.Alone.{Alone}
+use Rattle.serve_alone.specs.Windows.{Fresh, Served, WindowCut}
+use Rattle.serve_core.proofs.Tables.{places_kept, none_leased, all_free}
+use Rattle.serve_machine.specs.SerialJournal.{AreFirst, AreCut}
 use Rattle.prefetch.specs.OneWindow.{with_window, WindowEnds}
 use Rattle.prefetch.specs.SerialWindows.{window_of, IsSerialWindow, IsAloneWindow, IsCutSerial, IsAloneCut, AreSerial}
 use Rattle.prefetch.specs.Windows.{frames_at}
@@ -53,40 +52,40 @@ module _ {I : Type 0} where
 
 -- AND ENDS
 
-module _ {I : Type 0} (holds : I → Option Info) (feed : I → Option (List Picture)) (faults : I → ℕ) (ends : I → ℕ → ℕ → ℕ → Type 0) where
-  pub ends_idle : (plan : List Application) (c1 c2 : CoreValue I) (count : ℕ) (r : Result (Unit {0}) WindowStop) → OnOk r (Served holds feed faults ends plan c1 count c2) → IfErr r (λ why. WindowCut holds feed faults ends plan c1 why c2) → (c2.claims ≡ []) × (leases_out c2.table ≡ 0)
+module _ {I : Type 0} (of : HeldGhosts I) where
+  pub ends_idle : (plan : List Application) (c1 c2 : CoreValue I) (count : ℕ) (r : Result (Unit {0}) WindowStop) → OnOk r (Served of plan c1 count c2) → IfErr r (λ why. WindowCut of plan c1 why c2) → (c2.claims ≡ []) × (leases_out c2.table ≡ 0)
   ends_idle plan c1 c2 count (Ok u) ok err = (ok.claims, none_leased c2.table ok.free)
   ends_idle plan c1 c2 count (Err why) ok err = (err.claims, none_leased c2.table err.free)
 
   module _ (c c1 c2 d : CoreValue I) (first count : ℕ) (plan : IsPlan c.fixed.plan) (root : c.fixed.root < length c.fixed.plan) (more : 0 < count) (begins : c1 ≡ begun c first count) (ends_it : d ≡ ended c2) (run : 0 < c2.fixed.count → IsRun c2) where
-    pub window_ends : (r : Result (Unit {0}) WindowStop) (finished : Finished) → OnOk r (Served holds feed faults ends c.fixed.plan c1 count c2) → IfErr r (λ why. WindowCut holds feed faults ends c.fixed.plan c1 why c2)
+    pub window_ends : (r : Result (Unit {0}) WindowStop) (finished : Finished) → OnOk r (Served of c.fixed.plan c1 count c2) → IfErr r (λ why. WindowCut of c.fixed.plan c1 why c2)
         → finished.frames.items ≡ c2.outputs.frames → finished.events.items ≡ c2.journal → finished.stop ≡ c2.stop → length finished.frames.items ≡ c2.fixed.count
         → ((j : ℕ) (x : Picture) → slice_get finished.frames.items j ≡ Some (Some x) → x.shape ≡ shape_at c2.fixed.plan c2.fixed.root)
-        → WindowEnds holds feed faults ends c (IsAloneWindow c first count) (IsAloneCut c first count) first count finished finished.stop d
+        → WindowEnds of c (IsAloneWindow c first count) (IsAloneCut c first count) first count finished finished.stop d
     window_ends (Ok u) finished ok err frames events stop size shapes =
         let running : finished.stop ≡ None = stop ∙ ok.stop ∙ ap (λ (z : CoreValue I). z.stop) begins in
         let same : serial_window c.fixed.plan c1.fixed.root c1.fixed.capacity (keys_of c1.cache) c1.fixed.first count ≡ window_of c first count = ap (λ (z : CoreValue I). serial_window c.fixed.plan z.fixed.root z.fixed.capacity (keys_of z.cache) z.fixed.first count) begins in
-        let stays = ended_stays holds feed faults ends c c1 c2 d first count plan begins ok.fixed ends_it ok.claims ok.free ok.held in
+        let stays = ended_stays of c c1 c2 d first count plan begins ok.fixed ends_it ok.claims ok.free ok.held in
         let fixed : c2.fixed ≡ (begun c first count).fixed = ok.fixed ∙ ap (λ (z : CoreValue I). z.fixed) begins in
-        let places = places_kept holds c1.table c2.table ok.held ∙ ap (λ (z : CoreValue I). keys_of z.table) begins in
+        let places = places_kept of.holds c1.table c2.table ok.held ∙ ap (λ (z : CoreValue I). keys_of z.table) begins in
         let made : finished.events.items ≡ (window_of c first count).events
         = events ∙ (ok.journal ∙ (ap (λ (z : CoreValue I). z.journal ++ (serial_window c.fixed.plan c1.fixed.root c1.fixed.capacity (keys_of c1.cache) c1.fixed.first count).events) begins ∙ ap (λ (s : Serial). s.events) same)) in
         let now = run (subst (λ (z : Fixed). 0 < z.count) (sym fixed) more) in
-        subst (λ s. WindowEnds holds feed faults ends c (IsAloneWindow c first count) (IsAloneCut c first count) first count finished s d) (sym running) (
-          window_delivered holds feed faults ends c c1 c2 d first count plan begins ok.fixed ends_it finished stays (λ book numbers s. (ok.right book numbers s).0) frames size shapes ok.steady ok.delivered,
+        subst (λ s. WindowEnds of c (IsAloneWindow c first count) (IsAloneCut c first count) first count finished s d) (sym running) (
+          window_delivered of c c1 c2 d first count plan begins ok.fixed ends_it finished stays (λ book numbers s. (ok.right book numbers s).0) frames size shapes ok.steady ok.delivered,
           record {
             serial = record { events_are = made; keys_are = ap (λ (z : CoreValue I). keys_of z.cache) ends_it ∙ (ok.keys ∙ ap (λ (s : Serial). s.keys) same) };
             crew = alone_window c c2 d first count plan root fixed places ends_it now finished.events.items events made (sym stop ∙ running) ok.delivered;
           },
         )
     window_ends (Err why) finished ok err frames events stop size shapes =
-        let stays = ended_stays holds feed faults ends c c1 c2 d first count plan begins err.fixed ends_it err.claims err.free err.held in
+        let stays = ended_stays of c c1 c2 d first count plan begins err.fixed ends_it err.claims err.free err.held in
         let fixed : c2.fixed ≡ (begun c first count).fixed = err.fixed ∙ ap (λ (z : CoreValue I). z.fixed) begins in
-        let places = places_kept holds c1.table c2.table err.held ∙ ap (λ (z : CoreValue I). keys_of z.table) begins in
+        let places = places_kept of.holds c1.table c2.table err.held ∙ ap (λ (z : CoreValue I). keys_of z.table) begins in
         let cut = subst (FailedWork c.fixed.plan c.fixed.root 0 why) (sym (events ∙ (err.journal ∙ ap (λ (z : CoreValue I). z.journal ++ err.events) begins))) (subst (λ (z : CoreValue I). FailedWork c.fixed.plan z.fixed.root 0 why err.events) begins err.cut) in
         let now = run (subst (λ (z : Fixed). 0 < z.count) (sym fixed) more) in
-        subst (λ s. WindowEnds holds feed faults ends c (IsAloneWindow c first count) (IsAloneCut c first count) first count finished s d) (sym (stop ∙ err.stop)) (
-          window_stopped holds feed faults ends c c1 c2 d first count plan begins err.fixed ends_it why stays err.right err.ended,
+        subst (λ s. WindowEnds of c (IsAloneWindow c first count) (IsAloneCut c first count) first count finished s d) (sym (stop ∙ err.stop)) (
+          window_stopped of c c1 c2 d first count plan begins err.fixed ends_it why stays err.right err.ended,
           record {
             serial = record { cut = cut; named = err.named };
             crew = alone_cut c c2 d first count plan root fixed places ends_it now finished.events.items events why cut err.stop err.named;
@@ -94,8 +93,8 @@ module _ {I : Type 0} (holds : I → Option Info) (feed : I → Option (List Pic
         )
 
   -- what it leaves of the serial run alone
-  pub serial_ends : (c d : CoreValue I) (first count : ℕ) (finished : Finished) (stop : Option WindowStop) → WindowEnds holds feed faults ends c (IsAloneWindow c first count) (IsAloneCut c first count) first count finished stop d
-      → WindowEnds holds feed faults ends c (IsSerialWindow c first count) (IsCutSerial c) first count finished stop d
+  pub serial_ends : (c d : CoreValue I) (first count : ℕ) (finished : Finished) (stop : Option WindowStop) → WindowEnds of c (IsAloneWindow c first count) (IsAloneCut c first count) first count finished stop d
+      → WindowEnds of c (IsSerialWindow c first count) (IsCutSerial c) first count finished stop d
   serial_ends c d first count finished None w = (w.0, w.1.serial)
   serial_ends c d first count finished (Some why) w = (w.0, w.1.serial)
 

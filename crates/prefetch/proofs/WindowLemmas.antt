@@ -2,20 +2,20 @@
 use Rattle.std.proofs.Common.{◌≡◌, ℕ, suc, ◌+◌, ◌<◌, List, [], ◌∷◌, length, slice_get, Option, Some, None, sym, refl, ap, ◌∙◌, subst, arith}
 use Rattle.std.specs.Prelude.{All}
 use Rattle.std.proofs.lemmas.List.Elements.{All-nil, All-cons}
-use Rattle.fv_plane.specs.declared.format.Info.{Info}
 use Rattle.fv_plane.specs.declared.format.Shape.{Shape}
 use Rattle.fv_plane.specs.Picture.{Picture}
 use Rattle.clip_graph.specs.Plan.{Application, IsPlan}
 use Rattle.clip_graph.specs.Unfolding.{key_picture}
-use Rattle.serve_events.specs.declared.event.WindowStop.{WindowStop}
-use Rattle.serve_events.specs.Keys.{frame_key}
+use Rattle.inst_table.specs.declared.held.Held.{Ghosts as HeldGhosts}
+use Rattle.serve_machine.specs.declared.event.WindowStop.{WindowStop}
+use Rattle.serve_machine.specs.Keys.{frame_key}
 use Rattle.serve_core.specs.declared.answers.Finished.{Finished}
 use Rattle.serve_core.specs.Calls.{begun, ended}
 use Rattle.serve_core.specs.CoreValue.{CoreValue, Fixed}
 use Rattle.serve_core.specs.Sources.{shape_at, faults_of}
 use Rattle.serve_core.specs.Stands.{Book, Stands, StopFits, EndShows, CallsStand}
 use Rattle.serve_core.proofs.Standing.{calls_stand}
-use Rattle.serve_worker.specs.Alone.{AllFree, held_in, counts_in}
+use Rattle.serve_core.specs.Tables.{AllFree, held_in, counts_in}
 use Rattle.prefetch.specs.Clips.{pictures_from}
 use Rattle.prefetch.specs.OneWindow.{WindowDelivered, WindowStopped}
 use Rattle.prefetch.specs.Windows.{given, Stays}
@@ -40,26 +40,26 @@ given_right b plan root (Some x ∷ xs) at all right =
     let rest = given_right b plan root xs (at + 1) (λ j less. all (suc j) (omega arith)) (λ j y h. right (suc j) y h ∙ ap (λ n. key_picture b plan (frame_key root n)) (omega arith)) in
     λ i. here i ∷ rest i
 
-module _ {I : Type 0} (holds : I → Option Info) (feed : I → Option (List Picture)) (faults : I → ℕ) (ends : I → ℕ → ℕ → ℕ → Type 0) (c c1 c2 d : CoreValue I) (first count : ℕ) (plan : IsPlan c.fixed.plan)
+module _ {I : Type 0} (of : HeldGhosts I) (c c1 c2 d : CoreValue I) (first count : ℕ) (plan : IsPlan c.fixed.plan)
     (begins : c1 ≡ begun c first count) (same : c2.fixed ≡ c1.fixed) (ends_it : d ≡ ended c2) where
-  law : CallsStand feed faults
-  law = calls_stand feed faults
+  law : CallsStand of.feed of.faults
+  law = calls_stand of.feed of.faults
 
   fixed : c2.fixed ≡ (begun c first count).fixed
   fixed = same ∙ ap (λ (z : CoreValue I). z.fixed) begins
 
   -- the counts of faults when the window began
   abbrev counts : List ℕ
-  counts = faults_of faults c.fixed.plan c.table
+  counts = faults_of of.faults c.fixed.plan c.table
 
-  begun_stands : (book : Book) (numbers : List ℕ) → Stands feed faults book numbers c → Stands feed faults book counts c1
-  begun_stands book numbers s = subst (Stands feed faults book counts) (sym begins) (law.begin_window book numbers c first count s plan)
+  begun_stands : (book : Book) (numbers : List ℕ) → Stands of.feed of.faults book numbers c → Stands of.feed of.faults book counts c1
+  begun_stands book numbers s = subst (Stands of.feed of.faults book counts) (sym begins) (law.begin_window book numbers c first count s plan)
 
-  ended_stands : (book : Book) (numbers : List ℕ) → Stands feed faults book numbers c2 → Stands feed faults book numbers d
-  ended_stands book numbers s = subst (Stands feed faults book numbers) (sym ends_it) (law.end_window book numbers c2 s)
+  ended_stands : (book : Book) (numbers : List ℕ) → Stands of.feed of.faults book numbers c2 → Stands of.feed of.faults book numbers d
+  ended_stands book numbers s = subst (Stands of.feed of.faults book numbers) (sym ends_it) (law.end_window book numbers c2 s)
 
-  pub ended_stays : c2.claims ≡ [] → AllFree c2.table → held_in holds c2.table ≡ held_in holds c1.table → Stays holds c d
-  ended_stays unclaimed free held = subst (Stays holds c) (sym ends_it) (record {
+  pub ended_stays : c2.claims ≡ [] → AllFree c2.table → held_in of.holds c2.table ≡ held_in of.holds c1.table → Stays of.holds c d
+  ended_stays unclaimed free held = subst (Stays of.holds c) (sym ends_it) (record {
     between = refl;
     plan = ap (λ z. z.plan) fixed;
     root = ap (λ z. z.root) fixed;
@@ -67,17 +67,17 @@ module _ {I : Type 0} (holds : I → Option Info) (feed : I → Option (List Pic
     capacity = ap (λ z. z.capacity) fixed;
     unclaimed = unclaimed;
     free = free;
-    held = held ∙ ap (λ (z : CoreValue I). held_in holds z.table) begins;
+    held = held ∙ ap (λ (z : CoreValue I). held_in of.holds z.table) begins;
   })
 
   -- the instances have failed as often as before the window, where they did in it
-  pub ended_steady : counts_in faults c2.table ≡ counts_in faults c1.table → counts_in faults d.table ≡ counts_in faults c.table
-  ended_steady steady = ap (λ (z : CoreValue I). counts_in faults z.table) ends_it ∙ (steady ∙ ap (λ (z : CoreValue I). counts_in faults z.table) begins)
+  pub ended_steady : counts_in of.faults c2.table ≡ counts_in of.faults c1.table → counts_in of.faults d.table ≡ counts_in of.faults c.table
+  ended_steady steady = ap (λ (z : CoreValue I). counts_in of.faults z.table) ends_it ∙ (steady ∙ ap (λ (z : CoreValue I). counts_in of.faults z.table) begins)
 
-  module _ (finished : Finished) (stays : Stays holds c d) (right : (book : Book) (numbers : List ℕ) → Stands feed faults book numbers c1 → Stands feed faults book numbers c2)
+  module _ (finished : Finished) (stays : Stays of.holds c d) (right : (book : Book) (numbers : List ℕ) → Stands of.feed of.faults book numbers c1 → Stands of.feed of.faults book numbers c2)
       (frames : finished.frames.items ≡ c2.outputs.frames) (size : length finished.frames.items ≡ c2.fixed.count)
       (shapes : (j : ℕ) (x : Picture) → slice_get finished.frames.items j ≡ Some (Some x) → x.shape ≡ shape_at c2.fixed.plan c2.fixed.root) where
-    pub window_delivered : counts_in faults c2.table ≡ counts_in faults c1.table → ((j : ℕ) → j < count → (x : Picture) × (slice_get c2.outputs.frames j ≡ Some (Some x))) → WindowDelivered holds feed faults ends c first count finished d
+    pub window_delivered : counts_in of.faults c2.table ≡ counts_in of.faults c1.table → ((j : ℕ) → j < count → (x : Picture) × (slice_get c2.outputs.frames j ≡ Some (Some x))) → WindowDelivered of c first count finished d
     window_delivered steady delivered =
         let many : length finished.frames.items ≡ count = size ∙ ap (λ z. z.count) fixed in
         let all : (j : ℕ) → j < length finished.frames.items → (x : Picture) × (slice_get finished.frames.items j ≡ Some (Some x)) = λ j less. let one = delivered j (omega arith) in (one.0, ap (λ l. slice_get l j) frames ∙ one.1) in
@@ -90,15 +90,15 @@ module _ {I : Type 0} (holds : I → Option Info) (feed : I → Option (List Pic
           keeps = record { stays = stays; stands = λ book numbers s. record { numbers = counts; stands = ended_stands book counts (right book counts (begun_stands book numbers s)); with_it = tt }; steady = ended_steady steady };
         }
 
-  pub window_stopped : (why : WindowStop) → Stays holds c d → ((book : Book) (numbers : List ℕ) → Stands feed faults book numbers c1 → Stands feed faults book numbers c2 × StopFits feed faults book numbers c.fixed.plan c2.table why)
-      → EndShows ends c2.table why → WindowStopped holds feed faults ends c why d
+  pub window_stopped : (why : WindowStop) → Stays of.holds c d → ((book : Book) (numbers : List ℕ) → Stands of.feed of.faults book numbers c1 → Stands of.feed of.faults book numbers c2 × StopFits of.feed of.faults book numbers c.fixed.plan c2.table why)
+      → EndShows of.ends c2.table why → WindowStopped of c why d
   window_stopped why stays right shows = record {
     stays = stays;
-    ended = subst (λ (z : CoreValue I). EndShows ends z.table why) (sym ends_it) shows;
+    ended = subst (λ (z : CoreValue I). EndShows of.ends z.table why) (sym ends_it) shows;
     stands = λ book numbers s.
         let both = right book counts (begun_stands book numbers s) in record {
           numbers = counts;
           stands = ended_stands book counts both.0;
-          with_it = subst (λ (z : CoreValue I). StopFits feed faults book counts c.fixed.plan z.table why) (sym ends_it) both.1;
+          with_it = subst (λ (z : CoreValue I). StopFits of.feed of.faults book counts c.fixed.plan z.table why) (sym ends_it) both.1;
         };
   }

@@ -3,23 +3,23 @@ use Rattle.std.proofs.Common.{◌≡◌, ◌⊎◌, ℕ, zero, suc, ◌<◌, ◌
 use Rattle.std.proofs.lemmas.List.{append_assoc}
 use Rattle.std.proofs.lemmas.List.Elements.{Contains-append_left, Contains-append_right, Contains-push}
 use Rattle.clip_graph.specs.Plan.{Application, IsPlan}
-use Rattle.serve_events.specs.declared.event.Event.{Event}
-use Rattle.serve_events.specs.declared.event.Event.TheVariants.{Hit, Claim, Enter, Leave, Evict, Publish, Abandon, Take, Deliver, Fail}
-use Rattle.serve_events.specs.declared.event.WindowStop.{WindowStop}
-use Rattle.serve_events.specs.declared.event.WindowStop.TheVariants.{Read, Changed}
-use Rattle.serve_events.specs.Events.{worker_of}
-use Rattle.serve_events.specs.Own.{own_events, names_source}
-use Rattle.serve_events.specs.Work.{FailedWork, failed, StoppedWork, CutWork}
+use Rattle.serve_machine.specs.declared.event.Event.{Event}
+use Rattle.serve_machine.specs.declared.event.Event.TheVariants.{Hit, Claim, Enter, Leave, Evict, Publish, Abandon, Take, Deliver, Fail}
+use Rattle.serve_machine.specs.declared.event.WindowStop.{WindowStop}
+use Rattle.serve_machine.specs.declared.event.WindowStop.TheVariants.{Read, Changed}
+use Rattle.serve_machine.specs.Events.{worker_of}
+use Rattle.serve_machine.specs.Own.{own_events, names_source}
+use Rattle.serve_machine.specs.Work.{FailedWork, failed, StoppedWork, CutWork}
 use Rattle.serve_machine.specs.Closing.{nothing}
 use Rattle.serve_machine.specs.Holdings.{Holdings, holdings_after, own_holdings, next_holdings}
 use Rattle.serve_machine.specs.Stops.{stop_of, earlier, first_stop, is_read, has_read, is_changed, has_changed}
 use Rattle.serve_machine.specs.Machine.{Machine, meets, allowed, change, replay}
 use Rattle.serve_machine.specs.State.{State}
 use Rattle.inst_table.proofs.CallerLemmas.{test}
-use Rattle.serve_events.proofs.KeyLemmas.{left_true, right_true}
+use Rattle.serve_machine.proofs.KeyLemmas.{left_true, right_true}
 use Rattle.serve_machine.proofs.ClosingLemmas.{work_closes}
 use Rattle.serve_machine.proofs.TruthLemmas.{or_true, some_same}
-use Rattle.serve_shared.specs.Shares.{DeliversAll, IsWork}
+use Rattle.serve_machine.specs.Worked.{DeliversAll, IsWork}
 
 -- STOPS
 

@@ -5,11 +5,12 @@ use Rattle.fv_plane.specs.Clip.{Clip}
 use Rattle.fv_plane.specs.Picture.{Picture}
 use Rattle.clip_graph.specs.Plan.{Application, application_at}
 use Rattle.clip_graph.specs.Unfolding.{key_picture}
-use Rattle.serve_events.specs.Keys.{frame_key}
+use Rattle.serve_machine.specs.Keys.{frame_key}
 
 -- so many of the node's pictures from a number on, by the pictures of the sources
 abbrev pub pictures_from : List (List Picture) → List Application → ℕ → ℕ → ℕ → List Picture
-pictures_from book plan root first count = map (λ n. key_picture book plan (frame_key root n)) (range_with_len first count)
+pictures_from book plan root first count =
+    map (λ n. key_picture book plan (frame_key root n)) (range_with_len first count)
 
 abbrev pub clip_at : List (List Picture) → List Application → ℕ → Clip
 clip_at book plan root = record {

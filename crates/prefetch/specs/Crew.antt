@@ -1,22 +1,22 @@
 -- Windows by several workers: their seats at the lock, and the runs that they leave.
-use Rattle.std.specs.Prelude.{◌≡◌, ℕ, ◌+◌, ◌<◌, ◌≤◌, false, List, [], Contains, slice_get, Option, Some, IfSome}
+use Rattle.std.specs.Prelude.{◌≡◌, ℕ, ◌+◌, ◌<◌, ◌≤◌, false, List, [], Contains, slice_get, Some, IfSome}
 use Rattle.std.specs.Map.{keys_of}
-use Rattle.fv_plane.specs.Picture.{Picture}
 use Rattle.clip_graph.specs.Plan.{Application}
+use Rattle.inst_table.specs.declared.held.Held.{Ghosts as HeldGhosts}
 use Rattle.turn_lock.specs.declared.view.Ended.{Ended}
 use Rattle.turn_lock.specs.SeatView.{TableId}
-use Rattle.serve_events.specs.declared.event.Event.{Event}
-use Rattle.serve_events.specs.declared.event.WindowStop.{WindowStop}
-use Rattle.serve_events.specs.Own.{own_events}
-use Rattle.serve_events.specs.Windows.{WindowEvents}
+use Rattle.serve_machine.specs.declared.event.Event.{Event}
+use Rattle.serve_machine.specs.declared.event.WindowStop.{WindowStop}
+use Rattle.serve_machine.specs.Own.{own_events}
+use Rattle.serve_machine.specs.Windows.{WindowEvents}
 use Rattle.serve_machine.specs.State.{State}
 use Rattle.serve_core.specs.CoreValue.{CoreValue}
 use Rattle.serve_core.specs.Runs.{keys_alone}
 use Rattle.serve_core.specs.Steady.{IsSteady}
 use Rattle.serve_core.specs.Turns.{StandsFor}
 use Rattle.serve_shared.specs.Seats.{CoreSeat, HasWorker, IsSeat}
-use Rattle.serve_shared.specs.Shares.{IsWork}
-use Rattle.prefetch.specs.CrewJournal.{IsWholeWindow, IsCutWindow, AreWhole}
+use Rattle.serve_machine.specs.Worked.{IsWork}
+use Rattle.serve_machine.specs.CrewJournal.{IsWholeWindow, IsCutWindow, AreWhole}
 use Rattle.prefetch.specs.Windows.{frames_at}
 
 -- the seat of this number was joined: its events are work, by all that it had seen
@@ -72,10 +72,9 @@ module _ {I : Type 0} where
     pub workers : HasWorkers s.fixed.plan s.fixed.workers s
 
   -- the window that began with the core s came to its end: the events of each worker are work
-  pub record WorkIsDone (feed : I → Option (List Picture)) (faults : I → ℕ) (ends : I → ℕ → ℕ → ℕ → Type 0)
-      (s c : CoreValue I) : Type 0 where
-    pub stands : StandsFor feed faults ends c s
-    pub steady : IsSteady faults c s
+  pub record WorkIsDone (of : HeldGhosts I) (s c : CoreValue I) : Type 0 where
+    pub stands : StandsFor of.feed of.faults of.ends c s
+    pub steady : IsSteady of.faults c s
     pub work : (w : ℕ) → w < s.fixed.workers
         → IsWork s.fixed.plan s.fixed.root s.fixed.count w c.journal (own_events w c.journal)
 

@@ -2,10 +2,10 @@
 use Rattle.std.specs.Prelude.{◌≡◌, ◌⊎◌, ℕ, List, Option}
 use Rattle.fv_io.specs.declared.sink.Sink.{Ghosts}
 use Rattle.fv_io.specs.Sink.{Puts, PutsPrefix, SinkFailed}
-use Rattle.fv_plane.specs.declared.format.Info.{Info}
 use Rattle.fv_plane.specs.Picture.{Picture}
-use Rattle.serve_events.specs.declared.event.WindowStop.{WindowStop}
-use Rattle.serve_events.specs.Windows.{WindowEvents}
+use Rattle.inst_table.specs.declared.held.Held.{Ghosts as HeldGhosts}
+use Rattle.serve_machine.specs.declared.event.WindowStop.{WindowStop}
+use Rattle.serve_machine.specs.Windows.{WindowEvents}
 use Rattle.serve_core.specs.declared.answers.Finished.{Finished}
 use Rattle.serve_core.specs.CoreValue.{CoreValue}
 use Rattle.prefetch.specs.declared.stops.RenderStop.{RenderStop}
@@ -14,22 +14,21 @@ use Rattle.prefetch.specs.Crew.{IsCrewWindow, IsCutCrew}
 use Rattle.prefetch.specs.OneWindow.{WindowStopped, AddsWindow, CutsWindow}
 use Rattle.prefetch.specs.Windows.{given, pictures_text}
 
-module _ {I : Type 0} (holds : I → Option Info) (feed : I → Option (List Picture)) (faults : I → ℕ)
-    (ends : I → ℕ → ℕ → ℕ → Type 0) (c : CoreValue I) (first count : ℕ) (log longer : List WindowEvents)
+module _ {I : Type 0} (of : HeldGhosts I) (c : CoreValue I) (first count : ℕ) (log longer : List WindowEvents)
     (d : CoreValue I) where
   -- the window is whole, and stands in the journal
   abbrev pub AddsCrewWindow : Finished → Type 0
-  AddsCrewWindow = AddsWindow holds feed faults ends c (IsCrewWindow c first count) (IsCutCrew c first count)
+  AddsCrewWindow = AddsWindow of c (IsCrewWindow c first count) (IsCutCrew c first count)
       first count log longer d
 
   -- it was cut short, and stands in the journal
   abbrev pub CutsCrewWindow : WindowStop → Type 0
-  CutsCrewWindow = CutsWindow holds feed faults ends c (IsCrewWindow c first count) (IsCutCrew c first count)
+  CutsCrewWindow = CutsWindow of c (IsCrewWindow c first count) (IsCutCrew c first count)
       first count log longer d
 
   -- it could not begin, or was cut short, and is left out of the journal
   abbrev pub LeavesOut : Type 0
-  LeavesOut = (longer ≡ log) × ((d ≡ c) ⊎ ((why : WindowStop) × WindowStopped holds feed faults ends c why d))
+  LeavesOut = (longer ≡ log) × ((d ≡ c) ⊎ ((why : WindowStop) × WindowStopped of c why d))
 
   module _ {K : Type 0} (sink : Ghosts K) (before : List (Option Picture)) (old new : K) where
     -- the frames before were put, and the window is whole: these are its frames

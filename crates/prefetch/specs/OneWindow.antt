@@ -3,16 +3,16 @@ use Rattle.std.specs.Prelude.{◌≡◌, ℕ, List, [], ◌∷◌, ◌++◌, len
 use Rattle.fv_io.specs.declared.source.Failed.{Failed}
 use Rattle.fv_io.specs.declared.sink.Sink.{Ghosts}
 use Rattle.fv_io.specs.Sink.{Puts, PutsPrefix, IsLater, SinkFailed}
-use Rattle.fv_plane.specs.declared.format.Info.{Info}
 use Rattle.fv_plane.specs.Picture.{Picture}
-use Rattle.serve_events.specs.declared.event.Event.{Event}
-use Rattle.serve_events.specs.declared.event.WindowStop.{WindowStop}
-use Rattle.serve_events.specs.Windows.{WindowEvents}
+use Rattle.inst_table.specs.declared.held.Held.{Ghosts as HeldGhosts}
+use Rattle.serve_machine.specs.declared.event.Event.{Event}
+use Rattle.serve_machine.specs.declared.event.WindowStop.{WindowStop}
+use Rattle.serve_machine.specs.Windows.{WindowEvents}
 use Rattle.serve_core.specs.declared.answers.Finished.{Finished}
 use Rattle.serve_core.specs.CoreValue.{CoreValue}
 use Rattle.serve_core.specs.Sources.{shape_at}
 use Rattle.serve_core.specs.Stands.{Book, Stands, StopFits, EndShows}
-use Rattle.serve_worker.specs.Alone.{counts_in}
+use Rattle.serve_core.specs.Tables.{counts_in}
 use Rattle.prefetch.specs.declared.stops.RenderStop.{RenderStop}
 use Rattle.prefetch.specs.declared.stops.RenderStop.TheVariants.{Stopped, Write, Memory}
 use Rattle.prefetch.specs.Clips.{pictures_from}
@@ -41,29 +41,28 @@ module _ {K : Type 0} (sink : Ghosts K) (old new : K) where
       × PutsPrefix sink old new (pictures_text (given finished.frames.items))
   PutStops finished Memory = ⊥
 
-module _ {I : Type 0} (holds : I → Option Info) (feed : I → Option (List Picture)) (faults : I → ℕ)
-    (ends : I → ℕ → ℕ → ℕ → Type 0) (c : CoreValue I) where
+module _ {I : Type 0} (of : HeldGhosts I) (c : CoreValue I) where
   -- a core between windows, which stands for what c stood, and in which each instance has failed as often as in c
   pub record Keeps (d : CoreValue I) : Type 0 where
-    pub stays : Stays holds c d
-    pub stands : (book : Book) (numbers : List ℕ) → Stands feed faults book numbers c
-        → StandsStill feed faults (λ now. Unit {0}) book d
-    pub steady : counts_in faults d.table ≡ counts_in faults c.table
+    pub stays : Stays of.holds c d
+    pub stands : (book : Book) (numbers : List ℕ) → Stands of.feed of.faults book numbers c
+        → StandsStill of (λ now. Unit {0}) book d
+    pub steady : counts_in of.faults d.table ≡ counts_in of.faults c.table
 
   -- all outputs of a window are delivered
   pub record WindowDelivered (first count : ℕ) (finished : Finished) (d : CoreValue I) : Type 0 where
     pub all : length (given finished.frames.items) ≡ count
     pub shapes : All (λ (x : Picture). x.shape ≡ shape_at c.fixed.plan c.fixed.root) (given finished.frames.items)
-    pub right : (b : List (List Picture)) (numbers : List ℕ) → Stands feed faults (Some b) numbers c
+    pub right : (b : List (List Picture)) (numbers : List ℕ) → Stands of.feed of.faults (Some b) numbers c
         → given finished.frames.items ≡ pictures_from b c.fixed.plan c.fixed.root first count
     pub keeps : Keeps d
 
   -- or it was cut short by this stop
   pub record WindowStopped (why : WindowStop) (d : CoreValue I) : Type 0 where
-    pub stays : Stays holds c d
-    pub ended : EndShows ends d.table why
-    pub stands : (book : Book) (numbers : List ℕ) → Stands feed faults book numbers c
-        → StandsStill feed faults (λ now. StopFits feed faults book now c.fixed.plan d.table why) book d
+    pub stays : Stays of.holds c d
+    pub ended : EndShows of.ends d.table why
+    pub stands : (book : Book) (numbers : List ℕ) → Stands of.feed of.faults book numbers c
+        → StandsStill of (λ now. StopFits of.feed of.faults book now c.fixed.plan d.table why) book d
 
   -- events of a window that is whole and left a core, or that was cut short, are of some kind
   module _ (IsWhole : List Event → CoreValue I → Type 0) (IsCut : WindowStop → List Event → Type 0) (first count : ℕ)

@@ -1,12 +1,12 @@
 -- Windows by one worker: their events are those of the serial run, which are a run of the machine too.
 use Rattle.std.specs.Prelude.{◌≡◌, ℕ, ◌≤◌, true, List}
 use Rattle.std.specs.Map.{keys_of}
-use Rattle.serve_events.specs.declared.event.Event.{Event}
-use Rattle.serve_events.specs.declared.event.WindowStop.{WindowStop}
-use Rattle.serve_events.specs.Own.{names_source}
-use Rattle.serve_events.specs.SerialRun.{Serial, serial_window, windows_after}
-use Rattle.serve_events.specs.Windows.{WindowEvents}
-use Rattle.serve_events.specs.Work.{FailedWork}
+use Rattle.serve_machine.specs.declared.event.Event.{Event}
+use Rattle.serve_machine.specs.declared.event.WindowStop.{WindowStop}
+use Rattle.serve_machine.specs.Own.{names_source}
+use Rattle.serve_machine.specs.SerialRun.{Serial, serial_window, windows_after}
+use Rattle.serve_machine.specs.Windows.{WindowEvents}
+use Rattle.serve_machine.specs.Work.{FailedWork}
 use Rattle.serve_core.specs.CoreValue.{CoreValue}
 use Rattle.prefetch.specs.Crew.{IsCrewWindow, IsCutCrew}
 use Rattle.prefetch.specs.Windows.{frames_at}

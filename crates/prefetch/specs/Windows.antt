@@ -8,16 +8,17 @@ use Rattle.fv_plane.specs.Bytes.{bytes_of}
 use Rattle.fv_plane.specs.Picture.{Picture}
 use Rattle.y4m_stream.specs.Stream.{frames_text}
 use Rattle.clip_graph.specs.Plan.{Application, application_at}
-use Rattle.serve_events.specs.declared.event.WindowStop.{WindowStop}
-use Rattle.serve_events.specs.Windows.{WindowEvents}
+use Rattle.inst_table.specs.declared.held.Held.{Ghosts as HeldGhosts}
+use Rattle.serve_machine.specs.declared.event.WindowStop.{WindowStop}
+use Rattle.serve_machine.specs.Windows.{WindowEvents}
 use Rattle.serve_core.specs.CoreValue.{CoreValue}
 use Rattle.serve_core.specs.Sources.{shape_at}
 use Rattle.serve_core.specs.Stands.{Book, Stands, StopFits, EndShows}
-use Rattle.serve_worker.specs.Alone.{AllFree, held_in, counts_in}
+use Rattle.serve_core.specs.Tables.{AllFree, held_in, counts_in}
 use Rattle.prefetch.specs.declared.stops.RenderStop.{RenderStop}
 use Rattle.prefetch.specs.declared.stops.RenderStop.TheVariants.{Stopped, Write, Memory}
 use Rattle.prefetch.specs.Clips.{pictures_from}
-use Rattle.prefetch.specs.CrewJournal.{AreCrewFirst, AreCrewCut, IsAloneJournal, AreAloneFirst, AreAloneCut}
+use Rattle.serve_machine.specs.CrewJournal.{AreCrewFirst, AreCrewCut, IsAloneJournal, AreAloneFirst, AreAloneCut}
 
 -- the frames that are there
 abbrev pub given : {A : Type 0} → List (Option A) → List A
@@ -45,15 +46,14 @@ module _ {I : Type 0} (holds : I → Option Info) (c : CoreValue I) where
     pub free : AllFree d.table
     pub held : held_in holds d.table ≡ held_in holds c.table
 
-module _ {I : Type 0} (feed : I → Option (List Picture)) (faults : I → ℕ) where
+module _ {I : Type 0} (of : HeldGhosts I) where
   -- a core stands for this book, with numbers of which something holds
   pub record StandsStill (P : List ℕ → Type 0) (book : Book) (d : CoreValue I) : Type 0 where
     pub numbers : List ℕ
-    pub stands : Stands feed faults book numbers d
+    pub stands : Stands of.feed of.faults book numbers d
     pub with_it : P numbers
 
-module _ {I : Type 0} (holds : I → Option Info) (feed : I → Option (List Picture)) (faults : I → ℕ)
-    (ends : I → ℕ → ℕ → ℕ → Type 0) (c : CoreValue I) where
+module _ {I : Type 0} (of : HeldGhosts I) (c : CoreValue I) where
   module _ {K : Type 0} (sink : Ghosts K) where
     module _ (old new : K) where
       -- the first n frames of the root were put
@@ -61,46 +61,46 @@ module _ {I : Type 0} (holds : I → Option Info) (feed : I → Option (List Pic
         pub pictures : List Picture
         pub count : length pictures ≡ n
         pub shapes : All (λ (x : Picture). x.shape ≡ shape_at c.fixed.plan c.fixed.root) pictures
-        pub right : (b : List (List Picture)) (numbers : List ℕ) → Stands feed faults (Some b) numbers c
+        pub right : (b : List (List Picture)) (numbers : List ℕ) → Stands of.feed of.faults (Some b) numbers c
             → pictures ≡ pictures_from b c.fixed.plan c.fixed.root 0 n
         pub put : Puts sink old new (pictures_text pictures)
 
       -- all frames were put, no instance has failed, and the journal is of a kind
       pub record AllRendered (IsWhole : List WindowEvents → Type 0) (windows : List WindowEvents) (d : CoreValue I)
           : Type 0 where
-        pub stays : Stays holds c d
+        pub stays : Stays of.holds c d
         pub put : PutsFirst (frames_at c.fixed.plan c.fixed.root)
         pub journal : IsWhole windows
-        pub steady : counts_in faults d.table ≡ counts_in faults c.table
+        pub steady : counts_in of.faults d.table ≡ counts_in of.faults c.table
 
       -- the window of the next outputs was cut short by this stop, and its frames were not put
       pub record StoppedAfter (IsCut : WindowStop → List WindowEvents → ℕ → Type 0) (windows : List WindowEvents)
           (why : WindowStop) (d : CoreValue I) : Type 0 where
-        pub stays : Stays holds c d
+        pub stays : Stays of.holds c d
         pub count : ℕ
         pub few : count ≤ frames_at c.fixed.plan c.fixed.root
         pub put : PutsFirst count
         pub journal : IsCut why windows count
-        pub ended : EndShows ends d.table why
-        pub stands : (book : Book) (numbers : List ℕ) → Stands feed faults book numbers c
-            → StandsStill feed faults (λ now. StopFits feed faults book now c.fixed.plan d.table why) book d
+        pub ended : EndShows of.ends d.table why
+        pub stands : (book : Book) (numbers : List ℕ) → Stands of.feed of.faults book numbers c
+            → StandsStill of (λ now. StopFits of.feed of.faults book now c.fixed.plan d.table why) book d
 
       -- the sink failed, and no window was cut short
       pub record FailedAfter (IsFirst : List WindowEvents → ℕ → Type 0) (windows : List WindowEvents) (d : CoreValue I)
           : Type 0 where
-        pub stays : Stays holds c d
+        pub stays : Stays of.holds c d
         pub count : ℕ
         pub few : count ≤ frames_at c.fixed.plan c.fixed.root
         pub failed : SinkFailed sink old new
         pub begun : (front : List ℕ) × Puts sink old new front
-        pub cut : (b : List (List Picture)) (numbers : List ℕ) → Stands feed faults (Some b) numbers c
+        pub cut : (b : List (List Picture)) (numbers : List ℕ) → Stands of.feed of.faults (Some b) numbers c
             → PutsPrefix sink old new (pictures_text (pictures_from b c.fixed.plan c.fixed.root 0 count))
         pub journal : IsFirst windows count
 
       -- memory ran out between two windows, and none was cut short
       pub record EndedBetween (IsFirst : List WindowEvents → ℕ → Type 0) (windows : List WindowEvents) (d : CoreValue I)
           : Type 0 where
-        pub stays : Stays holds c d
+        pub stays : Stays of.holds c d
         pub count : ℕ
         pub few : count ≤ frames_at c.fixed.plan c.fixed.root
         pub put : PutsFirst count

@@ -1,13 +1,12 @@
 // Windows by several workers, one after the other.
-ghost use Rattle.std.specs.Prelude.{◌≡◌, ◌+◌, ◌-◌, ◌<◌, ◌≤◌, min, [], length, OnOk, OnErr, IfOk, IfErr};
+ghost use Rattle.std.specs.Prelude.{◌≡◌, ◌+◌, ◌-◌, ◌<◌, ◌≤◌, min, [], OnOk, OnErr, IfOk, IfErr};
 ghost use Rattle.std.specs.Vec.{vec_capacity, vec_len};
 ghost use Rattle.fv_io.specs.Sink.{IsLater};
-ghost use Rattle.clip_graph.specs.Plan.{IsPlan};
-ghost use Rattle.serve_events.specs.Windows.{windows_of};
-ghost use Rattle.serve_core.specs.Kept.{leases_out};
+ghost use Rattle.serve_machine.specs.Windows.{windows_of};
 ghost use Rattle.prefetch.specs.declared.stops.RenderStop.TheVariants.{Write, Memory};
 ghost use Rattle.prefetch.specs.NextWindow.{MakesNext, NextShows};
-ghost use Rattle.prefetch.specs.Windows.{frames_at, CrewRendersAll, CrewStops};
+ghost use Rattle.prefetch.specs.Starts.{IsAtRest, IsWindowSize, MayBegin};
+ghost use Rattle.prefetch.specs.Windows.{CrewRendersAll, CrewStops};
 
 use crate::crew_window::run_crew_window;
 use crate::finished::keep_events;
@@ -15,10 +14,9 @@ use crate::frames::put_frames;
 use crate::stops::RenderStop;
 use fv_io::{Failed, Sink};
 use fv_plane::Frame;
-use serve_core::{Core, Finished};
-use serve_events::Record;
+use serve_core::{Core, Finished, Works};
+use serve_machine::Record;
 use serve_shared::Gate;
-use serve_worker::Works;
 use std::alloc::{AllocError, Global};
 use std::sync::Wait;
 use std::thread::Threads;
@@ -48,17 +46,11 @@ fn render_crew_window<R: Threads + Wait + Sync, I: Works + Send, K: Sink, G: Gat
     frames: Vec<Option<Frame>>,
     journal: &mut Record,
 ) -> (Core<I>, Result<Vec<Option<Frame>>, RenderStop>)
-    requires between { core.fixed.count ≡ 0 }
+    requires may { MayBegin core first count }
     requires workers { core.fixed.workers ≡ threads }
-    requires plan { IsPlan core.fixed.plan }
-    requires root { core.fixed.root < length core.fixed.plan }
-    requires some_workers { 0 < threads }
-    requires some { 0 < count }
-    requires few { count ≤ 32 }
-    requires numbers { first + count ≤ frames_at core.fixed.plan core.fixed.root }
-    ensures ok { IfOk result.1 (λ next. MakesNext I.holds I.feed I.faults I.ends core first count
+    ensures ok { IfOk result.1 (λ next. MakesNext I.Held core first count
         (windows_of journal.old) (windows_of journal.new) result.0 K.Sink frames.items out.old out.new next.items) }
-    ensures stop { IfErr result.1 (NextShows I.holds I.feed I.faults I.ends core first count
+    ensures stop { IfErr result.1 (NextShows I.Held core first count
         (windows_of journal.old) (windows_of journal.new) result.0 K.Sink frames.items out.old out.new) }
     ensures later { IsLater K.Sink out.old out.new }
 {
@@ -104,18 +96,14 @@ pub fn render_crew<R: Threads + Wait + Sync, I: Works + Send, K: Sink, G: Gate>(
     out: &mut K,
     journal: &mut Record,
 ) -> (Core<I>, Result<(), RenderStop>)
-    requires between { core.fixed.count ≡ 0 }
-    requires unclaimed { core.claims ≡ [] }
-    requires unlent { leases_out core.table ≡ 0 }
+    requires rest { IsAtRest core }
     requires workers { core.fixed.workers ≡ threads }
     requires several { 1 < threads }
-    requires empty { core.cache ≡ [] }
-    requires some { 0 < window }
-    requires few { window ≤ 32 }
+    requires size { IsWindowSize window }
     requires fresh { windows_of journal.old ≡ [] }
-    ensures ok { OnOk result.1 (CrewRendersAll I.holds I.feed I.faults I.ends core K.Sink out.old out.new window
+    ensures ok { OnOk result.1 (CrewRendersAll I.Held core K.Sink out.old out.new window
         (windows_of journal.new) result.0) }
-    ensures stop { IfErr result.1 (λ stop. CrewStops I.holds I.feed I.faults I.ends core K.Sink out.old out.new
+    ensures stop { IfErr result.1 (λ stop. CrewStops I.Held core K.Sink out.old out.new
         window (windows_of journal.new) result.0 stop) }
     ensures later { IsLater K.Sink out.old out.new }
 {

@@ -3,21 +3,19 @@ ghost use Rattle.std.specs.Prelude.{◌≡◌, ◌+◌, ◌-◌, ◌<◌, ◌≤
 ghost use Rattle.std.specs.Arc.{arc_value};
 ghost use Rattle.std.specs.Vec.{vec_len};
 ghost use Rattle.std.specs.Thread.{IsSend, IsSync};
-ghost use Rattle.clip_graph.specs.Plan.{IsPlan};
 ghost use Rattle.prefetch.specs.Crew.{MayWork, WorkedAt, MayGather, IsGathered, IsNew, WorkIsDone};
 ghost use Rattle.prefetch.specs.Crew.{IsCrewWindow, IsCutCrew};
 ghost use Rattle.prefetch.specs.OneWindow.{PutsFrames, WindowEnds};
-ghost use Rattle.prefetch.specs.Windows.{frames_at};
+ghost use Rattle.prefetch.specs.Starts.{MayBegin};
 
 use crate::chore::{Chore, PutFrames};
 use crate::frames::put_frames;
 use clip_graph::Graph;
 use fv_io::{Failed, Sink};
 use fv_plane::Frame;
-use serve_core::{Core, Finished};
-use serve_events::WindowStop;
+use serve_core::{Core, Finished, Worker, Works};
+use serve_machine::WindowStop;
 use serve_shared::{Gate, run_shared};
-use serve_worker::{Worker, Works};
 use std::alloc::{AllocError, Global};
 use std::sync::{Arc, Wait};
 use std::thread;
@@ -96,7 +94,7 @@ fn shares_of(alloc: Global, graph: &Arc<Graph>, count: u32) -> Result<Vec<Arc<Gr
 // The window without a worker, for want of memory.
 fn without_workers<I: Works>(core: Core<I>) -> Core<I>
     requires fresh { IsNew core }
-    ensures worked { WorkIsDone I.feed I.faults I.ends core result }
+    ensures worked { WorkIsDone I.Held core result }
 {
     let mut core = core;
     core.fail(0, WindowStop::Memory);
@@ -116,7 +114,7 @@ fn run_crew<R: Threads + Wait + Sync, I: Works + Send, G: Gate, T: Chore>(
     requires some { 0 < workers }
     requires few { workers ≤ 32 }
     requires there { workers ≤ core.fixed.workers }
-    ensures worked { WorkIsDone I.feed I.faults I.ends core result.0 }
+    ensures worked { WorkIsDone I.Held core result.0 }
     ensures done { T.gives chore result.1 }
 {
     let Ok(graph) = Arc::try_clone(core.graph()) else {
@@ -152,16 +150,10 @@ pub(crate) fn run_crew_window<R: Threads + Wait + Sync, I: Works + Send, K: Sink
     out: &mut K,
     frames: Vec<Option<Frame>>,
 ) -> (Core<I>, Result<Finished, AllocError>, Result<(), Failed>)
-    requires between { core.fixed.count ≡ 0 }
+    requires may { MayBegin core first count }
     requires workers { core.fixed.workers ≡ threads }
-    requires plan { IsPlan core.fixed.plan }
-    requires root { core.fixed.root < length core.fixed.plan }
-    requires some_workers { 0 < threads }
-    requires some { 0 < count }
-    requires few { count ≤ 32 }
-    requires numbers { first + count ≤ frames_at core.fixed.plan core.fixed.root }
-    ensures ends { IfOk result.1 (λ finished. WindowEnds I.holds I.feed I.faults I.ends core
-        (IsCrewWindow core first count) (IsCutCrew core first count) first count finished finished.stop result.0) }
+    ensures ends { IfOk result.1 (λ finished. WindowEnds I.Held core (IsCrewWindow core first count)
+        (IsCutCrew core first count) first count finished finished.stop result.0) }
     ensures err { OnErr result.1 (result.0 ≡ core) }
     ensures put { PutsFrames K.Sink out.old out.new frames.items result.2 }
 {
@@ -178,7 +170,7 @@ pub(crate) fn run_crew_window<R: Threads + Wait + Sync, I: Works + Send, K: Sink
     let chore = PutFrames { out, frames };
     let (mut core, (out, frames, put)) = run_crew(rt, alloc, core, threads.min(count), gate, chore);
     take_back(out);
-    // Called for what its contract says.
+    // The instances keep their sources, and until the window ends its journal is a run.
     core.instances();
     core.account();
     let finished = core.end_window();

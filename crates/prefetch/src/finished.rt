@@ -2,7 +2,7 @@
 ghost use Rattle.std.specs.Prelude.{◌≡◌, ◌+◌, ◌<◌, ◌∷◌, ◌++◌, [], OnOk, IfErr};
 ghost use Rattle.std.specs.Vec.{vec_capacity, vec_len};
 ghost use Rattle.fv_io.specs.Sink.{IsLater};
-ghost use Rattle.serve_events.specs.Windows.{windows_of};
+ghost use Rattle.serve_machine.specs.Windows.{windows_of};
 ghost use Rattle.prefetch.specs.OneWindow.{with_window, PutsFinished, PutStops};
 
 use crate::frames::put_frames;
@@ -10,7 +10,7 @@ use crate::stops::RenderStop;
 use fv_io::{Failed, Sink};
 use inst_table::Held;
 use serve_core::{Core, Finished};
-use serve_events::{Event, Record, Windowed};
+use serve_machine::{Event, Record, Windowed};
 
 /// Keeps the events of a window in the journal, which has room for one. No memory is held beyond that of the events.
 pub(crate) fn keep_events(first: u32, count: u32, mut events: Vec<Event>, journal: &mut Record)

@@ -1,5 +1,5 @@
 // `RenderStop`: the stop of a window, a failed write, or out of memory.
-use serve_events::WindowStop;
+use serve_machine::WindowStop;
 
 /// Why not all frames were put.
 #[derive(Clone, Copy, Debug, PartialEq, Eq)]

@@ -1,3 +1,4 @@
 pub mod FinishLemmas
 pub mod PlaceLemmas
 pub mod LawfulLemmas
+pub mod CrewLemmas

@@ -12,10 +12,10 @@ use Rattle.frame_cache.proofs.CallerLemmas.{test, left_true, right_true}
 use Rattle.inst_table.specs.declared.place.Place.{Place}
 use Rattle.inst_table.specs.Places.{same_place}
 use Rattle.inst_table.proofs.CallerLemmas.{same_places}
-use Rattle.serve_events.specs.declared.event.Event.{Event}
-use Rattle.serve_events.specs.declared.event.Event.TheVariants.{Hit, Claim, Enter, Leave, Evict, Publish, Abandon, Take, Deliver, Fail}
-use Rattle.serve_events.specs.Events.{worker_of}
-use Rattle.serve_events.specs.Keys.{mode_at, instance_of}
+use Rattle.serve_machine.specs.declared.event.Event.{Event}
+use Rattle.serve_machine.specs.declared.event.Event.TheVariants.{Hit, Claim, Enter, Leave, Evict, Publish, Abandon, Take, Deliver, Fail}
+use Rattle.serve_machine.specs.Events.{worker_of}
+use Rattle.serve_machine.specs.Keys.{mode_at, instance_of}
 use Rattle.serve_machine.specs.Holdings.{leases_of}
 use Rattle.serve_machine.specs.Law.{start_of}
 use Rattle.serve_machine.specs.Machine.{Machine, meets, allowed, change, replay, in_turn}
@@ -24,8 +24,8 @@ use Rattle.serve_machine.specs.State.{State, place_named, claims_at, is_open, is
 use Rattle.serve_machine.proofs.HolderLemmas.{found_set, other_set}
 use Rattle.serve_machine.proofs.WorkerLists.{lease_taken, lease_back, lease_other, no_lease, lease_none, few_none}
 use Rattle.serve_machine.proofs.TruthLemmas.{some_same, open_none, held_some}
-use Rattle.run_law.specs.Journal.{places, machine_of}
-use Rattle.run_law.proofs.PlaceLemmas.{free, named_there}
+use Rattle.run_text.specs.Journal.{places, machine_of}
+use Rattle.run_text.proofs.PlaceLemmas.{free, named_there}
 use Rattle.run_agree.specs.Agrees.{PlacesServe}
 
 -- WHAT IS FREE

@@ -3,16 +3,16 @@ use Rattle.std.specs.Prelude.{◌≡◌, ℕ, ◌<◌, ◌≤◌, true, List, le
 use Rattle.std.specs.List.{AllByRecursion}
 use Rattle.clip_graph.specs.Plan.{Application, IsPlan}
 use Rattle.inst_table.specs.declared.place.Place.{Place}
-use Rattle.serve_events.specs.declared.event.Event.{Event}
-use Rattle.serve_events.specs.Own.{own_events}
-use Rattle.serve_events.specs.Work.{Deliveries}
+use Rattle.serve_machine.specs.declared.event.Event.{Event}
+use Rattle.serve_machine.specs.Own.{own_events}
+use Rattle.serve_machine.specs.Work.{Deliveries}
 use Rattle.serve_machine.specs.Law.{start_of}
 use Rattle.serve_machine.specs.Machine.{Machine, replay}
 use Rattle.serve_machine.specs.State.{State}
-use Rattle.serve_events.specs.Windows.{WindowEvents}
+use Rattle.serve_machine.specs.Windows.{WindowEvents}
 use Rattle.serve_machine.specs.Renders.{after_window}
 use Rattle.run_text.specs.Lines.{LineFits, journal_lines, journal_text}
-use Rattle.run_law.specs.Journal.{KeyCache, places, machine_of, is_finished, AreFinished, IsJournal}
+use Rattle.run_text.specs.Journal.{KeyCache, places, machine_of, is_finished, AreFinished, IsJournal}
 
 -- a worker's own events are whole work on some outputs
 abbrev pub IsWholeWork : List Application → ℕ → ℕ → List Event → Type 0

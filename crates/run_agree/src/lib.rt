@@ -1,7 +1,9 @@
-//! What is known of a window that is a run suffices for a lawful one: each worker's work is whole, and outputs delivered.
+//! Why what is printed is lawful: what is known of a window that is a run suffices for a lawful one, since each worker's work
+//! is whole and its outputs delivered. So the whole windows of every render are those of a journal.
 #![tactic(auto)]
 
 ghost use Rattle.run_agree.specs.Agrees.{WorkFinishes, PlacesServe, WholeCloses, FinishedIsLawful};
+ghost use Rattle.run_agree.specs.Crews.{CrewsFinish, CrewsAreLawful};
 
 /// A window that is a run, in which each worker's own events are whole work and each output is delivered, is finished.
 pub fn work_finishes()
@@ -21,4 +23,14 @@ pub fn whole_closes()
 /// The text of finished windows is a journal.
 pub fn finished_is_lawful()
     ensures { FinishedIsLawful }
+{}
+
+/// Whole windows of a crew are finished windows, one after the other.
+pub fn crews_finish()
+    ensures { CrewsFinish }
+{}
+
+/// The text of a crew's whole windows is a journal of the plan.
+pub fn crews_are_lawful()
+    ensures { CrewsAreLawful }
 {}

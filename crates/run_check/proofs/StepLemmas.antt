@@ -9,10 +9,10 @@ use Rattle.clip_graph.specs.Plan.{Application}
 use Rattle.run_text.specs.declared.line.Line.{Line}
 use Rattle.run_text.specs.Lines.{line_text, LineFits}
 use Rattle.run_text.proofs.ReadLemmas.{front_passes, end_past}
-use Rattle.run_law.specs.Progress.{Progress, next}
-use Rattle.run_law.proofs.LineLemmas.{plain}
-use Rattle.run_law.proofs.JudgeLemmas as j
-use Rattle.run_state.specs.Stages.{Goes}
+use Rattle.run_text.specs.Progress.{Progress, next}
+use Rattle.run_text.proofs.LineLemmas.{plain}
+use Rattle.run_text.proofs.JudgeLemmas as j
+use Rattle.run_check.specs.Stages.{Goes}
 use Rattle.run_check.specs.Steps.{StepsTo}
 
 test : (b : Bool) → (b ≡ true) ⊎ (b ≡ false)

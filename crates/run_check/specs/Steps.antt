@@ -3,8 +3,8 @@ use Rattle.std.specs.Prelude.{◌≡◌, ℕ, ◌<◌, ◌≤◌, List, [], ◌�
 use Rattle.clip_graph.specs.Plan.{Application}
 use Rattle.run_text.specs.declared.line.Line.{Line}
 use Rattle.run_text.specs.Lines.{line_text, LineFits}
-use Rattle.run_law.specs.Judging.{first_line}
-use Rattle.run_law.specs.Progress.{Progress, next}
+use Rattle.run_text.specs.Judging.{first_line}
+use Rattle.run_text.specs.Progress.{Progress, next}
 
 module _ (plan : List Application) (root capacity : ℕ) where
   -- no line that is spelled so may come next

@@ -1,11 +1,11 @@
 // `check_journal`: whether a text is a journal.
 ghost use Rattle.std.specs.Prelude.{◌<◌, length, IfOk};
-ghost use Rattle.run_law.specs.Judging.{Judges};
+ghost use Rattle.run_text.specs.Judging.{Judges};
 
 use crate::judging::judge;
+use crate::tracker::Tracker;
 use clip_graph::Graph;
-use run_law::Verdict;
-use run_state::Tracker;
+use run_text::Verdict;
 use std::alloc::{AllocError, Global};
 
 /// Whether a text is a journal of this root with a cache of `cache` frames, of which a render has 1 to 256. `No` names

@@ -2,15 +2,14 @@
 ghost use Rattle.std.specs.Prelude.{◌≡◌, ◌==◌, ◌<◌, ◌≤◌, ℕ, length, IfOk, IfSome};
 ghost use Rattle.std.specs.List.{position};
 ghost use Rattle.clip_graph.specs.Plan.{IsPlan};
-ghost use Rattle.run_law.specs.Judging.{Judges};
-ghost use Rattle.run_law.specs.Progress.{Progress, unread};
-ghost use Rattle.run_state.specs.Stages.{StandsFor};
+ghost use Rattle.run_text.specs.Judging.{Judges};
+ghost use Rattle.run_text.specs.Progress.{Progress, unread};
+ghost use Rattle.run_check.specs.Stages.{StandsFor};
 ghost use Rattle.run_check.specs.Steps.{StepsTo};
 
+use crate::tracker::Tracker;
 use clip_graph::Graph;
-use run_law::Verdict;
-use run_state::Tracker;
-use run_text::read_line;
+use run_text::{Verdict, read_line};
 use std::alloc::AllocError;
 
 fn first_newline(text: &[u8]) -> Option<usize>

@@ -8,14 +8,14 @@ use Rattle.fv_plane.specs.declared.key.Key.{Key}
 use Rattle.clip_graph.specs.Plan.{Application, IsPlan}
 use Rattle.clip_graph.specs.Unfolding.{input_keys}
 use Rattle.inst_table.specs.declared.place.Place.{Place}
-use Rattle.serve_events.specs.declared.event.Event.{Event}
-use Rattle.serve_events.specs.declared.event.Event.TheVariants.{Hit, Claim, Enter, Leave, Evict, Publish, Abandon, Take, Deliver, Fail}
-use Rattle.serve_events.specs.Events.{worker_of}
-use Rattle.serve_events.specs.Keys.{frame_key, mode_at, instance_of}
-use Rattle.serve_events.specs.Own.{own_events}
-use Rattle.serve_events.specs.SerialRun.{eviction, leases}
-use Rattle.serve_events.specs.Work.{Production, hit, made, Productions, done, more, CutShort, refused, inside, entered, unpublished, CutInputs, between, within, Deliveries, none, also, CutDeliveries, untaken, taken, failed as failed_work}
-use Rattle.serve_events.proofs.KeyLemmas.{test, left_true, right_true}
+use Rattle.serve_machine.specs.declared.event.Event.{Event}
+use Rattle.serve_machine.specs.declared.event.Event.TheVariants.{Hit, Claim, Enter, Leave, Evict, Publish, Abandon, Take, Deliver, Fail}
+use Rattle.serve_machine.specs.Events.{worker_of}
+use Rattle.serve_machine.specs.Keys.{frame_key, mode_at, instance_of}
+use Rattle.serve_machine.specs.Own.{own_events}
+use Rattle.serve_machine.specs.SerialRun.{eviction, leases}
+use Rattle.serve_machine.specs.Work.{Production, hit, made, Productions, done, more, CutShort, refused, inside, entered, unpublished, CutInputs, between, within, Deliveries, none, also, CutDeliveries, untaken, taken, failed as failed_work}
+use Rattle.serve_machine.proofs.KeyLemmas.{test, left_true, right_true}
 use Rattle.serve_machine.specs.Law.{start_of}
 use Rattle.serve_machine.specs.Machine.{Machine, in_turn, meets, allowed, change, replay}
 use Rattle.serve_machine.specs.State.{State, is_running}

@@ -14,14 +14,14 @@ use Rattle.frame_cache.specs.Cached.{same_key, at_key, has_key, dropped_key}
 use Rattle.frame_cache.proofs.CallerLemmas.{key_itself, some_dropped}
 use Rattle.inst_table.specs.declared.place.Place.{Place}
 use Rattle.inst_table.specs.Places.{same_place}
-use Rattle.serve_events.specs.declared.event.Event.{Event}
-use Rattle.serve_events.specs.declared.event.Event.TheVariants.{Hit, Claim, Enter, Leave, Evict, Publish, Abandon, Take, Deliver, Fail}
-use Rattle.serve_events.specs.Events.{worker_of}
-use Rattle.serve_events.specs.Keys.{IsKey, has, frame_key, mode_at, instance_of}
-use Rattle.serve_events.specs.Own.{has_got, has_got_all, own_events}
-use Rattle.serve_events.specs.SerialRun.{eviction}
-use Rattle.serve_events.specs.Work.{untaken, none as no_deliveries}
-use Rattle.serve_events.proofs.KeyLemmas.{test, left_true, right_true}
+use Rattle.serve_machine.specs.declared.event.Event.{Event}
+use Rattle.serve_machine.specs.declared.event.Event.TheVariants.{Hit, Claim, Enter, Leave, Evict, Publish, Abandon, Take, Deliver, Fail}
+use Rattle.serve_machine.specs.Events.{worker_of}
+use Rattle.serve_machine.specs.Keys.{IsKey, has, frame_key, mode_at, instance_of}
+use Rattle.serve_machine.specs.Own.{has_got, has_got_all, own_events}
+use Rattle.serve_machine.specs.SerialRun.{eviction}
+use Rattle.serve_machine.specs.Work.{untaken, none as no_deliveries}
+use Rattle.serve_machine.proofs.KeyLemmas.{test, left_true, right_true}
 use Rattle.serve_machine.specs.State.{State, is_key, place_named, claims_at, is_open, is_some_and, is_by, is_running, with_told, got_at, gathered}
 use Rattle.serve_machine.specs.Closing.{nothing}
 use Rattle.serve_machine.specs.Holdings.{Holdings, claims_of, leases_of, outputs_of, holdings_of, own_holdings, IsToldBy}

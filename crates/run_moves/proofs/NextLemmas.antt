@@ -6,14 +6,14 @@ use Rattle.std.proofs.lemmas.List.{append-nil}
 use Rattle.fv_plane.specs.declared.key.Key.{Key}
 use Rattle.clip_graph.specs.Plan.{Application, IsPlan}
 use Rattle.clip_graph.specs.Unfolding.{input_keys}
-use Rattle.serve_events.specs.declared.event.Event.{Event}
-use Rattle.serve_events.specs.declared.event.Event.TheVariants.{Hit, Claim, Enter, Leave, Publish, Abandon, Take, Deliver}
-use Rattle.serve_events.specs.Keys.{IsKey, same_key, has, frame_key, mode_at, instance_of}
-use Rattle.serve_events.specs.Own.{has_got, has_got_all}
-use Rattle.serve_events.specs.SerialRun.{eviction, leases}
-use Rattle.serve_events.specs.Work.{Production, hit, made, Productions, done, more, CutShort, refused, inside, entered, unpublished, CutInputs, between, within, Deliveries, none, also, CutDeliveries, untaken, taken}
-use Rattle.serve_events.proofs.KeyLemmas.{test, key_itself}
-use Rattle.serve_events.proofs.OwnLemmas.{now_got, all_got}
+use Rattle.serve_machine.specs.declared.event.Event.{Event}
+use Rattle.serve_machine.specs.declared.event.Event.TheVariants.{Hit, Claim, Enter, Leave, Publish, Abandon, Take, Deliver}
+use Rattle.serve_machine.specs.Keys.{IsKey, same_key, has, frame_key, mode_at, instance_of}
+use Rattle.serve_machine.specs.Own.{has_got, has_got_all}
+use Rattle.serve_machine.specs.SerialRun.{eviction, leases}
+use Rattle.serve_machine.specs.Work.{Production, hit, made, Productions, done, more, CutShort, refused, inside, entered, unpublished, CutInputs, between, within, Deliveries, none, also, CutDeliveries, untaken, taken}
+use Rattle.serve_machine.proofs.KeyLemmas.{test, key_itself}
+use Rattle.serve_machine.proofs.OwnLemmas.{now_got, all_got}
 use Rattle.serve_machine.specs.State.{place_named}
 use Rattle.serve_machine.specs.Holdings.{Holdings, has_number, holdings_after, own_holdings}
 use Rattle.serve_machine.specs.Closing.{nothing}

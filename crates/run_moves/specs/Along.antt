@@ -2,7 +2,7 @@
 use Rattle.std.specs.Prelude.{◌≡◌, List, ◌++◌, Some, None}
 use Rattle.fv_plane.specs.declared.key.Key.{Key}
 use Rattle.inst_table.specs.declared.place.Place.{Place}
-use Rattle.serve_events.specs.declared.event.Event.{Event}
+use Rattle.serve_machine.specs.declared.event.Event.{Event}
 use Rattle.serve_machine.specs.Law.{start_of}
 use Rattle.serve_machine.specs.Machine.{Machine, replay}
 use Rattle.serve_machine.specs.State.{State}

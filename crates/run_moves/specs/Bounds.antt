@@ -5,12 +5,12 @@ use Rattle.fv_plane.specs.declared.key.Key.{Key}
 use Rattle.clip_graph.specs.Plan.{Application, application_at, IsPlan}
 use Rattle.clip_graph.specs.Unfolding.{input_keys}
 use Rattle.inst_table.specs.declared.place.Place.{Place}
-use Rattle.serve_events.specs.declared.event.Event.{Event}
-use Rattle.serve_events.specs.declared.event.Event.TheVariants.{Claim}
-use Rattle.serve_events.specs.declared.event.WindowStop.{WindowStop}
-use Rattle.serve_events.specs.Keys.{frame_key}
-use Rattle.serve_events.specs.Own.{own_events}
-use Rattle.serve_events.specs.Work.{Production, CutDeliveries, FailedWork}
+use Rattle.serve_machine.specs.declared.event.Event.{Event}
+use Rattle.serve_machine.specs.declared.event.Event.TheVariants.{Claim}
+use Rattle.serve_machine.specs.declared.event.WindowStop.{WindowStop}
+use Rattle.serve_machine.specs.Keys.{frame_key}
+use Rattle.serve_machine.specs.Own.{own_events}
+use Rattle.serve_machine.specs.Work.{Production, CutDeliveries, FailedWork}
 use Rattle.serve_machine.specs.Law.{start_of}
 use Rattle.serve_machine.specs.Machine.{Machine, replay}
 use Rattle.serve_machine.specs.Renders.{is_eviction}

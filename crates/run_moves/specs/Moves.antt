@@ -3,11 +3,11 @@ use Rattle.std.specs.Prelude.{◌≡◌, ℕ, ◌<◌, ◌≤◌, List, [], ◌�
 use Rattle.fv_plane.specs.declared.key.Key.{Key}
 use Rattle.clip_graph.specs.Plan.{Application, application_at, IsPlan}
 use Rattle.inst_table.specs.declared.place.Place.{Place}
-use Rattle.serve_events.specs.declared.event.Event.{Event}
-use Rattle.serve_events.specs.declared.event.Event.TheVariants.{Take}
-use Rattle.serve_events.specs.Keys.{frame_key}
-use Rattle.serve_events.specs.Own.{own_events}
-use Rattle.serve_events.specs.Work.{Production, Deliveries, CutDeliveries}
+use Rattle.serve_machine.specs.declared.event.Event.{Event}
+use Rattle.serve_machine.specs.declared.event.Event.TheVariants.{Take}
+use Rattle.serve_machine.specs.Keys.{frame_key}
+use Rattle.serve_machine.specs.Own.{own_events}
+use Rattle.serve_machine.specs.Work.{Production, Deliveries, CutDeliveries}
 use Rattle.serve_machine.specs.Holdings.{claims_of, leases_of, outputs_of}
 use Rattle.serve_machine.specs.Law.{start_of}
 use Rattle.serve_machine.specs.Machine.{Machine, replay}

@@ -6,10 +6,10 @@ use Rattle.clip_graph.specs.Plan.{application_at, IsPlan}
 use Rattle.frame_cache.specs.Cached.{Differ}
 use Rattle.inst_table.specs.declared.place.Place.{Place}
 use Rattle.inst_table.specs.Places.{same_place}
-use Rattle.serve_events.specs.declared.event.Event.{Event}
-use Rattle.serve_events.specs.declared.event.Event.TheVariants.{Evict, Publish}
-use Rattle.serve_events.specs.Events.{worker_of}
-use Rattle.serve_events.specs.Keys.{mode_at, instance_of}
+use Rattle.serve_machine.specs.declared.event.Event.{Event}
+use Rattle.serve_machine.specs.declared.event.Event.TheVariants.{Evict, Publish}
+use Rattle.serve_machine.specs.Events.{worker_of}
+use Rattle.serve_machine.specs.Keys.{mode_at, instance_of}
 use Rattle.serve_machine.specs.Closing.{nothing}
 use Rattle.serve_machine.specs.Holdings.{holdings_of}
 use Rattle.serve_machine.specs.Law.{start_of}

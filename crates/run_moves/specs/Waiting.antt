@@ -5,9 +5,9 @@ use Rattle.clip_graph.specs.Plan.{IsPlan}
 use Rattle.clip_graph.specs.Unfolding.{input_keys}
 use Rattle.frame_cache.specs.Cached.{at_key}
 use Rattle.inst_table.specs.declared.place.Place.{Place}
-use Rattle.serve_events.specs.declared.event.Event.{Event}
-use Rattle.serve_events.specs.Keys.{frame_key, has, instance_of}
-use Rattle.serve_events.specs.Own.{own_events}
+use Rattle.serve_machine.specs.declared.event.Event.{Event}
+use Rattle.serve_machine.specs.Keys.{frame_key, has, instance_of}
+use Rattle.serve_machine.specs.Own.{own_events}
 use Rattle.serve_machine.specs.Holdings.{claims_of, leases_of}
 use Rattle.serve_machine.specs.Law.{start_of, holder_of}
 use Rattle.serve_machine.specs.Machine.{Machine, replay}

@@ -8,12 +8,12 @@ use Rattle.frame_cache.specs.Cached.{Differ}
 use Rattle.frame_cache.proofs.CallerLemmas.{test, right_true}
 use Rattle.inst_table.specs.declared.place.Place.{Place}
 use Rattle.inst_table.specs.Places.{same_place}
-use Rattle.serve_events.specs.Keys.{mode_at}
-use Rattle.serve_events.specs.Windows.{WindowEvents}
+use Rattle.serve_machine.specs.Keys.{mode_at}
+use Rattle.serve_machine.specs.Windows.{WindowEvents}
 use Rattle.serve_machine.specs.Renders.{in_window}
 use Rattle.serve_machine.proofs.LawLemmas.{differ_none, runs_refine}
-use Rattle.run_law.specs.Journal.{KeyCache, places, machine_of, AreFinished, none, also}
-use Rattle.run_law.proofs.PlaceLemmas.{free, named_there}
+use Rattle.run_text.specs.Journal.{KeyCache, places, machine_of, AreFinished, none, also}
+use Rattle.run_text.proofs.PlaceLemmas.{free, named_there}
 use Rattle.run_ready.specs.Ready.{WindowsCanRender}
 
 -- a place that is found is among these

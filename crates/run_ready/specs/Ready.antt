@@ -1,9 +1,9 @@
 -- The windows of a journal, and what workers need to go on in them.
 use Rattle.std.specs.Prelude.{◌≡◌, ℕ, ◌<◌, true, List, length}
 use Rattle.clip_graph.specs.Plan.{Application, IsPlan}
-use Rattle.serve_events.specs.Windows.{WindowEvents}
+use Rattle.serve_machine.specs.Windows.{WindowEvents}
 use Rattle.serve_machine.specs.Renders.{in_window}
-use Rattle.run_law.specs.Journal.{KeyCache, places, machine_of, is_window, AreFinished}
+use Rattle.run_text.specs.Journal.{KeyCache, places, machine_of, is_window, AreFinished}
 use Rattle.run_moves.specs.Moving.{CanRender}
 
 -- a window after finished windows, with the cache that these left, can be rendered

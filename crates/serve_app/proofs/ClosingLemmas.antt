@@ -20,10 +20,10 @@ use Rattle.inst_table.specs.Changes.{TakesOne}
 use Rattle.inst_table.proofs.CallerLemmas.{test}
 use Rattle.serve_worker.specs.declared.instance.Instance.{Instance}
 use Rattle.serve_worker.specs.declared.instance.Instance.TheVariants.{Plain, Scratch, Source}
-use Rattle.serve_worker.specs.Alone.{AllFree}
+use Rattle.serve_core.specs.Tables.{AllFree}
 use Rattle.serve_worker.specs.Furnishing.{sources_in, source_of, fault_counts}
 use Rattle.serve_worker.specs.Instances.{faults_of}
-use Rattle.serve_stream.specs.Clips.{SomeFailed}
+use Rattle.prefetch.specs.StreamClips.{SomeFailed}
 
 module _ {I : Type 0} where
   same_slot : (o : Option (Place × Slot I)) (p q : Place) (s t : Slot I) → o ≡ Some (p, s) → o ≡ Some (q, t) → s ≡ t

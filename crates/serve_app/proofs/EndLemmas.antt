@@ -15,17 +15,17 @@ use Rattle.command_line.specs.declared.command.RenderOptions.{RenderOptions}
 use Rattle.command_line.specs.declared.command.Tells.{Tells}
 use Rattle.command_line.specs.declared.command.Tells.TheVariants as of_tells
 use Rattle.run_text.specs.Lines.{LineFits, journal_lines, journal_text}
-use Rattle.serve_events.specs.declared.windows.Record.{Record}
-use Rattle.serve_events.specs.Windows.{windows_of}
+use Rattle.serve_machine.specs.declared.windows.Record.{Record}
+use Rattle.serve_machine.specs.Windows.{windows_of}
 use Rattle.serve_text.specs.Lines.{Says, usage_line}
 use Rattle.serve_text.specs.Report.{report}
 use Rattle.serve_text.specs.Reports.{CutsReport}
 use Rattle.serve_text.specs.declared.stop.Stop.{Stop}
 use Rattle.serve_text.specs.declared.stop.Stop.TheVariants.{Memory}
-use Rattle.serve_stream.specs.Rendered.{PutsHead, PutsNoHead}
-use Rattle.serve_stream.specs.Streams.{stop_in, TellsStop, HeadShows}
-use Rattle.serve_stream.specs.declared.staff.Staff.{Staff}
-use Rattle.serve_stream.specs.declared.stream.Whole.{Whole}
+use Rattle.prefetch.specs.Parts.{PutsHead, PutsNoHead}
+use Rattle.prefetch.specs.Streams.{stop_in, TellsStop, HeadShows}
+use Rattle.prefetch.specs.declared.staff.Staff.{Staff}
+use Rattle.prefetch.specs.declared.stream.Whole.{Whole}
 use Rattle.serve_app.specs.declared.entry.Telling.{Telling}
 use Rattle.serve_app.specs.declared.entry.Telling.TheVariants as telling
 use Rattle.serve_app.specs.Headline.{Quiet, Headline, JournalEnds, InfoEnds, SessionEnds, ReplayEnds, Ends}

@@ -2,14 +2,14 @@
 use Rattle.std.proofs.Common.{◌≡◌, ℕ, List, Option, sym, subst}
 use Rattle.std.specs.List.{AllByRecursion}
 use Rattle.fv_io.specs.World.{World}
-use Rattle.serve_events.specs.Windows.{WindowEvents, windows_of}
-use Rattle.serve_events.specs.declared.windows.Record.{Record}
-use Rattle.serve_stream.specs.declared.staff.Staff.{Staff}
+use Rattle.serve_machine.specs.Windows.{WindowEvents, windows_of}
+use Rattle.serve_machine.specs.declared.windows.Record.{Record}
+use Rattle.prefetch.specs.declared.staff.Staff.{Staff}
 use Rattle.run_text.specs.Lines.{LineFits, journal_lines, journal_text}
-use Rattle.run_law.specs.Journal.{IsJournal}
-use Rattle.run_crew.proofs.CrewLemmas.{crews_are_lawful}
+use Rattle.run_text.specs.Journal.{IsJournal}
+use Rattle.run_agree.proofs.CrewLemmas.{crews_are_lawful}
 use Rattle.prefetch.specs.Windows.{frames_at}
-use Rattle.serve_stream.specs.Staff.{hands}
+use Rattle.prefetch.specs.Staff.{hands}
 use Rattle.serve_app.specs.Journals.{IsScriptRendered, workers_of}
 
 module _ (told : Option World) (script : List ℕ) (capacity : ℕ) (staff : Staff) (journal : Option Record) (run : IsScriptRendered told script capacity staff journal) where

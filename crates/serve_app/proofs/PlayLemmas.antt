@@ -20,13 +20,13 @@ use Rattle.seq_source.proofs.CallerLemmas.{clip_told}
 use Rattle.clip_term.specs.ClipTerm.{Act, source}
 use Rattle.clip_graph.specs.Plan.{Application, application_at, IsPlan}
 use Rattle.clip_graph.specs.Unfolding.{key_picture}
-use Rattle.clip_frames.specs.Sources.{AreSources, source_infos}
+use Rattle.serve_worker.specs.Sources.{AreSources, source_infos}
 use Rattle.inst_table.specs.declared.place.Place.{Place}
 use Rattle.inst_table.specs.declared.place.Slot.{Slot}
 use Rattle.serve_text.specs.InfoText.{info_text}
 use Rattle.avs_meaning.specs.Crews.{Numbers, workers, window}
-use Rattle.serve_events.specs.declared.windows.Record.{Record}
-use Rattle.serve_events.specs.Keys.{frame_key}
+use Rattle.serve_machine.specs.declared.windows.Record.{Record}
+use Rattle.serve_machine.specs.Keys.{frame_key}
 use Rattle.prefetch.specs.Clips.{clip_at}
 use Rattle.avs_eval.specs.Evaluates.{Evaluates}
 use Rattle.avs_eval.specs.declared.evaluation.Opened.{Opened}
@@ -34,8 +34,8 @@ use Rattle.avs_meaning.specs.Faults as f
 use Rattle.avs_meaning.specs.Faults.{Fault, input}
 use Rattle.avs_meaning.specs.Meaning as m
 use Rattle.avs_meaning.specs.declared.state.SourceClip.{SourceClip}
-use Rattle.avs_meaning.specs.declared.stop.ScriptStop.{ScriptStop}
-use Rattle.avs_meaning.specs.declared.stop.ScriptStop.TheVariants as of_text
+use Rattle.avs_meaning.specs.declared.stop.EvalError.{EvalError}
+use Rattle.avs_meaning.specs.declared.stop.EvalError.TheVariants as of_text
 use Rattle.avs_state.specs.Sources.{source_of, sources_of}
 use Rattle.avs_files.specs.Opened.{told_of, IsOpened, AreOpened}
 use Rattle.avs_files.proofs.CallerLemmas.{frames_of, has_clip, infos_listed}
@@ -44,18 +44,18 @@ use Rattle.serve_text.specs.declared.stop.Stop.TheVariants as of_stop
 use Rattle.serve_text.specs.StopKinds.{stop_of}
 use Rattle.serve_app.specs.Meaning.{meaning_in, HasPictures, IsBookOf, MeansClip}
 use Rattle.serve_app.specs.Info.{IsInfoOf, IsToldInfo, InfoShows}
-use Rattle.serve_stream.specs.Clips.{book_told, IsClipOf, SomeFailed, PutsFrames, PutsSome, StreamShows}
-use Rattle.serve_stream.specs.declared.staff.Staff.{Staff}
-use Rattle.serve_stream.specs.declared.stream.Whole.{Whole}
-use Rattle.serve_stream.specs.Staff.{hands}
-use Rattle.serve_stream.specs.Streamed.{IsStreamed}
-use Rattle.serve_stream.specs.Journals.{IsRendered, PutsCount, FailsWithin, CutsShort}
+use Rattle.prefetch.specs.StreamClips.{book_told, IsClipOf, SomeFailed, PutsFrames, PutsSome, StreamShows}
+use Rattle.prefetch.specs.declared.staff.Staff.{Staff}
+use Rattle.prefetch.specs.declared.stream.Whole.{Whole}
+use Rattle.prefetch.specs.Staff.{hands}
+use Rattle.prefetch.specs.Streamed.{IsStreamed}
+use Rattle.prefetch.specs.Journals.{IsRendered, PutsCount, FailsWithin, CutsShort}
 use Rattle.serve_app.specs.Journals.{AreHands, IsPlanOf, IsScriptRendered, IsRunOf, ScriptCuts}
 use Rattle.serve_app.specs.Renders.{IsScriptRender}
 use Rattle.serve_app.specs.Playing.{Tells, EndsBefore, PutsClip, PutsInfo}
-use Rattle.serve_stream.specs.Rendered.{PutsWholeFrames}
+use Rattle.prefetch.specs.Parts.{PutsWholeFrames}
 use Rattle.serve_app.specs.Stop.{IsOfScript, ScriptHasClip, HasInfo, RenderShows}
-use Rattle.serve_stream.specs.Streams.{TellsStop, HeadShows}
+use Rattle.prefetch.specs.Streams.{TellsStop, HeadShows}
 use Rattle.serve_app.proofs.MeaningLemmas.{same_plan, same_root, same_crew}
 
 -- ---- worlds that are told
@@ -306,7 +306,7 @@ module _ {S : Type 0} (of : of_source.Ghosts S) (told : Bool) (world : World) (s
 -- ---- a script without a clip
 
 -- the stop of a script is told as a stop of the render
-pub told_as : (meaning : m.Meaning) (stop : ScriptStop) → Evaluates meaning (Err stop) → Tells meaning (Err (stop_of stop))
+pub told_as : (meaning : m.Meaning) (stop : EvalError) → Evaluates meaning (Err stop) → Tells meaning (Err (stop_of stop))
 told_as meaning (of_text.Fault kind name line) is = is
 told_as meaning (of_text.Input name fault) is = is
 told_as meaning of_text.Read is = tt

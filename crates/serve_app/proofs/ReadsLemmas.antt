@@ -16,8 +16,8 @@ use Rattle.avs_meaning.specs.Outside.{Outside}
 use Rattle.avs_meaning.specs.declared.fault.FileKind.{FileKind}
 use Rattle.avs_meaning.specs.declared.fault.ScriptKind.TheVariants as k
 use Rattle.avs_meaning.specs.declared.state.SourceClip.{SourceClip}
-use Rattle.avs_meaning.specs.declared.stop.ScriptStop.{ScriptStop}
-use Rattle.avs_meaning.specs.declared.stop.ScriptStop.TheVariants as s
+use Rattle.avs_meaning.specs.declared.stop.EvalError.{EvalError}
+use Rattle.avs_meaning.specs.declared.stop.EvalError.TheVariants as s
 use Rattle.avs_state.specs.Hosts.{TellsScript, StopsBy}
 use Rattle.avs_state.specs.Sources.{source_of, sources_of}
 use Rattle.avs_state.specs.declared.host.HostFault.{HostFault}
@@ -35,14 +35,14 @@ use Rattle.serve_app.proofs.PlayLemmas.{told_as, in_told}
 
 -- ---- the file of the script
 
-shown : (fault : Fault) (stop : ScriptStop) → Shows fault stop → Evaluates (m.wrong fault) (Err stop)
+shown : (fault : Fault) (stop : EvalError) → Shows fault stop → Evaluates (m.wrong fault) (Err stop)
 shown fault (s.Fault kind name line) is = ap m.wrong is
 shown fault (s.Input name why) is = ap m.wrong is
 shown fault s.Read is = absurd is
 shown fault s.Memory is = tt
 
 -- a file that is no script is told as the script's fault
-pub fault_told : (told : Result (List ℕ) FileKind) (outside : Outside) (name : List ℕ) (fault : HostFault) (stop : ScriptStop) → TellsScript told (Err fault) → StopsBy fault name name 0 stop
+pub fault_told : (told : Result (List ℕ) FileKind) (outside : Outside) (name : List ℕ) (fault : HostFault) (stop : EvalError) → TellsScript told (Err fault) → StopsBy fault name name 0 stop
     → Tells (m.script_meaning told outside name) (Err (stop_of stop))
 fault_told told outside name (h.Input why) stop tells by = absurd tells
 fault_told told outside name (h.Script kind) stop tells by = rw tells (told_as _ stop (shown (script (k.File kind) name 0) stop by))

@@ -22,11 +22,11 @@ use Rattle.serve_app.specs.Playing.{PutsClip, PutsInfo}
 use Rattle.serve_app.specs.Reads.{ReadsOnce}
 use Rattle.serve_app.specs.Meaning.{Meaning, a_clip, a_fault, MeansClip, Means, status_of, status_of_fault, script_status}
 use Rattle.prefetch.specs.Rendered.{PutsNothing}
-use Rattle.serve_stream.specs.Rendered.{PutsWholeFrames, EndsInFrame, PutsHead, PutsNoHead}
+use Rattle.prefetch.specs.Parts.{PutsWholeFrames, EndsInFrame, PutsHead, PutsNoHead}
 use Rattle.serve_app.specs.Stop.{IsOfScript, ScriptHasClip, HasFault, HasChanged, IsScriptFault, RenderShows}
-use Rattle.serve_stream.specs.Streams.{file_at, TellsStop, HeadShows}
+use Rattle.prefetch.specs.Streams.{file_at, TellsStop, HeadShows}
 use Rattle.serve_text.specs.Lines.{Says, stop_line, read_line, memory_line}
-use Rattle.serve_stream.specs.declared.staff.Staff.{Staff}
+use Rattle.prefetch.specs.declared.staff.Staff.{Staff}
 use Rattle.command_line.specs.declared.command.Tells.{Tells}
 use Rattle.command_line.specs.declared.command.Tells.TheVariants as of_tells
 use Rattle.serve_app.specs.declared.entry.Telling.{Telling}
@@ -38,10 +38,10 @@ use Rattle.serve_app.specs.SelfTest.{IsLineOf, IsSelfLine, PutsSelfLine, SelfTes
 use Rattle.serve_app.specs.Run.{Prints, Finishes}
 use Rattle.clip_graph.specs.Plan.{Application}
 use Rattle.serve_text.specs.Report.{report}
-use Rattle.serve_events.specs.declared.event.WindowStop.{WindowStop}
-use Rattle.serve_events.specs.declared.event.WindowStop.TheVariants as worker
-use Rattle.serve_events.specs.declared.windows.Record.{Record}
-use Rattle.serve_events.specs.Windows.{windows_of}
+use Rattle.serve_machine.specs.declared.event.WindowStop.{WindowStop}
+use Rattle.serve_machine.specs.declared.event.WindowStop.TheVariants as worker
+use Rattle.serve_machine.specs.declared.windows.Record.{Record}
+use Rattle.serve_machine.specs.Windows.{windows_of}
 use Rattle.serve_text.specs.InfoText.{info_text}
 use Rattle.avs_meaning.specs.Crews.{workers, window}
 use Rattle.self_test.specs.Digested.{digest_line}

@@ -8,8 +8,8 @@ use Rattle.fv_session.specs.declared.request.SessionFault.{SessionFault}
 use Rattle.fv_session.specs.declared.request.SessionFault.TheVariants as of_fault
 use Rattle.clip_graph.specs.Plan.{Application}
 use Rattle.prefetch.specs.Rendered.{PutsNothing}
-use Rattle.serve_events.specs.declared.event.WindowStop.{WindowStop}
-use Rattle.serve_events.specs.declared.windows.Record.{Record}
+use Rattle.serve_machine.specs.declared.event.WindowStop.{WindowStop}
+use Rattle.serve_machine.specs.declared.windows.Record.{Record}
 use Rattle.serve_text.specs.Lines.{Says, stop_line, file_line, file_kind}
 use Rattle.serve_text.specs.StopKinds.{status_of_stop}
 use Rattle.serve_text.specs.declared.stop.FileFault.{FileFault}
@@ -17,7 +17,7 @@ use Rattle.serve_text.specs.declared.stop.FileFault.TheVariants as of_file
 use Rattle.serve_text.specs.declared.stop.Stop.{Stop}
 use Rattle.serve_text.specs.declared.stop.Stop.TheVariants as of_stop
 use Rattle.serve_text.specs.declared.stop.Stop.TheVariants.{Script, Input, Changed, Read, Write, Memory}
-use Rattle.serve_stream.specs.Answered.{EndsEarly}
+use Rattle.prefetch.specs.Answered.{EndsEarly}
 use Rattle.fv_io.specs.Files.{FilesFailed}
 use Rattle.serve_app.specs.Headline.{EndsByInput, EndsByChange, EndsByList, EndsSession, SessionEnds}
 use Rattle.serve_app.specs.Meaning.{Meaning, a_clip, Means}

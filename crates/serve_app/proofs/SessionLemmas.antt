@@ -28,10 +28,10 @@ use Rattle.clip_graph.specs.Unfolding.{key_picture}
 use Rattle.inst_table.proofs.CallerLemmas.{test}
 use Rattle.inst_table.specs.declared.place.Place.{Place}
 use Rattle.inst_table.specs.declared.place.Slot.{Slot}
-use Rattle.serve_events.specs.declared.event.WindowStop.{WindowStop}
-use Rattle.serve_events.specs.declared.windows.Record.{Record}
-use Rattle.serve_events.specs.Keys.{frame_key}
-use Rattle.serve_events.specs.Windows.{WindowEvents, windows_of}
+use Rattle.serve_machine.specs.declared.event.WindowStop.{WindowStop}
+use Rattle.serve_machine.specs.declared.windows.Record.{Record}
+use Rattle.serve_machine.specs.Keys.{frame_key}
+use Rattle.serve_machine.specs.Windows.{WindowEvents, windows_of}
 use Rattle.prefetch.specs.Clips.{clip_at}
 use Rattle.prefetch.specs.Windows.{frames_at}
 use Rattle.avs_eval.specs.declared.evaluation.Opened.{Opened}
@@ -46,11 +46,11 @@ use Rattle.serve_text.specs.StopKinds.{status_of_stop}
 use Rattle.serve_text.specs.declared.stop.FileFault.TheVariants as of_file
 use Rattle.serve_text.specs.declared.stop.Stop.{Stop}
 use Rattle.serve_text.specs.declared.stop.Stop.TheVariants as of_stop
-use Rattle.serve_stream.specs.Answered.{AreWindowsIn, TellsSession, numbers_asked, answers_over, AnswerShows, IsAnswered}
-use Rattle.serve_stream.specs.Clips.{SomeFailed, book_told}
-use Rattle.serve_stream.specs.Played.{frame_bytes_at, line_at}
-use Rattle.serve_stream.specs.declared.session.SessionStop.{SessionStop}
-use Rattle.serve_stream.specs.declared.session.SessionStop.TheVariants.{Stopped, ListFault}
+use Rattle.prefetch.specs.Answered.{AreWindowsIn, TellsSession, numbers_asked, answers_over, AnswerShows, IsAnswered}
+use Rattle.prefetch.specs.StreamClips.{SomeFailed, book_told}
+use Rattle.prefetch.specs.Played.{frame_bytes_at, line_at}
+use Rattle.prefetch.specs.declared.session.SessionStop.{SessionStop}
+use Rattle.prefetch.specs.declared.session.SessionStop.TheVariants.{Stopped, ListFault}
 use Rattle.serve_app.specs.Journals.{IsPlanOf}
 use Rattle.serve_app.specs.Meaning.{meaning_in}
 use Rattle.serve_app.specs.Playing.{Tells, EndsBefore}

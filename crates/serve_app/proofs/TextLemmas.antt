@@ -6,7 +6,7 @@ use Rattle.fv_io.proofs.CallerLemmas.{gets_none, gets_all, gets_more}
 use Rattle.fv_plane.specs.Clip.{Clip}
 use Rattle.y4m_stream.specs.Stream.{stream}
 use Rattle.prefetch.proofs.TextLemmas.{text_of_part}
-use Rattle.serve_stream.specs.Rendered.{PutsPart, PutsWholeFrames}
+use Rattle.prefetch.specs.Parts.{PutsPart, PutsWholeFrames}
 
 module _ {K : Type 0} (sink : Ghosts K) (old new : K) (Its More : Clip → Type 0) (One Any : Type 0) (narrows : (clip : Clip) → More clip → Its clip) (widens : One → Any) where
   pub whole_frames_of : PutsWholeFrames sink old new Its One → PutsWholeFrames sink old new More Any

@@ -18,10 +18,10 @@ use Rattle.command_line.specs.declared.command.RenderOptions.{RenderOptions}
 use Rattle.command_line.specs.declared.command.Tells.{Tells}
 use Rattle.command_line.specs.declared.command.Tells.TheVariants as of_tells
 use Rattle.clip_graph.specs.Plan.{Application}
-use Rattle.serve_events.specs.declared.event.WindowStop.{WindowStop}
-use Rattle.serve_events.specs.declared.event.WindowStop.TheVariants.{Read, Changed, Memory}
-use Rattle.serve_events.specs.declared.windows.Record.{Record}
-use Rattle.serve_stream.specs.declared.staff.Staff.{Staff}
+use Rattle.serve_machine.specs.declared.event.WindowStop.{WindowStop}
+use Rattle.serve_machine.specs.declared.event.WindowStop.TheVariants.{Read, Changed, Memory}
+use Rattle.serve_machine.specs.declared.windows.Record.{Record}
+use Rattle.prefetch.specs.declared.staff.Staff.{Staff}
 use Rattle.serve_app.specs.Words.{IsRender, IsInfo, IsSelfTest, IsSession, IsReplay}
 use Rattle.serve_app.specs.Meaning.{Meaning, MeansClip, Means, script_status}
 use Rattle.serve_app.specs.Info.{IsInfoOf, IsToldInfo}
@@ -32,10 +32,10 @@ use Rattle.serve_text.specs.Reports.{CutsReport}
 use Rattle.serve_app.specs.SelfTest.{SelfTestEnds}
 use Rattle.serve_app.specs.Sessions.{IsAnswersOf, IsToldAnswers, HasAnswers, AnswersList, IsListFault, IsSessionRun, SessionCuts, FetchesList, session_status}
 use Rattle.prefetch.specs.Rendered.{PutsNothing}
-use Rattle.serve_stream.specs.Rendered.{PutsWholeFrames, EndsInFrame, PutsHead, PutsNoHead}
+use Rattle.prefetch.specs.Parts.{PutsWholeFrames, EndsInFrame, PutsHead, PutsNoHead}
 use Rattle.serve_app.specs.Stop.{IsOfScript, ScriptHasClip, HasInfo, HasFault, HasChanged, IsScriptFault}
-use Rattle.serve_stream.specs.Answered.{EndsEarly}
-use Rattle.serve_stream.specs.Streams.{file_at}
+use Rattle.prefetch.specs.Answered.{EndsEarly}
+use Rattle.prefetch.specs.Streams.{file_at}
 use Rattle.serve_text.specs.Lines.{Says, usage_line, read_line, write_line, memory_line, script_line, input_line, file_line, changed_kind, file_kind}
 use Rattle.serve_text.specs.declared.stop.FileFault.{FileFault}
 

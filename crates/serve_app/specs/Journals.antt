@@ -3,16 +3,16 @@ use Rattle.std.specs.Prelude.{◌≡◌, ℕ, ◌<◌, ◌≤◌, List, length, 
 use Rattle.fv_io.specs.declared.sink.Sink.{Ghosts}
 use Rattle.fv_io.specs.World.{World, InWorld}
 use Rattle.clip_graph.specs.Plan.{Application, IsPlan}
-use Rattle.serve_events.specs.declared.event.WindowStop.{WindowStop}
-use Rattle.serve_events.specs.declared.windows.Record.{Record}
-use Rattle.serve_events.specs.Windows.{windows_of}
+use Rattle.serve_machine.specs.declared.event.WindowStop.{WindowStop}
+use Rattle.serve_machine.specs.declared.windows.Record.{Record}
+use Rattle.serve_machine.specs.Windows.{windows_of}
 use Rattle.serve_text.specs.Report.{report}
 use Rattle.run_text.specs.Lines.{journal_text}
-use Rattle.run_law.specs.Journal.{IsJournal}
-use Rattle.serve_stream.specs.declared.staff.Hands.{Hands}
-use Rattle.serve_stream.specs.declared.staff.Staff.{Staff}
-use Rattle.serve_stream.specs.Staff.{hands}
-use Rattle.serve_stream.specs.Journals.{IsRendered, IsCutShort}
+use Rattle.run_text.specs.Journal.{IsJournal}
+use Rattle.prefetch.specs.declared.staff.Hands.{Hands}
+use Rattle.prefetch.specs.declared.staff.Staff.{Staff}
+use Rattle.prefetch.specs.Staff.{hands}
+use Rattle.prefetch.specs.Journals.{IsRendered, IsCutShort}
 use Rattle.avs_meaning.specs.Crews.{Numbers}
 use Rattle.avs_meaning.specs.Meaning as m
 use Rattle.serve_app.specs.Meaning.{meaning_in}

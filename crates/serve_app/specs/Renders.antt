@@ -2,11 +2,11 @@
 use Rattle.std.specs.Prelude.{ℕ, List, Option, Result, IfOk, IfErr}
 use Rattle.fv_io.specs.declared.sink.Sink.{Ghosts}
 use Rattle.fv_io.specs.World.{World, InWorld}
-use Rattle.serve_events.specs.declared.windows.Record.{Record}
+use Rattle.serve_machine.specs.declared.windows.Record.{Record}
 use Rattle.serve_text.specs.declared.stop.Stop.{Stop}
-use Rattle.serve_stream.specs.declared.staff.Staff.{Staff}
-use Rattle.serve_stream.specs.declared.stream.Whole.{Whole}
-use Rattle.serve_stream.specs.Streams.{stop_in, TellsStop, HeadShows}
+use Rattle.prefetch.specs.declared.staff.Staff.{Staff}
+use Rattle.prefetch.specs.declared.stream.Whole.{Whole}
+use Rattle.prefetch.specs.Streams.{stop_in, TellsStop, HeadShows}
 use Rattle.serve_app.specs.Journals.{IsRunOf, ScriptCuts}
 use Rattle.serve_app.specs.Playing.{PutsClip}
 use Rattle.serve_app.specs.Stop.{RenderShows, HasInfo}

@@ -15,12 +15,12 @@ use Rattle.run_text.specs.Lines.{LineFits, journal_lines, journal_text}
 use Rattle.serve_text.specs.Report.{report}
 use Rattle.serve_text.specs.declared.stop.Stop.{Stop}
 use Rattle.serve_text.specs.StopKinds.{status_of_stop}
-use Rattle.serve_events.specs.declared.windows.Record.{Record}
-use Rattle.serve_events.specs.Windows.{windows_of}
-use Rattle.serve_stream.specs.declared.staff.Staff.{Staff}
-use Rattle.serve_stream.specs.declared.staff.Staff.TheVariants.{One, Asked}
-use Rattle.serve_stream.specs.declared.stream.Whole.{Whole}
-use Rattle.serve_stream.specs.Staff.{AreThreads}
+use Rattle.serve_machine.specs.declared.windows.Record.{Record}
+use Rattle.serve_machine.specs.Windows.{windows_of}
+use Rattle.prefetch.specs.declared.staff.Staff.{Staff}
+use Rattle.prefetch.specs.declared.staff.Staff.TheVariants.{One, Asked}
+use Rattle.prefetch.specs.declared.stream.Whole.{Whole}
+use Rattle.prefetch.specs.Staff.{AreThreads}
 use Rattle.serve_app.specs.declared.entry.Telling.{Telling}
 use Rattle.serve_app.specs.declared.entry.Telling.TheVariants as telling
 use Rattle.serve_app.specs.Info.{InfoShows}
@@ -33,7 +33,7 @@ use Rattle.serve_text.specs.Reports.{Reports}
 use Rattle.serve_app.specs.SelfTest.{PutsSelfLine, SelfTestShows}
 use Rattle.serve_app.specs.Sessions.{IsScriptSession, FetchesList}
 use Rattle.serve_app.specs.Stop.{RenderShows, ScriptHasClip, HasInfo}
-use Rattle.serve_stream.specs.Streams.{stop_in, TellsStop, HeadShows}
+use Rattle.prefetch.specs.Streams.{stop_in, TellsStop, HeadShows}
 
 -- the options of a render are in their ranges: the cache holds a frame, and 1 to 16 threads are asked for, if any
 abbrev pub AreFit : RenderOptions → Type 0

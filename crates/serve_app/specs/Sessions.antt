@@ -17,19 +17,19 @@ use Rattle.fv_session.specs.declared.request.SessionFault.TheVariants as of_faul
 use Rattle.clip_graph.specs.Plan.{Application}
 use Rattle.avs_meaning.specs.Faults.{input}
 use Rattle.prefetch.specs.Rendered.{PutsNothing}
-use Rattle.serve_events.specs.declared.event.WindowStop.{WindowStop}
-use Rattle.serve_events.specs.declared.windows.Record.{Record}
-use Rattle.serve_events.specs.Windows.{windows_of}
+use Rattle.serve_machine.specs.declared.event.WindowStop.{WindowStop}
+use Rattle.serve_machine.specs.declared.windows.Record.{Record}
+use Rattle.serve_machine.specs.Windows.{windows_of}
 use Rattle.serve_text.specs.InfoText.{clip_line}
 use Rattle.serve_text.specs.StopKinds.{status_of_stop}
 use Rattle.serve_text.specs.declared.stop.FileFault.{FileFault}
 use Rattle.serve_text.specs.declared.stop.FileFault.TheVariants as of_file
 use Rattle.serve_text.specs.declared.stop.Stop.{Stop}
 use Rattle.serve_text.specs.declared.stop.Stop.TheVariants as of_stop
-use Rattle.serve_stream.specs.Answered.{EndsEarly, AreWindowsIn, numbers_asked, session_windows}
-use Rattle.serve_stream.specs.declared.session.SessionStop.{SessionStop}
-use Rattle.serve_stream.specs.declared.session.SessionStop.TheVariants.{Stopped, ListFault as OfList}
-use Rattle.serve_stream.specs.Streams.{TellsStop}
+use Rattle.prefetch.specs.Answered.{EndsEarly, AreWindowsIn, numbers_asked, session_windows}
+use Rattle.prefetch.specs.declared.session.SessionStop.{SessionStop}
+use Rattle.prefetch.specs.declared.session.SessionStop.TheVariants.{Stopped, ListFault as OfList}
+use Rattle.prefetch.specs.Streams.{TellsStop}
 use Rattle.serve_app.specs.Journals.{IsPlanOf}
 use Rattle.serve_app.specs.Meaning.{Meaning, a_clip, a_fault, MeansClip, status_of_fault}
 use Rattle.serve_app.specs.Reads.{files_in}

@@ -12,7 +12,7 @@ use Rattle.avs_meaning.specs.declared.fault.ScriptKind.{ScriptKind}
 use Rattle.serve_text.specs.declared.stop.Stop.{Stop}
 use Rattle.serve_text.specs.declared.stop.Stop.TheVariants as of_stop
 use Rattle.serve_app.specs.Meaning.{MeansClip, Means, a_fault}
-use Rattle.serve_stream.specs.Rendered.{PutsWholeFrames, PutsFront, EndsInFrame}
+use Rattle.prefetch.specs.Parts.{PutsWholeFrames, PutsFront, EndsInFrame}
 
 -- a world is told, and the script means this clip in it
 pub record IsOfScript (told : Option World) (script : List ℕ) (clip : Clip) : Type 0 where

@@ -2,7 +2,7 @@
 ghost use Rattle.std.specs.Prelude.{◌≡◌, ◌-◌, length};
 ghost use Rattle.avs_files.specs.Closed.{CountsFaults};
 ghost use Rattle.avs_files.specs.Opened.{told_of};
-ghost use Rattle.serve_worker.specs.Alone.{AllFree};
+ghost use Rattle.serve_core.specs.Tables.{AllFree};
 ghost use Rattle.serve_worker.specs.Furnishing.{sources_in};
 
 use avs_files::{FileHost, HeldFiles, Known, close_all};

@@ -15,6 +15,6 @@ mod session;
 mod test_run;
 
 pub use entry::{Ending, run, run_plain};
+pub use prefetch::{Gate, GatePoint, OpenGate};
 pub use self_test::workload;
-pub use serve_events::{Event, Record, Windowed};
-pub use serve_stream::{Gate, GatePoint, OpenGate};
+pub use serve_machine::{Event, Record, Windowed};

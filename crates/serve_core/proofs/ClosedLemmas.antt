@@ -13,10 +13,10 @@ use Rattle.inst_table.specs.declared.place.Place.{Place}
 use Rattle.inst_table.specs.declared.place.Slot.{Slot}
 use Rattle.inst_table.specs.declared.place.Slot.TheVariants.{Free, Leased}
 use Rattle.inst_table.specs.Places.{same_place}
-use Rattle.serve_events.specs.declared.event.Event.{Event}
-use Rattle.serve_events.specs.declared.event.Event.TheVariants.{Hit, Claim, Enter, Leave, Evict, Publish, Abandon, Take, Deliver, Fail}
-use Rattle.serve_events.specs.Events.{worker_of}
-use Rattle.serve_events.specs.Keys.{frame_key}
+use Rattle.serve_machine.specs.declared.event.Event.{Event}
+use Rattle.serve_machine.specs.declared.event.Event.TheVariants.{Hit, Claim, Enter, Leave, Evict, Publish, Abandon, Take, Deliver, Fail}
+use Rattle.serve_machine.specs.Events.{worker_of}
+use Rattle.serve_machine.specs.Keys.{frame_key}
 use Rattle.serve_machine.specs.State.{State, place_named, is_open, got_at}
 use Rattle.serve_machine.specs.Machine.{Machine, meets, allowed, change, replay}
 use Rattle.serve_machine.specs.Law.{start_of}
@@ -27,7 +27,8 @@ use Rattle.serve_core.specs.CoreValue.{CoreValue}
 use Rattle.serve_core.specs.Holds.{holds_none}
 use Rattle.serve_core.specs.Kept.{leases_out}
 use Rattle.serve_core.specs.Runs.{holder, keys_alone, opening_of, state_of, IsRun}
-use Rattle.serve_core.specs.Workers.{told_holdings, takes, WorkersTell}
+use Rattle.serve_core.specs.Workers.{told_holdings, WorkersTell}
+use Rattle.serve_machine.specs.Worked.{takes}
 use Rattle.serve_core.proofs.WorkerLemmas.{has_told, told_outputs}
 
 -- Lists that grow and shrink.
@@ -116,11 +117,11 @@ module _ {F : Type 0} (m : Machine F) where
   takes_step s (Deliver w n) es = refl
   takes_step s (Fail w why) es = refl
 
-  run_law : (events : List Event) (s t : State F) → AreWorkers s → replay m s events ≡ Some t → AreWorkers t × (length t.taken ≡ length s.taken + takes events)
-  run_law [] s t v ran = let same : s ≡ t = some_same ran in (subst AreWorkers same v, ap (λ (z : State F). length z.taken) (sym same) ∙ omega arith)
-  run_law (e ∷ es) s t v ran = ⊎_elim
+  run_text : (events : List Event) (s t : State F) → AreWorkers s → replay m s events ≡ Some t → AreWorkers t × (length t.taken ≡ length s.taken + takes events)
+  run_text [] s t v ran = let same : s ≡ t = some_same ran in (subst AreWorkers same v, ap (λ (z : State F). length z.taken) (sym same) ∙ omega arith)
+  run_text (e ∷ es) s t v ran = ⊎_elim
       (λ (ok : allowed m s e ≡ true). let may = right_true _ _ ok in
-      let rest = run_law es (change m s e) t (workers_step s e (ltb-true _ _ (left_true _ _ may)) (right_true _ _ may) v) (rw ok at ran) in
+      let rest = run_text es (change m s e) t (workers_step s e (ltb-true _ _ (left_true _ _ may)) (right_true _ _ may) v) (rw ok at ran) in
       (rest.0, rest.1 ∙ takes_step s e es))
       (λ (bad : allowed m s e ≡ false). let none : None ≡ Some t = rw bad at ran in absurd (cc)) (test (allowed m s e))
 
@@ -164,7 +165,7 @@ delivered_at w n (suc j) (v ∷ vs) (frame ∷ frames) at less none = ⊎_elim
 
 module _ {I : Type 0} (c : CoreValue I) (r : IsRun c) where
   ran : AreWorkers (keys_machine c.fixed) (state_of c r.got r.entered) × (length c.outputs.taken ≡ 0 + takes c.journal)
-  ran = run_law (keys_machine c.fixed) c.journal (opening_of c) (state_of c r.got r.entered)
+  ran = run_text (keys_machine c.fixed) c.journal (opening_of c) (state_of c r.got r.entered)
       (start_workers (keys_machine c.fixed) (keys_alone c.fixed.opening) (keys_of c.table)) r.runs
 
   delivers : ((w : ℕ) → w < c.fixed.workers → (told_holdings c w).outputs ≡ []) → (j : ℕ) → j < length c.outputs.taken → (x : Picture) × (slice_get c.outputs.frames j ≡ Some (Some x))

@@ -20,12 +20,12 @@ use Rattle.inst_table.specs.declared.place.Slot.{Slot}
 use Rattle.inst_table.specs.declared.place.Slot.TheVariants.{Free, Leased}
 use Rattle.inst_table.specs.Places.{same_place, slot_at, with_slot, shared_place, own_place}
 use Rattle.inst_table.proofs.CallerLemmas.{has_put}
-use Rattle.serve_events.specs.declared.event.Event.{Event}
-use Rattle.serve_events.specs.declared.event.Event.TheVariants.{Hit, Claim, Enter, Leave, Publish, Abandon, Take, Deliver, Fail}
-use Rattle.serve_events.specs.declared.event.WindowStop.{WindowStop}
-use Rattle.serve_events.specs.Keys.{IsKey, frame_key, mode_at}
-use Rattle.serve_events.specs.Own.{has_got, has_got_all, may_fail, names_source}
-use Rattle.serve_events.specs.SerialRun.{eviction}
+use Rattle.serve_machine.specs.declared.event.Event.{Event}
+use Rattle.serve_machine.specs.declared.event.Event.TheVariants.{Hit, Claim, Enter, Leave, Publish, Abandon, Take, Deliver, Fail}
+use Rattle.serve_machine.specs.declared.event.WindowStop.{WindowStop}
+use Rattle.serve_machine.specs.Keys.{IsKey, frame_key, mode_at}
+use Rattle.serve_machine.specs.Own.{has_got, has_got_all, may_fail, names_source}
+use Rattle.serve_machine.specs.SerialRun.{eviction}
 use Rattle.serve_machine.specs.State.{Fixed, is_open}
 use Rattle.serve_core.specs.CoreValue.{CoreValue}
 use Rattle.serve_core.specs.Holds.{claims_at, holds_none}

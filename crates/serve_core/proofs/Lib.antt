@@ -11,3 +11,5 @@ pub mod WindowLemmas
 pub mod ClosedLemmas
 pub mod TurnLemmas
 pub mod SteadyLemmas
+pub mod Tables
+pub mod Making

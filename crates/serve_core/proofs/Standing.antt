@@ -15,12 +15,12 @@ use Rattle.inst_table.specs.declared.place.Slot.{Slot}
 use Rattle.inst_table.specs.declared.place.Slot.TheVariants.{Free, Leased as LeasedTo}
 use Rattle.inst_table.specs.Places.{same_place, slot_at, with_slot, shared_place}
 use Rattle.inst_table.proofs.CallerLemmas.{same_places, slot_other}
-use Rattle.serve_events.specs.declared.event.Event.{Event}
-use Rattle.serve_events.specs.declared.event.Event.TheVariants.{Hit, Claim, Enter, Leave, Publish, Abandon, Take, Deliver, Fail}
-use Rattle.serve_events.specs.declared.event.WindowStop.{WindowStop}
-use Rattle.serve_events.specs.declared.event.WindowStop.TheVariants.{Read, Changed, Memory}
-use Rattle.serve_events.specs.Keys.{frame_key}
-use Rattle.serve_events.specs.SerialRun.{eviction}
+use Rattle.serve_machine.specs.declared.event.Event.{Event}
+use Rattle.serve_machine.specs.declared.event.Event.TheVariants.{Hit, Claim, Enter, Leave, Publish, Abandon, Take, Deliver, Fail}
+use Rattle.serve_machine.specs.declared.event.WindowStop.{WindowStop}
+use Rattle.serve_machine.specs.declared.event.WindowStop.TheVariants.{Read, Changed, Memory}
+use Rattle.serve_machine.specs.Keys.{frame_key}
+use Rattle.serve_machine.specs.SerialRun.{eviction}
 use Rattle.serve_core.specs.declared.answers.Ask.{Ask}
 use Rattle.serve_core.specs.declared.answers.Ask.TheVariants.{Hit as Found, Claimed, Taken, Stopped}
 use Rattle.serve_core.specs.declared.answers.Admitted.{Admitted}

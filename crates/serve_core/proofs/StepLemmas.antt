@@ -19,14 +19,14 @@ use Rattle.inst_table.specs.declared.place.Slot.{Slot}
 use Rattle.inst_table.specs.declared.place.Slot.TheVariants.{Free, Leased}
 use Rattle.inst_table.specs.Lent.{Lent}
 use Rattle.inst_table.specs.Places.{same_place, slot_at, with_slot}
-use Rattle.serve_events.specs.declared.event.Event.{Event}
-use Rattle.serve_events.specs.declared.event.Event.TheVariants.{Hit, Claim, Enter, Leave, Evict, Publish, Abandon, Take, Deliver, Fail}
-use Rattle.serve_events.specs.declared.event.WindowStop.{WindowStop}
-use Rattle.serve_events.specs.declared.event.WindowStop.TheVariants.{Read, Changed, Memory}
-use Rattle.serve_events.specs.Events.{worker_of}
-use Rattle.serve_events.specs.Keys.{IsKey, frame_key, mode_at}
-use Rattle.serve_events.specs.Own.{has_got, has_got_all, may_fail, names_source}
-use Rattle.serve_events.specs.SerialRun.{eviction}
+use Rattle.serve_machine.specs.declared.event.Event.{Event}
+use Rattle.serve_machine.specs.declared.event.Event.TheVariants.{Hit, Claim, Enter, Leave, Evict, Publish, Abandon, Take, Deliver, Fail}
+use Rattle.serve_machine.specs.declared.event.WindowStop.{WindowStop}
+use Rattle.serve_machine.specs.declared.event.WindowStop.TheVariants.{Read, Changed, Memory}
+use Rattle.serve_machine.specs.Events.{worker_of}
+use Rattle.serve_machine.specs.Keys.{IsKey, frame_key, mode_at}
+use Rattle.serve_machine.specs.Own.{has_got, has_got_all, may_fail, names_source}
+use Rattle.serve_machine.specs.SerialRun.{eviction}
 use Rattle.serve_core.specs.declared.answers.Ask.TheVariants.{Hit as Found, Claimed}
 use Rattle.serve_core.specs.declared.answers.Admitted.TheVariants.{Leased as Lends}
 use Rattle.serve_core.specs.CoreValue.{CoreValue}

@@ -1,10 +1,10 @@
 -- The stops of a journal that grows.
 use Rattle.std.proofs.Common.{◌≡◌, ℕ, Bool, true, false, ◌||◌, List, [], ◌∷◌, ◌++◌, Option, Some, None, refl, sym, ap, ◌∙◌}
 use Rattle.fv_plane.specs.declared.key.Key.{Key}
-use Rattle.serve_events.specs.declared.event.Event.{Event}
-use Rattle.serve_events.specs.declared.event.Event.TheVariants.{Publish, Fail}
-use Rattle.serve_events.specs.declared.event.WindowStop.{WindowStop}
-use Rattle.serve_events.specs.SerialRun.{eviction}
+use Rattle.serve_machine.specs.declared.event.Event.{Event}
+use Rattle.serve_machine.specs.declared.event.Event.TheVariants.{Publish, Fail}
+use Rattle.serve_machine.specs.declared.event.WindowStop.{WindowStop}
+use Rattle.serve_machine.specs.SerialRun.{eviction}
 use Rattle.serve_machine.specs.Stops.{kept_stop, stop_of, earlier, first_stop, is_read, has_read, is_changed, has_changed}
 use Rattle.serve_machine.proofs.ClosingLemmas.{first_stop-append}
 

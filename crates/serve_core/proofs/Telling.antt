@@ -10,7 +10,7 @@ use Rattle.clip_graph.specs.Plan.{Application}
 use Rattle.clip_graph.specs.Unfolding.{key_picture}
 use Rattle.frame_cache.specs.Cached.{same_key, at_key, Differ}
 use Rattle.frame_cache.proofs.CallerLemmas.{test, same_keys, key_itself, nowhere}
-use Rattle.serve_events.specs.Keys.{frame_key}
+use Rattle.serve_machine.specs.Keys.{frame_key}
 use Rattle.serve_machine.specs.State.{State}
 use Rattle.serve_machine.specs.Stops.{has_changed}
 use Rattle.serve_machine.specs.Machine.{replay}

@@ -4,8 +4,8 @@ use Rattle.fv_plane.specs.Picture.{Picture}
 use Rattle.fv_plane.specs.declared.key.Key.{Key}
 use Rattle.inst_table.specs.declared.place.Place.{Place}
 use Rattle.inst_table.specs.declared.place.Slot.{Slot}
-use Rattle.serve_events.specs.declared.event.Event.{Event}
-use Rattle.serve_events.specs.declared.event.WindowStop.{WindowStop}
+use Rattle.serve_machine.specs.declared.event.Event.{Event}
+use Rattle.serve_machine.specs.declared.event.WindowStop.{WindowStop}
 pub use Rattle.serve_machine.specs.State.{Fixed}
 
 -- who took the outputs so far, in their order, and what was delivered at each place of the window

@@ -1,5 +1,8 @@
 pub mod CoreValue
 pub mod Sources
+pub mod Tables
+pub mod WorkerValue
+pub mod Works
 pub mod Calls
 pub mod Holds
 pub mod Kept

@@ -9,7 +9,7 @@ use Rattle.inst_table.specs.declared.place.Place.{Place}
 use Rattle.inst_table.specs.declared.place.Slot.{Slot}
 use Rattle.inst_table.specs.declared.place.Slot.TheVariants.{Free, Leased}
 use Rattle.inst_table.specs.Places.{slot_at, has_place, shared_place, own_place}
-use Rattle.serve_events.specs.Keys.{mode_at, instance_of}
+use Rattle.serve_machine.specs.Keys.{mode_at, instance_of}
 pub use Rattle.serve_machine.specs.State.{with_told, all_told}
 
 abbrev pub shape_at : List Application → ℕ → Shape

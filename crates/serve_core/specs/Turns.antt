@@ -7,9 +7,9 @@ use Rattle.fv_plane.specs.declared.key.Key.{Key}
 use Rattle.inst_table.specs.declared.place.Place.{Place}
 use Rattle.inst_table.specs.declared.place.Slot.TheVariants.{Leased as LeasedTo}
 use Rattle.inst_table.specs.Places.{slot_at}
-use Rattle.serve_events.specs.declared.event.Event.TheVariants.{Fail}
-use Rattle.serve_events.specs.declared.event.WindowStop.{WindowStop}
-use Rattle.serve_events.specs.Keys.{frame_key}
+use Rattle.serve_machine.specs.declared.event.Event.TheVariants.{Fail}
+use Rattle.serve_machine.specs.declared.event.WindowStop.{WindowStop}
+use Rattle.serve_machine.specs.Keys.{frame_key}
 use Rattle.serve_core.specs.declared.answers.Ask.{Ask}
 use Rattle.serve_core.specs.declared.answers.Admitted.{Admitted}
 use Rattle.serve_core.specs.CoreValue.{CoreValue}

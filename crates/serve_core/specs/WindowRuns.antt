@@ -1,7 +1,7 @@
 -- The windows of a core are runs one after the other.
 use Rattle.std.specs.Prelude.{◌≡◌, Some}
 use Rattle.std.specs.Map.{keys_of}
-use Rattle.serve_events.specs.Windows.{WindowEvents}
+use Rattle.serve_machine.specs.Windows.{WindowEvents}
 use Rattle.serve_machine.specs.State.{State}
 use Rattle.serve_machine.specs.Lifted.{keys_machine}
 use Rattle.serve_machine.specs.Renders.{after_window}

@@ -1,22 +1,21 @@
 -- What a worker has in a core is told by its own events of the journal.
-use Rattle.std.specs.Prelude.{◌≡◌, ℕ, ◌+◌, ◌-◌, ◌<◌, ◌≤◌, true, List, [], ◌∷◌, length, slice_get, is_some, Some, None}
+use Rattle.std.specs.Prelude.{◌≡◌, ℕ, ◌-◌, ◌<◌, ◌≤◌, true, [], ◌∷◌, length, slice_get, is_some, Some, None}
 use Rattle.fv_plane.specs.Picture.{Picture}
 use Rattle.fv_plane.specs.declared.key.Key.{Key}
 use Rattle.frame_cache.specs.Cached.{at_key}
 use Rattle.inst_table.specs.declared.place.Place.{Place}
 use Rattle.inst_table.specs.declared.place.Slot.TheVariants.{Leased}
 use Rattle.inst_table.specs.Places.{slot_at}
-use Rattle.serve_events.specs.Keys.{has}
-use Rattle.serve_events.specs.Own.{own_events}
+use Rattle.serve_machine.specs.Keys.{has}
+use Rattle.serve_machine.specs.Own.{own_events}
 use Rattle.serve_machine.specs.State.{is_by}
 use Rattle.serve_machine.specs.Stops.{first_stop}
 use Rattle.serve_machine.specs.Holdings.{Holdings, has_number, own_holdings, claims_of}
-use Rattle.serve_events.specs.declared.event.Event.{Event}
-use Rattle.serve_events.specs.declared.event.Event.TheVariants.{Take}
 use Rattle.serve_core.specs.Kept.{leases_out}
 use Rattle.serve_core.specs.CoreValue.{CoreValue}
 use Rattle.serve_core.specs.Holds.{claims_at, holds_none}
 use Rattle.serve_core.specs.Runs.{IsRun}
+use Rattle.serve_machine.specs.Worked.{takes}
 
 module _ {I : Type 0} where
   -- what the worker's own events say that it has
@@ -42,12 +41,6 @@ module _ {I : Type 0} where
 -- in every core
 abbrev pub OwnEventsTell : Type 0 → Type 0
 OwnEventsTell I = (c : CoreValue I) (w : ℕ) → IsRun c → HasTold c w
-
--- the outputs that were taken
-abbrev pub takes : List Event → ℕ
-takes [] = 0
-takes (Take w n ∷ es) = takes es + 1
-takes (e ∷ es) = takes es
 
 -- The journal tells how many outputs were taken. Where each worker has closed what it opened, no claim and no instance is
 -- open, and each output that was taken is delivered.

@@ -1,7 +1,7 @@
 // What the calls of a core answer.
 use fv_plane::Frame;
 use inst_table::Lease;
-use serve_events::{Event, WindowStop};
+use serve_machine::{Event, WindowStop};
 
 /// What a worker learns that asks for a frame.
 #[derive(Drop)]

@@ -1,7 +1,7 @@
 // A core as the value of a lock.
 use crate::state::Core;
 use inst_table::Held;
-use serve_events::Event;
+use serve_machine::Event;
 use turn_lock::Booked;
 
 /// The entries of a core are the events of its journal, each by its worker. The tag of a lock is the core that it starts
@@ -12,7 +12,7 @@ impl<I: Held> Booked for Core<I> {
 
     type Entry = Event;
 
-    ghost use Rattle.serve_events.specs.Events.{worker_of};
+    ghost use Rattle.serve_machine.specs.Events.{worker_of};
     ghost use Rattle.serve_core.specs.Steady.{IsSteady};
     ghost use Rattle.serve_core.specs.Turns.{StandsFor};
 

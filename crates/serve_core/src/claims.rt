@@ -1,6 +1,6 @@
 // Claims: keys, each with the worker that is to make the frame. They are few: a worker has at most as many as the graph
 // is deep.
-ghost use Rattle.std.specs.Prelude.{◌≡◌, ◌+◌, length, true};
+ghost use Rattle.std.specs.Prelude.{◌≡◌, ◌+◌, true};
 ghost use Rattle.std.specs.List.{position_or_len};
 ghost use Rattle.serve_core.specs.Holds.{newest};
 ghost use Rattle.serve_machine.specs.Holdings.{claims_of};

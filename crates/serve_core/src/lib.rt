@@ -12,7 +12,11 @@ mod booked;
 mod claims;
 pub mod laws;
 mod state;
+mod worker;
+mod works;
 
 pub use answers::{Admitted, Ask, Finished};
-pub use serve_events::{Event, Record, WindowStop, Windowed};
+pub use serve_machine::{Event, Record, WindowStop, Windowed};
 pub use state::Core;
+pub use worker::Worker;
+pub use works::Works;

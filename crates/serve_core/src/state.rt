@@ -1,6 +1,6 @@
 // `Core`: the cache, claims, instances, outputs and journal of a window, and the calls on them.
-ghost use Rattle.std.specs.Prelude.{◌≡◌, ◌+◌, ◌-◌, ◌<◌, ◌≤◌, ◌++◌, ℕ, List, [], length, slice_get, replicate};
-ghost use Rattle.std.specs.Prelude.{None, Some, IfOk, IfSome, OnOk, OnErr, true, false};
+ghost use Rattle.std.specs.Prelude.{◌≡◌, ◌+◌, ◌-◌, ◌<◌, ◌≤◌, ◌++◌, ℕ, [], length, slice_get, replicate};
+ghost use Rattle.std.specs.Prelude.{None, Some, IfOk, OnOk, OnErr, true, false};
 ghost use Rattle.std.specs.Arc.{arc_value};
 ghost use Rattle.std.specs.Vec.{vec_capacity, vec_len};
 ghost use Rattle.fv_plane.specs.Picture.{Picture};
@@ -9,9 +9,9 @@ ghost use Rattle.clip_graph.specs.Unfolding.{input_keys};
 ghost use Rattle.frame_cache.specs.Cached.{at_key, Differ};
 ghost use Rattle.inst_table.specs.Places.{slot_at, PlacesDiffer};
 ghost use Rattle.inst_table.specs.declared.place.Slot.TheVariants.{Leased};
-ghost use Rattle.serve_events.specs.Keys.{IsKey, frame_key, mode_at};
-ghost use Rattle.serve_events.specs.Own.{has_got, has_got_all, may_fail, names_source};
-ghost use Rattle.serve_events.specs.SerialRun.{eviction};
+ghost use Rattle.serve_machine.specs.Keys.{IsKey, frame_key, mode_at};
+ghost use Rattle.serve_machine.specs.Own.{has_got, has_got_all, may_fail, names_source};
+ghost use Rattle.serve_machine.specs.SerialRun.{eviction};
 ghost use Rattle.serve_core.specs.Calls.{Asked, Admits, left, published, abandoned};
 ghost use Rattle.serve_core.specs.Calls.{TookOutput, delivered, failing, made, begun, ended};
 ghost use Rattle.serve_core.specs.Holds.{claims_at, holds_none, newest, IsThere};
@@ -23,12 +23,13 @@ ghost use Rattle.serve_machine.specs.Stops.{kept_stop, first_stop};
 
 use crate::answers::{Admitted, Ask, Finished};
 use crate::claims::{claimant, close, newest_of};
+use crate::works::Works;
 use clip_graph::Graph;
 use frame_cache::FrameCache;
-use fv_plane::{Frame, Key, Shape};
+use fv_plane::{Frame, FrameMemory, Key};
 use fv_spares::Spares;
 use inst_table::{Entered, Held, InstTable, Lease};
-use serve_events::{Event, WindowStop};
+use serve_machine::{Event, WindowStop};
 use std::alloc::{AllocError, Global};
 use std::marker::Model;
 use std::mem;
@@ -297,7 +298,7 @@ impl<I: Held> Core<I> {
     }
 
     /// Asks for the worker's instance of a node, whose mode isn't 1, for a worker that has a claim on a frame of the
-    /// node and has no lease. An instance that makes its frame in memory of its own gets some that is spare.
+    /// node and has no lease.
     pub fn enter(&mut self, worker: u32, node: u32) -> Result<Admitted<I>, AllocError>
         requires worker { worker < self.old.fixed.workers }
         requires node { node < length self.old.fixed.plan }
@@ -322,7 +323,7 @@ impl<I: Held> Core<I> {
                     node,
                     instance,
                 });
-                Ok(Admitted::Leased(with_memory(lease, &mut self.spares)))
+                Ok(Admitted::Leased(lease))
             }
             Entered::Busy { holder } => Ok(Admitted::Busy { holder }),
         }
@@ -441,13 +442,6 @@ impl<I: Held> Core<I> {
         }
     }
 
-    /// Hands out memory for a plane of a frame of this shape, if there is some. No contract sees that memory.
-    pub fn take_memory(&mut self, shape: Shape, plane: u32) -> Option<Vec<u8>>
-        ensures { self.new ≡ self.old }
-    {
-        self.spares.take_plane(shape, plane)
-    }
-
     /// Keeps the memory of frames that are no longer needed for frames to come, where nothing else shares it. No contract
     /// sees that memory.
     pub fn keep_memory(&mut self, frames: Vec<Option<Frame>>)
@@ -485,6 +479,16 @@ impl<I: Held> Core<I> {
     }
 }
 
+impl<I: Works> Core<I> {
+    /// Memory for the frame of a key, as far as there is some. No contract sees that memory.
+    pub fn memory_for(&mut self, key: Key) -> FrameMemory
+        requires { IsKey self.old.fixed.plan key }
+        ensures { self.new ≡ self.old }
+    {
+        I::memory_for(&self.graph, key, &mut self.spares)
+    }
+}
+
 // Keeps the memory of the frame that the cache dropped.
 fn keep_dropped(cache: &mut FrameCache, spares: &mut Spares)
     ensures { cache.new ≡ cache.old }
@@ -492,15 +496,6 @@ fn keep_dropped(cache: &mut FrameCache, spares: &mut Spares)
     if let Some(frame) = cache.take_dropped() {
         spares.keep(frame);
     }
-}
-
-// The instance, with spare memory if it takes some.
-fn with_memory<I: Held>(lease: Lease<I>, spares: &mut Spares) -> Lease<I>
-    ensures { result ≡ lease }
-{
-    let mut lease = lease;
-    lease.value().take_memory(spares);
-    lease
 }
 
 // The stop that is kept.

@@ -8,15 +8,15 @@ use Rattle.fv_plane.specs.declared.key.Key.{Key}
 use Rattle.clip_graph.specs.Plan.{Application, IsPlan}
 use Rattle.clip_graph.specs.Unfolding.{input_keys, IsKeyBelow}
 use Rattle.clip_graph.proofs.UnfoldingLemmas.{inputs_are_keys}
-use Rattle.serve_events.specs.declared.event.Event.{Event}
-use Rattle.serve_events.specs.declared.event.Event.TheVariants.{Enter, Leave, Publish, Abandon, Take, Deliver}
-use Rattle.serve_events.specs.declared.event.WindowStop.{WindowStop}
-use Rattle.serve_events.specs.Keys.{frame_key, same_key, without, mode_at, instance_of}
-use Rattle.serve_events.specs.Own.{has_got, has_got_all}
-use Rattle.serve_events.specs.SerialRun.{eviction, leases}
-use Rattle.serve_events.specs.Work.{Production, hit, made, Productions, done, more, CutShort, refused, inside, entered, unpublished, CutInputs, between, within, Deliveries, none, also, CutDeliveries, untaken, taken}
-use Rattle.serve_events.proofs.KeyLemmas.{test, left_true, right_true, same_keys, key_itself}
-use Rattle.serve_events.proofs.OwnLemmas.{was_got, now_got, hit_got, publish_got}
+use Rattle.serve_machine.specs.declared.event.Event.{Event}
+use Rattle.serve_machine.specs.declared.event.Event.TheVariants.{Enter, Leave, Publish, Abandon, Take, Deliver}
+use Rattle.serve_machine.specs.declared.event.WindowStop.{WindowStop}
+use Rattle.serve_machine.specs.Keys.{frame_key, same_key, without, mode_at, instance_of}
+use Rattle.serve_machine.specs.Own.{has_got, has_got_all}
+use Rattle.serve_machine.specs.SerialRun.{eviction, leases}
+use Rattle.serve_machine.specs.Work.{Production, hit, made, Productions, done, more, CutShort, refused, inside, entered, unpublished, CutInputs, between, within, Deliveries, none, also, CutDeliveries, untaken, taken}
+use Rattle.serve_machine.proofs.KeyLemmas.{test, left_true, right_true, same_keys, key_itself}
+use Rattle.serve_machine.proofs.OwnLemmas.{was_got, now_got, hit_got, publish_got}
 use Rattle.serve_machine.specs.Holdings.{Holdings, next_holdings, holdings_after, own_holdings}
 use Rattle.serve_machine.specs.Stops.{stop_of, earlier, first_stop}
 use Rattle.serve_machine.specs.Closing.{AllPast, abandons, nothing, IsIdle, WorkCloses}

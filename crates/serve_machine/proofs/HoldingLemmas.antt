@@ -12,13 +12,13 @@ use Rattle.frame_cache.proofs.CallerLemmas.{test, left_true, right_true, differ_
 use Rattle.inst_table.specs.declared.place.Place.{Place}
 use Rattle.inst_table.specs.Places.{same_place}
 use Rattle.inst_table.proofs.CallerLemmas.{same_places}
-use Rattle.serve_events.specs.declared.event.Event.{Event}
-use Rattle.serve_events.specs.declared.event.Event.TheVariants.{Hit, Claim, Enter, Leave, Evict, Publish, Abandon, Take, Deliver, Fail}
-use Rattle.serve_events.specs.declared.event.WindowStop.{WindowStop}
-use Rattle.serve_events.specs.Events.{worker_of}
-use Rattle.serve_events.specs.Keys.{has, frame_key}
-use Rattle.serve_events.specs.Own.{gives, has_got, enters, has_entered, own_events}
-use Rattle.serve_events.proofs.OwnLemmas.{is_own}
+use Rattle.serve_machine.specs.declared.event.Event.{Event}
+use Rattle.serve_machine.specs.declared.event.Event.TheVariants.{Hit, Claim, Enter, Leave, Evict, Publish, Abandon, Take, Deliver, Fail}
+use Rattle.serve_machine.specs.declared.event.WindowStop.{WindowStop}
+use Rattle.serve_machine.specs.Events.{worker_of}
+use Rattle.serve_machine.specs.Keys.{has, frame_key}
+use Rattle.serve_machine.specs.Own.{gives, has_got, enters, has_entered, own_events}
+use Rattle.serve_machine.proofs.OwnLemmas.{is_own}
 use Rattle.serve_machine.specs.State.{State, place_named, is_by, is_entered, noted, got_at, gathered}
 use Rattle.serve_machine.specs.Machine.{Machine, meets, allowed, change, replay}
 use Rattle.serve_machine.specs.Stops.{stop_of, earlier, first_stop}

@@ -10,9 +10,9 @@ use Rattle.clip_graph.specs.Plan.{Application}
 use Rattle.clip_graph.specs.Unfolding.{input_keys}
 use Rattle.frame_cache.specs.Cached.{same_key, at_key, has_key, without_key, fronted, Differ}
 use Rattle.frame_cache.proofs.CallerLemmas.{test, left_true, right_true, same_keys, at_fronted, at_take, none_take, some_without, some_push, length_without, others, nowhere, differ_push, differ_without, gone}
-use Rattle.serve_events.specs.declared.event.Event.{Event}
-use Rattle.serve_events.specs.declared.event.Event.TheVariants.{Hit, Claim, Enter, Leave, Evict, Publish, Abandon, Take, Deliver, Fail}
-use Rattle.serve_events.specs.Keys.{IsKey, frame_key}
+use Rattle.serve_machine.specs.declared.event.Event.{Event}
+use Rattle.serve_machine.specs.declared.event.Event.TheVariants.{Hit, Claim, Enter, Leave, Evict, Publish, Abandon, Take, Deliver, Fail}
+use Rattle.serve_machine.specs.Keys.{IsKey, frame_key}
 use Rattle.serve_machine.specs.State.{State, is_key, noted, with_told, got_at, gathered}
 use Rattle.serve_machine.specs.Machine.{Machine, meets, allowed, change, replay}
 use Rattle.serve_machine.specs.Law.{AreRight, GotRight, DeliveredRight, Makes}

@@ -8,7 +8,7 @@ use Rattle.clip_graph.proofs.UnfoldingLemmas.{unfolds}
 use Rattle.frame_cache.specs.Cached.{Differ}
 use Rattle.frame_cache.proofs.CallerLemmas.{test}
 use Rattle.inst_table.specs.declared.place.Place.{Place}
-use Rattle.serve_events.specs.declared.event.Event.{Event}
+use Rattle.serve_machine.specs.declared.event.Event.{Event}
 use Rattle.serve_machine.specs.State.{State, got_at}
 use Rattle.serve_machine.specs.Machine.{Machine, allowed, change, replay}
 use Rattle.serve_machine.specs.Law.{start_of, Makes, IsOpening, IsRefined, RunsRefine, told_machine, ToldRunsRefine}

@@ -1,3 +1,7 @@
+pub mod KeyLemmas
+pub mod OwnLemmas
+pub mod SerialLemmas
+pub mod WorkLemmas
 pub mod TruthLemmas
 pub mod GotLemmas
 pub mod KeptLemmas
@@ -10,3 +14,4 @@ pub mod HoldingLemmas
 pub mod RenderLemmas
 pub mod ReachLemmas
 pub mod ClosingLemmas
+pub mod OnceLemmas

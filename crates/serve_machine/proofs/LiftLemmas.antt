@@ -9,11 +9,11 @@ use Rattle.fv_plane.specs.declared.key.Key.{Key}
 use Rattle.clip_graph.specs.Unfolding.{input_keys}
 use Rattle.frame_cache.specs.Cached.{same_key, at_key, has_key, without_key}
 use Rattle.frame_cache.proofs.CallerLemmas.{test, left_true, right_true}
-use Rattle.serve_events.specs.declared.event.Event.{Event}
-use Rattle.serve_events.specs.declared.event.Event.TheVariants.{Hit, Claim, Enter, Leave, Evict, Publish, Abandon, Take, Deliver, Fail}
-use Rattle.serve_events.specs.declared.event.WindowStop.{WindowStop}
-use Rattle.serve_events.specs.declared.event.WindowStop.TheVariants.{Read, Changed, Memory}
-use Rattle.serve_events.specs.Keys.{frame_key}
+use Rattle.serve_machine.specs.declared.event.Event.{Event}
+use Rattle.serve_machine.specs.declared.event.Event.TheVariants.{Hit, Claim, Enter, Leave, Evict, Publish, Abandon, Take, Deliver, Fail}
+use Rattle.serve_machine.specs.declared.event.WindowStop.{WindowStop}
+use Rattle.serve_machine.specs.declared.event.WindowStop.TheVariants.{Read, Changed, Memory}
+use Rattle.serve_machine.specs.Keys.{frame_key}
 use Rattle.serve_machine.specs.State.{State, is_key, is_open, is_some_and, is_by, holds_nothing, noted, is_running, got_at, gathered}
 use Rattle.serve_machine.specs.Stops.{stop_of, is_changed, has_changed}
 use Rattle.serve_machine.specs.Machine.{Machine, may_stop, meets, allowed, change, replay}

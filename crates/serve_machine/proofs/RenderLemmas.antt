@@ -10,10 +10,10 @@ use Rattle.clip_graph.specs.Unfolding.{input_keys}
 use Rattle.frame_cache.specs.Cached.{same_key, at_key, has_key, fronted, Differ}
 use Rattle.frame_cache.proofs.CallerLemmas.{test, left_true, right_true, same_keys, key_itself, swapped, at_fronted, some_without, some_push, others}
 use Rattle.inst_table.specs.declared.place.Place.{Place}
-use Rattle.serve_events.specs.declared.event.Event.{Event}
-use Rattle.serve_events.specs.declared.event.Event.TheVariants.{Hit, Claim, Enter, Leave, Evict, Publish, Abandon, Take, Deliver, Fail}
-use Rattle.serve_events.specs.Keys.{has, without}
-use Rattle.serve_events.specs.Windows.{WindowEvents}
+use Rattle.serve_machine.specs.declared.event.Event.{Event}
+use Rattle.serve_machine.specs.declared.event.Event.TheVariants.{Hit, Claim, Enter, Leave, Evict, Publish, Abandon, Take, Deliver, Fail}
+use Rattle.serve_machine.specs.Keys.{has, without}
+use Rattle.serve_machine.specs.Windows.{WindowEvents}
 use Rattle.serve_machine.specs.State.{State, noted, gathered}
 use Rattle.serve_machine.specs.Machine.{Machine, meets, allowed, change, replay}
 use Rattle.serve_machine.specs.Law.{start_of}

@@ -3,10 +3,10 @@ use Rattle.std.specs.Prelude.{◌≡◌, ℕ, ◌<◌, ◌≤◌, true, List, []
 use Rattle.std.specs.List.{AllByRecursion}
 use Rattle.fv_plane.specs.declared.key.Key.{Key}
 use Rattle.clip_graph.specs.Plan.{Application, IsPlan}
-use Rattle.serve_events.specs.declared.event.Event.{Event}
-use Rattle.serve_events.specs.declared.event.Event.TheVariants.{Abandon}
-use Rattle.serve_events.specs.Own.{has_got, has_got_all}
-use Rattle.serve_events.specs.Work.{Production, Productions, Deliveries, CutDeliveries}
+use Rattle.serve_machine.specs.declared.event.Event.{Event}
+use Rattle.serve_machine.specs.declared.event.Event.TheVariants.{Abandon}
+use Rattle.serve_machine.specs.Own.{has_got, has_got_all}
+use Rattle.serve_machine.specs.Work.{Production, Productions, Deliveries, CutDeliveries}
 use Rattle.serve_machine.specs.Holdings.{Holdings, holdings_after, own_holdings}
 use Rattle.serve_machine.specs.Stops.{first_stop}
 

@@ -6,11 +6,11 @@ use Rattle.clip_graph.specs.Plan.{Application}
 use Rattle.frame_cache.specs.Cached.{at_key}
 use Rattle.inst_table.specs.declared.place.Place.{Place}
 use Rattle.inst_table.specs.Places.{same_place}
-use Rattle.serve_events.specs.declared.event.Event.{Event}
-use Rattle.serve_events.specs.declared.event.Event.TheVariants.{Hit, Claim, Enter, Leave, Evict, Publish, Abandon, Take, Deliver, Fail}
-use Rattle.serve_events.specs.Events.{worker_of}
-use Rattle.serve_events.specs.Keys.{has, without}
-use Rattle.serve_events.specs.Own.{has_got, has_entered, own_events}
+use Rattle.serve_machine.specs.declared.event.Event.{Event}
+use Rattle.serve_machine.specs.declared.event.Event.TheVariants.{Hit, Claim, Enter, Leave, Evict, Publish, Abandon, Take, Deliver, Fail}
+use Rattle.serve_machine.specs.Events.{worker_of}
+use Rattle.serve_machine.specs.Keys.{has, without}
+use Rattle.serve_machine.specs.Own.{has_got, has_entered, own_events}
 use Rattle.serve_machine.specs.State.{Fixed, State, place_named, is_open, is_by, holds_nothing, is_entered, got_at}
 use Rattle.serve_machine.specs.Stops.{first_stop}
 use Rattle.serve_machine.specs.Machine.{Machine, allowed, change, replay}

@@ -8,9 +8,9 @@ use Rattle.clip_graph.specs.Unfolding.{input_keys, key_picture, key_made}
 use Rattle.frame_cache.specs.Cached.{at_key, has_key, Differ}
 use Rattle.inst_table.specs.declared.place.Place.{Place}
 use Rattle.inst_table.specs.Places.{same_place}
-use Rattle.serve_events.specs.declared.event.Event.{Event}
-use Rattle.serve_events.specs.declared.event.Event.TheVariants.{Enter, Leave}
-use Rattle.serve_events.specs.Keys.{IsKey, frame_key}
+use Rattle.serve_machine.specs.declared.event.Event.{Event}
+use Rattle.serve_machine.specs.declared.event.Event.TheVariants.{Enter, Leave}
+use Rattle.serve_machine.specs.Keys.{IsKey, frame_key}
 use Rattle.serve_machine.specs.State.{Fixed, State, opening, place_named, got_at}
 use Rattle.serve_machine.specs.Machine.{Machine, replay}
 

@@ -1,3 +1,10 @@
+pub mod Events
+pub mod Windows
+pub mod Keys
+pub mod Own
+pub mod SerialRun
+pub mod Work
+pub mod SerialExamples
 pub mod State
 pub mod Stops
 pub mod Machine
@@ -7,3 +14,6 @@ pub mod Lifted
 pub mod Holdings
 pub mod Renders
 pub mod Closing
+pub mod Worked
+pub mod SerialJournal
+pub mod CrewJournal

@@ -1,6 +1,6 @@
 -- Runs of keys alone, and runs over frames.
 use Rattle.std.specs.Prelude.{◌≡◌, true, false, List, map, option_map, Some}
-use Rattle.serve_events.specs.declared.event.Event.{Event}
+use Rattle.serve_machine.specs.declared.event.Event.{Event}
 use Rattle.serve_machine.specs.State.{Fixed, State}
 use Rattle.serve_machine.specs.Stops.{has_changed}
 use Rattle.serve_machine.specs.Machine.{Machine, replay}

@@ -7,13 +7,13 @@ use Rattle.fv_plane.specs.declared.key.Key.{Key}
 use Rattle.clip_graph.specs.Unfolding.{input_keys}
 use Rattle.frame_cache.specs.Cached.{same_key, at_key, has_key, without_key, fronted, dropped_key}
 use Rattle.inst_table.specs.Places.{same_place}
-use Rattle.serve_events.specs.declared.event.Event.{Event}
-use Rattle.serve_events.specs.declared.event.Event.TheVariants.{Hit, Claim, Enter, Leave, Evict, Publish, Abandon, Take, Deliver, Fail}
-use Rattle.serve_events.specs.declared.event.WindowStop.{WindowStop}
-use Rattle.serve_events.specs.declared.event.WindowStop.TheVariants.{Read, Changed, Memory}
-use Rattle.serve_events.specs.Events.{worker_of}
-use Rattle.serve_events.specs.Keys.{frame_key, mode_at, instance_of}
-use Rattle.serve_events.specs.Own.{names_source}
+use Rattle.serve_machine.specs.declared.event.Event.{Event}
+use Rattle.serve_machine.specs.declared.event.Event.TheVariants.{Hit, Claim, Enter, Leave, Evict, Publish, Abandon, Take, Deliver, Fail}
+use Rattle.serve_machine.specs.declared.event.WindowStop.{WindowStop}
+use Rattle.serve_machine.specs.declared.event.WindowStop.TheVariants.{Read, Changed, Memory}
+use Rattle.serve_machine.specs.Events.{worker_of}
+use Rattle.serve_machine.specs.Keys.{frame_key, mode_at, instance_of}
+use Rattle.serve_machine.specs.Own.{names_source}
 use Rattle.serve_machine.specs.State.{Fixed, State, is_key, place_named, claims_at, is_open, is_some_and, is_by, holds_nothing, is_entered, noted, is_running, got_at, gathered}
 use Rattle.serve_machine.specs.Stops.{kept_stop}
 

@@ -7,11 +7,11 @@ use Rattle.clip_graph.specs.Plan.{Application}
 use Rattle.clip_graph.specs.Unfolding.{input_keys}
 use Rattle.frame_cache.specs.Cached.{same_key, Differ}
 use Rattle.inst_table.specs.declared.place.Place.{Place}
-use Rattle.serve_events.specs.declared.event.Event.{Event}
-use Rattle.serve_events.specs.declared.event.Event.TheVariants.{Claim, Evict, Publish, Take}
-use Rattle.serve_events.specs.Keys.{frame_key, has}
-use Rattle.serve_events.specs.Windows.{WindowEvents}
-use Rattle.serve_events.specs.Work.{Deliveries, CutDeliveries}
+use Rattle.serve_machine.specs.declared.event.Event.{Event}
+use Rattle.serve_machine.specs.declared.event.Event.TheVariants.{Claim, Evict, Publish, Take}
+use Rattle.serve_machine.specs.Keys.{frame_key, has}
+use Rattle.serve_machine.specs.Windows.{WindowEvents}
+use Rattle.serve_machine.specs.Work.{Deliveries, CutDeliveries}
 use Rattle.serve_machine.specs.State.{State}
 use Rattle.serve_machine.specs.Machine.{Machine, replay}
 use Rattle.serve_machine.specs.Law.{start_of}

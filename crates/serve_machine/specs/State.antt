@@ -8,8 +8,8 @@ use Rattle.clip_graph.specs.Plan.{Application, application_at}
 use Rattle.frame_cache.specs.Cached.{same_key}
 use Rattle.inst_table.specs.declared.place.Place.{Place}
 use Rattle.inst_table.specs.Places.{place_at}
-use Rattle.serve_events.specs.declared.event.WindowStop.{WindowStop}
-use Rattle.serve_events.specs.Keys.{mode_at}
+use Rattle.serve_machine.specs.declared.event.WindowStop.{WindowStop}
+use Rattle.serve_machine.specs.Keys.{mode_at}
 
 -- what a window does not change: the outputs are `count` frames of the root from `first` on, and `opening` are the keys
 -- that were cached when the window began; between windows there is no output

@@ -1,9 +1,9 @@
 -- The stops in a journal.
 use Rattle.std.specs.Prelude.{ℕ, ◌==◌, Bool, true, false, ◌||◌, List, [], ◌∷◌, Option, Some, None}
-use Rattle.serve_events.specs.declared.event.Event.{Event}
-use Rattle.serve_events.specs.declared.event.Event.TheVariants.{Hit, Claim, Enter, Leave, Evict, Publish, Abandon, Take, Deliver, Fail}
-use Rattle.serve_events.specs.declared.event.WindowStop.{WindowStop}
-use Rattle.serve_events.specs.declared.event.WindowStop.TheVariants.{Read, Changed, Memory}
+use Rattle.serve_machine.specs.declared.event.Event.{Event}
+use Rattle.serve_machine.specs.declared.event.Event.TheVariants.{Hit, Claim, Enter, Leave, Evict, Publish, Abandon, Take, Deliver, Fail}
+use Rattle.serve_machine.specs.declared.event.WindowStop.{WindowStop}
+use Rattle.serve_machine.specs.declared.event.WindowStop.TheVariants.{Read, Changed, Memory}
 
 -- the first stop is kept
 abbrev pub kept_stop : Option WindowStop → WindowStop → WindowStop

@@ -2,9 +2,9 @@
 use Rattle.std.proofs.Common.{◌≡◌, ◌∙◌, ℕ, List, ap, sym, subst}
 use Rattle.fv_io.specs.declared.sink.Sink.{Ghosts}
 use Rattle.fv_io.specs.Sink.{Puts, PutsPrefix}
-use Rattle.run_law.specs.declared.verdict.Verdict.{Verdict}
-use Rattle.run_law.specs.Judging.{Judges}
-use Rattle.run_law.proofs.JudgeLemmas.{judged_once}
+use Rattle.run_text.specs.declared.verdict.Verdict.{Verdict}
+use Rattle.run_text.specs.Judging.{Judges}
+use Rattle.run_text.proofs.JudgeLemmas.{judged_once}
 use Rattle.clip_graph.specs.Plan.{Application}
 use Rattle.serve_replay.specs.Verdicts.{said, IsSaidOf, SaidOnce, PutsDue}
 

@@ -3,9 +3,9 @@ use Rattle.std.specs.Prelude.{◌≡◌, ℕ, List}
 use Rattle.fv_io.specs.declared.sink.Sink.{Ghosts}
 use Rattle.fv_io.specs.Sink.{Puts, PutsPrefix, SinkFailed}
 use Rattle.clip_graph.specs.Plan.{Application}
-use Rattle.run_law.specs.declared.verdict.Verdict.{Verdict}
-use Rattle.run_law.specs.declared.verdict.Verdict.TheVariants.{Yes, No}
-use Rattle.run_law.specs.Judging.{Judges}
+use Rattle.run_text.specs.declared.verdict.Verdict.{Verdict}
+use Rattle.run_text.specs.declared.verdict.Verdict.TheVariants.{Yes, No}
+use Rattle.run_text.specs.Judging.{Judges}
 use Rattle.serve_text.specs.declared.stop.Stop.{Stop}
 use Rattle.serve_text.specs.declared.stop.Stop.TheVariants as of_stop
 use Rattle.serve_replay.specs.Lines.{run_line, wrong_line}

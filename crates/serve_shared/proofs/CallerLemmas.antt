@@ -4,17 +4,17 @@ use Rattle.std.proofs.lemmas.List.{append_cancel_left}
 use Rattle.clip_graph.specs.Plan.{Application}
 use Rattle.turn_lock.specs.Entries.{IsPrefix}
 use Rattle.turn_lock.proofs.EntryLemmas.{entries_of-append}
-use Rattle.serve_events.specs.declared.event.Event.{Event}
-use Rattle.serve_events.specs.declared.event.Event.TheVariants.{Hit, Claim, Enter, Leave, Evict, Publish, Abandon, Take, Deliver, Fail}
-use Rattle.serve_events.specs.declared.event.WindowStop.{WindowStop}
-use Rattle.serve_events.specs.Events.{worker_of}
-use Rattle.serve_events.specs.Own.{own_events}
-use Rattle.serve_events.specs.Work.{CutDeliveries, FailedWork, StoppedWork, CutWork}
+use Rattle.serve_machine.specs.declared.event.Event.{Event}
+use Rattle.serve_machine.specs.declared.event.Event.TheVariants.{Hit, Claim, Enter, Leave, Evict, Publish, Abandon, Take, Deliver, Fail}
+use Rattle.serve_machine.specs.declared.event.WindowStop.{WindowStop}
+use Rattle.serve_machine.specs.Events.{worker_of}
+use Rattle.serve_machine.specs.Own.{own_events}
+use Rattle.serve_machine.specs.Work.{CutDeliveries, FailedWork, StoppedWork, CutWork}
 use Rattle.serve_machine.specs.Stops.{earlier, first_stop}
 use Rattle.serve_machine.proofs.ClosingLemmas.{first_stop-append}
 use Rattle.serve_core.specs.CoreValue.{CoreValue}
-use Rattle.serve_core.specs.Workers.{takes}
-use Rattle.serve_shared.specs.Shares.{DeliversAll, IsWork, Worked}
+use Rattle.serve_machine.specs.Worked.{takes, DeliversAll, IsWork}
+use Rattle.serve_shared.specs.Shares.{Worked}
 pub use Rattle.serve_shared.proofs.EventLemmas.{entries_own}
 
 own-append : (w : ℕ) (es fs : List Event) → own_events w (es ++ fs) ≡ own_events w es ++ own_events w fs

@@ -5,8 +5,8 @@ use Rattle.std.specs.Map.{keys_of}
 use Rattle.fv_plane.specs.declared.key.Key.{Key}
 use Rattle.frame_cache.specs.Cached.{same_key, at_key, without_key, Differ}
 use Rattle.frame_cache.proofs.CallerLemmas.{test, key_itself, differ_without, gone}
-use Rattle.serve_events.specs.declared.event.Event.TheVariants.{Abandon}
-use Rattle.serve_events.specs.Keys.{has, without}
+use Rattle.serve_machine.specs.declared.event.Event.TheVariants.{Abandon}
+use Rattle.serve_machine.specs.Keys.{has, without}
 use Rattle.serve_machine.specs.Closing.{abandons}
 use Rattle.serve_machine.specs.State.{is_by}
 use Rattle.serve_machine.specs.Holdings.{claims_of}

@@ -2,11 +2,11 @@
 use Rattle.std.proofs.Common.{◌≡◌, ℕ, ◌==◌, true, false, if◌then◌else◌, List, [], ◌∷◌, Contains, Some, None, sym, refl, ap, ◌∙◌, eq-eqb, arith}
 use Rattle.std.proofs.lemmas.List.Elements.{Contains-append_right}
 use Rattle.turn_lock.specs.Entries.{entries_of}
-use Rattle.serve_events.specs.declared.event.Event.{Event}
-use Rattle.serve_events.specs.declared.event.Event.TheVariants.{Hit, Claim, Enter, Leave, Evict, Publish, Abandon, Take, Deliver, Fail}
-use Rattle.serve_events.specs.declared.event.WindowStop.{WindowStop}
-use Rattle.serve_events.specs.Events.{worker_of}
-use Rattle.serve_events.specs.Own.{own_events}
+use Rattle.serve_machine.specs.declared.event.Event.{Event}
+use Rattle.serve_machine.specs.declared.event.Event.TheVariants.{Hit, Claim, Enter, Leave, Evict, Publish, Abandon, Take, Deliver, Fail}
+use Rattle.serve_machine.specs.declared.event.WindowStop.{WindowStop}
+use Rattle.serve_machine.specs.Events.{worker_of}
+use Rattle.serve_machine.specs.Own.{own_events}
 use Rattle.serve_machine.specs.Stops.{stop_of, earlier, first_stop}
 use Rattle.serve_machine.proofs.TruthLemmas.{some_same}
 

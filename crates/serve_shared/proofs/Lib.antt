@@ -1,5 +1,6 @@
 pub mod ClaimLemmas
 pub mod EventLemmas
+pub mod RunLemmas
 pub mod TurnLemmas
 pub mod TurnCases
 pub mod StopCases

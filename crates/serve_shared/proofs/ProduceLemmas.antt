@@ -4,25 +4,24 @@ use Rattle.std.specs.List.{All}
 use Rattle.std.proofs.lemmas.List.{map-append}
 use Rattle.std.proofs.lemmas.List.Elements.{All-head, All-tail, All-take, All-push}
 use Rattle.fv_plane.specs.Picture.{Picture}
-use Rattle.fv_plane.specs.declared.format.Info.{Info}
 use Rattle.fv_plane.specs.declared.key.Key.{Key}
 use Rattle.clip_graph.specs.Plan.{Application, IsPlan}
 use Rattle.clip_graph.specs.Unfolding.{input_keys, IsKeyBelow}
 use Rattle.clip_graph.proofs.UnfoldingLemmas.{inputs_are_keys}
-use Rattle.serve_events.specs.declared.event.Event.{Event}
-use Rattle.serve_events.specs.declared.event.Event.TheVariants.{Claim, Abandon}
-use Rattle.serve_events.specs.declared.event.WindowStop.{WindowStop}
-use Rattle.serve_events.specs.Keys.{IsKey, same_key, has}
-use Rattle.serve_events.specs.Own.{has_got_all}
-use Rattle.serve_events.specs.Work.{Production, Productions, hit, made, done, more, CutShort, CutInputs, refused, inside, between, within, entered as cut_entered, unpublished as cut_unpublished}
-use Rattle.serve_events.proofs.KeyLemmas.{key_itself}
+use Rattle.inst_table.specs.declared.held.Held.{Ghosts}
+use Rattle.serve_machine.specs.declared.event.Event.{Event}
+use Rattle.serve_machine.specs.declared.event.Event.TheVariants.{Claim, Abandon}
+use Rattle.serve_machine.specs.declared.event.WindowStop.{WindowStop}
+use Rattle.serve_machine.specs.Keys.{IsKey, same_key, has}
+use Rattle.serve_machine.specs.Own.{has_got_all}
+use Rattle.serve_machine.specs.Work.{Production, Productions, hit, made, done, more, CutShort, CutInputs, refused, inside, between, within, entered as cut_entered, unpublished as cut_unpublished}
+use Rattle.serve_machine.proofs.KeyLemmas.{key_itself}
 use Rattle.serve_machine.specs.Closing.{AllPast}
 use Rattle.serve_machine.specs.Holdings.{Holdings, holdings_after}
 use Rattle.serve_machine.proofs.ClosingLemmas.{work_closes, holdings_after-append, now_all_got, all_none}
 use Rattle.serve_core.specs.Sources.{shape_at}
-use Rattle.serve_worker.specs.Workers.{WorkerValue}
-use Rattle.serve_worker.proofs.KeyLemmas.{front_and}
-use Rattle.serve_worker.proofs.Producing.{input_below}
+use Rattle.serve_core.specs.WorkerValue.{WorkerValue}
+use Rattle.serve_core.proofs.Making.{front_and, input_below}
 use Rattle.serve_shared.specs.Seats.{AllFrom, CoreSeat, seat_holdings, AtWork, Adds, RightFor}
 use Rattle.serve_shared.specs.Shares.{StopsNow, StopsWithin, Produced, Gathered, Finished, AllRightFor, CutMake, unmade, entered, unpublished}
 use Rattle.serve_shared.specs.Turns.{Asks}
@@ -74,28 +73,28 @@ IsNothing ds closing = (ds ≡ []) × (closing ≡ [])
 abbrev IsAfter : List Application → ℕ → ℕ → List Event → List Event → List Event → Type 0
 IsAfter plan w i es ds closing = (fs : List Event) × (ds ≡ es ++ fs) × CutMake plan w i fs closing
 
-module _ {I : Type 0} (feed : I → Option (List Picture)) (faults : I → ℕ) (me : WorkerValue) (seat : CoreSeat I) where
+module _ {I : Type 0} (of : Ghosts I) (me : WorkerValue) (seat : CoreSeat I) where
   -- The inputs of a key.
 
-  pub gathered_none : Gathered feed faults me seat [] [] seat
+  pub gathered_none : Gathered of me seat [] [] seat
   gathered_none = record { events = []; produced = done; adds = adds_nothing seat; shapes = refl; right = tt }
 
-  right_more : (ks : List Key) (xs : List Picture) (k : Key) (x : Picture) → AllRightFor feed faults me seat ks xs → RightFor feed faults me.plan seat k x → AllRightFor feed faults me seat (ks ++ k ∷ []) (xs ++ x ∷ [])
+  right_more : (ks : List Key) (xs : List Picture) (k : Key) (x : Picture) → AllRightFor of me seat ks xs → RightFor of me.plan seat k x → AllRightFor of me seat (ks ++ k ∷ []) (xs ++ x ∷ [])
   right_more [] [] k x all right = (right, tt)
   right_more [] (y ∷ ys) k x all right = absurd all
   right_more (j ∷ ks) [] k x all right = absurd all
   right_more (j ∷ ks) (y ∷ ys) k x all right = (all.0, right_more ks ys k x all.1 right)
 
-  pub gathered_more : (mid later : CoreSeat I) (ks : List Key) (xs : List Picture) (k : Key) (x : Picture) → Gathered feed faults me seat ks xs mid → Produced feed faults me mid k x later → Gathered feed faults me seat (ks ++ k ∷ []) (xs ++ x ∷ []) later
+  pub gathered_more : (mid later : CoreSeat I) (ks : List Key) (xs : List Picture) (k : Key) (x : Picture) → Gathered of me seat ks xs mid → Produced of me mid k x later → Gathered of me seat (ks ++ k ∷ []) (xs ++ x ∷ []) later
   gathered_more mid later ks xs k x g p = record {
     events = g.events ++ p.events;
     produced = productions_more me.plan me.number ks k g.events p.events g.produced p.produced;
     adds = adds_more g.events p.events seat mid later g.adds p.adds;
     shapes = map-append (λ (y : Picture). y.shape) xs (x ∷ []) ∙ ((λ i. g.shapes i ++ p.shape i ∷ []) ∙ sym (map-append (λ (j : Key). shape_at me.plan j.node) ks (k ∷ [])));
-    right = right_more ks xs k x g.right (right_since feed faults me.plan seat mid k x (same_tag seat mid g.adds.seat_is) p.right);
+    right = right_more ks xs k x g.right (right_since of me.plan seat mid k x (same_tag seat mid g.adds.seat_is) p.right);
   }
 
-  module _ (mid : CoreSeat I) (i : ℕ) (ks : List Key) (xs : List Picture) (g : Gathered feed faults me seat ks xs mid) (work : AtWork me seat) (few : i ≤ length me.plan) (below : All (IsKeyBelow me.plan i) ks) (from : AllFrom i (seat_holdings me seat).claims) where
+  module _ (mid : CoreSeat I) (i : ℕ) (ks : List Key) (xs : List Picture) (g : Gathered of me seat ks xs mid) (work : AtWork me seat) (few : i ≤ length me.plan) (below : All (IsKeyBelow me.plan i) ks) (from : AllFrom i (seat_holdings me seat).claims) where
     closes : holdings_after me.plan (seat_holdings me seat) g.events ≡ seat_holdings me seat
     closes = productions_close me.plan me.number i ks g.events (seat_holdings me seat) work.sits.is_plan few below from work.unlent g.produced
 
@@ -117,15 +116,15 @@ module _ {I : Type 0} (feed : I → Option (List Picture)) (faults : I → ℕ) 
 
   -- A key.
 
-  pub hit_produced : (k : Key) (x : Picture) (later : CoreSeat I) (holds : I → Option Info) (r : Result (Option Picture) WindowStop) → r ≡ Ok (Some x) → Asks holds feed faults me seat k r later → Produced feed faults me seat k x later
-  hit_produced k x later holds r is a = let h = subst (λ z. Asks holds feed faults me seat k z later) is a in record { events = _; produced = hit; adds = h.adds; shape = h.shape; right = h.right }
+  pub hit_produced : (k : Key) (x : Picture) (later : CoreSeat I) (r : Result (Option Picture) WindowStop) → r ≡ Ok (Some x) → Asks of me seat k r later → Produced of me seat k x later
+  hit_produced k x later r is a = let h = subst (λ z. Asks of me seat k z later) is a in record { events = _; produced = hit; adds = h.adds; shape = h.shape; right = h.right }
 
-  pub not_asked : (k : Key) (why : WindowStop) (later : CoreSeat I) (holds : I → Option Info) (r : Result (Option Picture) WindowStop) → r ≡ Err why → Asks holds feed faults me seat k r later → StopsWithin me (CutShort me.plan me.number k) why seat later
-  not_asked k why later holds r is a = stops_at_once me seat why later (CutShort me.plan me.number k) [] refused (subst (λ z. Asks holds feed faults me seat k z later) is a)
+  pub not_asked : (k : Key) (why : WindowStop) (later : CoreSeat I) (r : Result (Option Picture) WindowStop) → r ≡ Err why → Asks of me seat k r later → StopsWithin me (CutShort me.plan me.number k) why seat later
+  not_asked k why later r is a = stops_at_once me seat why later (CutShort me.plan me.number k) [] refused (subst (λ z. Asks of me seat k z later) is a)
 
-  module _ (k : Key) (mid : CoreSeat I) (holds : I → Option Info) (r : Result (Option Picture) WindowStop) (is : r ≡ Ok None) (asks : Asks holds feed faults me seat k r mid) where
+  module _ (k : Key) (mid : CoreSeat I) (r : Result (Option Picture) WindowStop) (is : r ≡ Ok None) (asks : Asks of me seat k r mid) where
     claims : Adds (Claim me.number k ∷ []) seat mid
-    claims = subst (λ z. Asks holds feed faults me seat k z mid) is asks
+    claims = subst (λ z. Asks of me seat k z mid) is asks
 
     claimed : seat_holdings me mid ≡ record (seat_holdings me seat) { claims = (seat_holdings me seat).claims ++ k ∷ [] }
     claimed = holdings_later me (Claim me.number k ∷ []) seat mid claims
@@ -143,24 +142,24 @@ module _ {I : Type 0} (feed : I → Option (List Picture)) (faults : I → ℕ) 
     pub inputs_stop : (later : CoreSeat I) (why : WindowStop) → StopsWithin me (CutInputs me.plan me.number (input_keys me.plan k)) why mid later → StopsWithin me (CutShort me.plan me.number k) why seat later
     inputs_stop later why s = stops_claimed me seat why later (CutShort me.plan me.number k) mid k (CutInputs me.plan me.number (input_keys me.plan k)) claims (ap (λ (h : Holdings). h.claims) claimed) (λ ds closing cut. inside cut) s
 
-    module _ (next : CoreSeat I) (xs : List Picture) (g : Gathered feed faults me mid (input_keys me.plan k) xs next) (same : seat_holdings me next ≡ seat_holdings me mid) where
+    module _ (next : CoreSeat I) (xs : List Picture) (g : Gathered of me mid (input_keys me.plan k) xs next) (same : seat_holdings me next ≡ seat_holdings me mid) where
       pub next_has : has k (seat_holdings me next).claims ≡ true
       next_has = ap (λ (h : Holdings). has k h.claims) same ∙ claimed_has
 
       pub next_got : has_got_all me.number (input_keys me.plan k) next.own ≡ true
       next_got = ap (has_got_all me.number (input_keys me.plan k)) g.adds.own ∙ now_all_got me.number (input_keys me.plan k) mid.own g.events (work_closes.got_all me.plan me.number (input_keys me.plan k) g.events g.produced)
 
-      pub next_right : AllRightFor feed faults me next (input_keys me.plan k) xs
-      next_right = all_right_later feed faults me mid next (input_keys me.plan k) xs (same_tag mid next g.adds.seat_is) g.right
+      pub next_right : AllRightFor of me next (input_keys me.plan k) xs
+      next_right = all_right_later of me mid next (input_keys me.plan k) xs (same_tag mid next g.adds.seat_is) g.right
 
-      pub made_produced : (later : CoreSeat I) (z : Result Picture WindowStop) → IfOk z (λ x. Finished feed faults me next k x later) → IfOk z (λ x. Produced feed faults me seat k x later)
+      pub made_produced : (later : CoreSeat I) (z : Result Picture WindowStop) → IfOk z (λ x. Finished of me next k x later) → IfOk z (λ x. Produced of me seat k x later)
       made_produced later (Err why) f = tt
       made_produced later (Ok x) f = record {
         events = _;
         produced = made f.gone g.produced;
         adds = adds_more (Claim me.number k ∷ []) _ seat mid later claims (adds_more g.events _ mid next later g.adds f.adds);
         shape = f.shape;
-        right = right_since feed faults me.plan seat mid k x (same_tag seat mid claims.seat_is) (right_since feed faults me.plan mid next k x (same_tag mid next g.adds.seat_is) f.right);
+        right = right_since of me.plan seat mid k x (same_tag seat mid claims.seat_is) (right_since of me.plan mid next k x (same_tag mid next g.adds.seat_is) f.right);
       }
 
       -- what was done after the inputs
@@ -178,7 +177,7 @@ module _ {I : Type 0} (feed : I → Option (List Picture)) (faults : I → ℕ) 
 
 -- The inputs of a claimed key, one after the other.
 
-module _ {I : Type 0} (feed : I → Option (List Picture)) (faults : I → ℕ) (me : WorkerValue) (seat : CoreSeat I) (k : Key) (work : AtWork me seat) (key : IsKey me.plan k) (from : AllFrom k.node (seat_holdings me seat).claims) where
+module _ {I : Type 0} (of : Ghosts I) (me : WorkerValue) (seat : CoreSeat I) (k : Key) (work : AtWork me seat) (key : IsKey me.plan k) (from : AllFrom k.node (seat_holdings me seat).claims) where
   few : k.node ≤ length me.plan
   few = let less = key.node in omega arith
 
@@ -187,24 +186,24 @@ module _ {I : Type 0} (feed : I → Option (List Picture)) (faults : I → ℕ) 
 
   -- all of them
 
-  module _ (mid : CoreSeat I) (xs : List Picture) (g : Gathered feed faults me seat (input_keys me.plan k) xs mid) where
+  module _ (mid : CoreSeat I) (xs : List Picture) (g : Gathered of me seat (input_keys me.plan k) xs mid) where
     pub all_same : seat_holdings me mid ≡ seat_holdings me seat
-    all_same = gathered_same feed faults me seat mid k.node (input_keys me.plan k) xs g work few all_below from
+    all_same = gathered_same of me seat mid k.node (input_keys me.plan k) xs g work few all_below from
 
     pub all_work : AtWork me mid
-    all_work = gathered_work feed faults me seat mid k.node (input_keys me.plan k) xs g work few all_below from
+    all_work = gathered_work of me seat mid k.node (input_keys me.plan k) xs g work few all_below from
 
   -- and some of them
 
-  module _ (mid : CoreSeat I) (i : ℕ) (xs : List Picture) (g : Gathered feed faults me seat (take i (input_keys me.plan k)) xs mid) where
+  module _ (mid : CoreSeat I) (i : ℕ) (xs : List Picture) (g : Gathered of me seat (take i (input_keys me.plan k)) xs mid) where
     some_below : All (IsKeyBelow me.plan k.node) (take i (input_keys me.plan k))
     some_below = All-take (IsKeyBelow me.plan k.node) i (input_keys me.plan k) all_below
 
     pub inputs_same : seat_holdings me mid ≡ seat_holdings me seat
-    inputs_same = gathered_same feed faults me seat mid k.node (take i (input_keys me.plan k)) xs g work few some_below from
+    inputs_same = gathered_same of me seat mid k.node (take i (input_keys me.plan k)) xs g work few some_below from
 
     pub inputs_work : AtWork me mid
-    inputs_work = gathered_work feed faults me seat mid k.node (take i (input_keys me.plan k)) xs g work few some_below from
+    inputs_work = gathered_work of me seat mid k.node (take i (input_keys me.plan k)) xs g work few some_below from
 
     module _ (j : Key) (at : slice_get (input_keys me.plan k) i ≡ Some j) where
       pub below : IsKeyBelow me.plan k.node j
@@ -217,18 +216,18 @@ module _ {I : Type 0} (feed : I → Option (List Picture)) (faults : I → ℕ) 
       input_past = subst (λ (h : Holdings). AllPast j.node h.claims) (sym inputs_same) (past_from k.node j.node (seat_holdings me seat).claims below.node from)
 
       pub input_stops : (later : CoreSeat I) (why : WindowStop) → StopsWithin me (CutShort me.plan me.number j) why mid later → StopsWithin me (CutInputs me.plan me.number (input_keys me.plan k)) why seat later
-      input_stops later why s = gathered_stops feed faults me seat mid k.node (take i (input_keys me.plan k)) xs g work few some_below from later (input_keys me.plan k) j (drop (suc i) (input_keys me.plan k)) why (front_and (input_keys me.plan k) i j at) s
+      input_stops later why s = gathered_stops of me seat mid k.node (take i (input_keys me.plan k)) xs g work few some_below from later (input_keys me.plan k) j (drop (suc i) (input_keys me.plan k)) why (front_and (input_keys me.plan k) i j at) s
 
-      module _ (x : Picture) (later : CoreSeat I) (p : Produced feed faults me mid j x later) where
-        pub one_more : Gathered feed faults me seat (take i (input_keys me.plan k) ++ j ∷ []) (xs ++ x ∷ []) later
-        one_more = gathered_more feed faults me seat mid later (take i (input_keys me.plan k)) xs j x g p
+      module _ (x : Picture) (later : CoreSeat I) (p : Produced of me mid j x later) where
+        pub one_more : Gathered of me seat (take i (input_keys me.plan k) ++ j ∷ []) (xs ++ x ∷ []) later
+        one_more = gathered_more of me seat mid later (take i (input_keys me.plan k)) xs j x g p
 
         more_below : All (IsKeyBelow me.plan k.node) (take i (input_keys me.plan k) ++ j ∷ [])
         more_below = All-push (IsKeyBelow me.plan k.node) (take i (input_keys me.plan k)) j some_below below
 
         pub more_work : AtWork me later
-        more_work = gathered_work feed faults me seat later k.node (take i (input_keys me.plan k) ++ j ∷ []) (xs ++ x ∷ []) one_more work few more_below from
+        more_work = gathered_work of me seat later k.node (take i (input_keys me.plan k) ++ j ∷ []) (xs ++ x ∷ []) one_more work few more_below from
 
         pub more_ends : (end : CoreSeat I) (why : WindowStop) → StopsNow me why [] later end → StopsWithin me (CutInputs me.plan me.number (input_keys me.plan k)) why seat end
-        more_ends end why s = gathered_ends feed faults me seat later k.node (take i (input_keys me.plan k) ++ j ∷ []) (xs ++ x ∷ []) one_more work few more_below from end (input_keys me.plan k) (drop (suc i) (input_keys me.plan k)) why
+        more_ends end why s = gathered_ends of me seat later k.node (take i (input_keys me.plan k) ++ j ∷ []) (xs ++ x ∷ []) one_more work few more_below from end (input_keys me.plan k) (drop (suc i) (input_keys me.plan k)) why
             (front_and (input_keys me.plan k) i j at ∙ sym (append_assoc (take i (input_keys me.plan k)) (j ∷ []) (drop (suc i) (input_keys me.plan k)))) s

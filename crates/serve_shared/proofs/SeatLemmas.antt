@@ -1,14 +1,14 @@
 -- A seat from one turn to the next.
-use Rattle.std.proofs.Common.{◌≡◌, ℕ, List, [], ◌∷◌, ◌++◌, Option, None, Result, Ok, Err, IfSome, sym, refl, ap, ◌∙◌, subst, append_assoc, append-nil}
-use Rattle.fv_plane.specs.declared.format.Info.{Info}
+use Rattle.std.proofs.Common.{◌≡◌, ℕ, List, [], ◌∷◌, ◌++◌, None, Result, Ok, Err, IfSome, sym, refl, ap, ◌∙◌, subst, append_assoc, append-nil}
 use Rattle.fv_plane.specs.Picture.{Picture}
 use Rattle.fv_plane.specs.declared.key.Key.{Key}
 use Rattle.clip_graph.specs.Plan.{Application}
+use Rattle.inst_table.specs.declared.held.Held.{Ghosts}
 use Rattle.inst_table.specs.Lent.{Lent}
 use Rattle.turn_lock.proofs.EntryLemmas.{prefix_of_itself}
-use Rattle.serve_events.specs.declared.event.Event.{Event}
-use Rattle.serve_events.specs.declared.event.Event.TheVariants.{Claim}
-use Rattle.serve_events.specs.declared.event.WindowStop.{WindowStop}
+use Rattle.serve_machine.specs.declared.event.Event.{Event}
+use Rattle.serve_machine.specs.declared.event.Event.TheVariants.{Claim}
+use Rattle.serve_machine.specs.declared.event.WindowStop.{WindowStop}
 use Rattle.serve_machine.specs.Closing.{abandons}
 use Rattle.serve_machine.specs.Holdings.{Holdings, holdings_after, own_holdings}
 use Rattle.serve_machine.specs.Stops.{first_stop}
@@ -16,7 +16,7 @@ use Rattle.serve_machine.proofs.ClosingLemmas.{holdings_after-append, none_stop}
 use Rattle.serve_core.specs.Stands.{IsRight, Fits}
 use Rattle.serve_core.specs.Steady.{HasCount}
 use Rattle.serve_core.specs.Turns.{ForAllOf}
-use Rattle.serve_worker.specs.Workers.{WorkerValue}
+use Rattle.serve_core.specs.WorkerValue.{WorkerValue}
 use Rattle.serve_shared.specs.declared.steps.Found.{Found}
 use Rattle.serve_shared.specs.declared.steps.Found.TheVariants.{Hit, Claimed, Taken}
 use Rattle.serve_shared.specs.declared.steps.Entry.{Entry}
@@ -66,8 +66,8 @@ module _ {I : Type 0} where
 
   -- What is said of a later seat of the same own events holds of the first.
 
-  pub right_since : (feed : I → Option (List Picture)) (faults : I → ℕ) (plan : List Application) (seat later : CoreSeat I) (k : Key) (x : Picture) → later.tag ≡ seat.tag → RightFor feed faults plan later k x → RightFor feed faults plan seat k x
-  right_since feed faults plan seat later k x tag right = subst (λ o. IfSome o (λ s. ForAllOf feed faults s (λ book numbers. IsRight book plan k x))) tag right
+  pub right_since : (of : Ghosts I) (plan : List Application) (seat later : CoreSeat I) (k : Key) (x : Picture) → later.tag ≡ seat.tag → RightFor of plan later k x → RightFor of plan seat k x
+  right_since of plan seat later k x tag right = subst (λ o. IfSome o (λ s. ForAllOf of.feed of.faults s (λ book numbers. IsRight book plan k x))) tag right
 
   module _ (me : WorkerValue) (seat mid : CoreSeat I) (waits : Adds [] seat mid) where
     own_same : mid.own ≡ seat.own
@@ -79,43 +79,43 @@ module _ {I : Type 0} where
     pub holdings_wait : seat_holdings me mid ≡ seat_holdings me seat
     holdings_wait = ap (own_holdings me.plan) own_same
 
-    adds_since : (es : List Event) (later : CoreSeat I) → Adds es mid later → Adds es seat later
+    pub adds_since : (es : List Event) (later : CoreSeat I) → Adds es mid later → Adds es seat later
     adds_since es later a = adds_more [] es seat mid later waits a
 
-    stops_since : (why : WindowStop) (later : CoreSeat I) → StopsNow me why [] mid later → StopsNow me why [] seat later
+    pub stops_since : (why : WindowStop) (later : CoreSeat I) → StopsNow me why [] mid later → StopsNow me why [] seat later
     stops_since why later s = record {
       seat_is = seat_more seat mid later waits.seat_is s.seat_is;
       own_seen = s.own_seen;
       closes = subst (λ own. Closes me.number why own (abandons me.number (own_holdings me.plan own).claims) later) own_same s.closes;
     }
 
-    module _ (holds : I → Option Info) (feed : I → Option (List Picture)) (faults : I → ℕ) where
+    module _ (of : Ghosts I) where
       -- no other worker has the claim any more
-      pub asks_hit : (later : CoreSeat I) (k : Key) (x : Picture) (r : Result Found WindowStop) → r ≡ Ok (Hit x) → TurnAsks holds feed faults me mid k r later → HasHit holds feed faults me seat k x later
-      asks_hit later k x r e a = let h = subst (λ z. TurnAsks holds feed faults me mid k z later) e a in record { adds = adds_since _ later h.adds; shape = h.shape; right = right_since feed faults me.plan seat mid k x (same_tag seat mid waits.seat_is) h.right }
+      pub asks_hit : (later : CoreSeat I) (k : Key) (x : Picture) (r : Result Found WindowStop) → r ≡ Ok (Hit x) → TurnAsks of me mid k r later → HasHit of me seat k x later
+      asks_hit later k x r e a = let h = subst (λ z. TurnAsks of me mid k z later) e a in record { adds = adds_since _ later h.adds; shape = h.shape; right = right_since of me.plan seat mid k x (same_tag seat mid waits.seat_is) h.right }
 
-      pub asks_claimed : (later : CoreSeat I) (k : Key) (r : Result Found WindowStop) → r ≡ Ok Claimed → TurnAsks holds feed faults me mid k r later → Adds (Claim me.number k ∷ []) seat later
-      asks_claimed later k r e a = adds_since (Claim me.number k ∷ []) later (subst (λ z. TurnAsks holds feed faults me mid k z later) e a)
+      pub asks_claimed : (later : CoreSeat I) (k : Key) (r : Result Found WindowStop) → r ≡ Ok Claimed → TurnAsks of me mid k r later → Adds (Claim me.number k ∷ []) seat later
+      asks_claimed later k r e a = adds_since (Claim me.number k ∷ []) later (subst (λ z. TurnAsks of me mid k z later) e a)
 
-      pub asks_stopped : (later : CoreSeat I) (k : Key) (why : WindowStop) (r : Result Found WindowStop) → r ≡ Err why → TurnAsks holds feed faults me mid k r later → StopsNow me why [] seat later
-      asks_stopped later k why r e a = stops_since why later (subst (λ z. TurnAsks holds feed faults me mid k z later) e a)
+      pub asks_stopped : (later : CoreSeat I) (k : Key) (why : WindowStop) (r : Result Found WindowStop) → r ≡ Err why → TurnAsks of me mid k r later → StopsNow me why [] seat later
+      asks_stopped later k why r e a = stops_since why later (subst (λ z. TurnAsks of me mid k z later) e a)
 
-      pub asks_again : (later : CoreSeat I) (k : Key) (heard : ℕ) (r : Result Found WindowStop) → r ≡ Ok (Taken heard) → TurnAsks holds feed faults me mid k r later → Adds [] seat later
-      asks_again later k heard r e a = adds_since [] later (subst (λ z. TurnAsks holds feed faults me mid k z later) e a)
+      pub asks_again : (later : CoreSeat I) (k : Key) (heard : ℕ) (r : Result Found WindowStop) → r ≡ Ok (Taken heard) → TurnAsks of me mid k r later → Adds [] seat later
+      asks_again later k heard r e a = adds_since [] later (subst (λ z. TurnAsks of me mid k z later) e a)
 
-      lent_since : (i : ℕ) (l : Lent I) → IsLent holds feed faults me mid i l → IsLent holds feed faults me seat i l
+      lent_since : (i : ℕ) (l : Lent I) → IsLent of me mid i l → IsLent of me seat i l
       lent_since i l s = record {
         place = s.place;
         source = s.source;
-        fits = subst (λ o. IfSome o (λ z. ForAllOf feed faults z (λ book numbers. Fits feed faults book numbers me.plan l.place l.value))) (same_tag seat mid waits.seat_is) s.fits;
-        count = subst (λ o. IfSome o (λ z. HasCount faults z.table l.place l.value)) (same_tag seat mid waits.seat_is) s.count;
+        fits = subst (λ o. IfSome o (λ z. ForAllOf of.feed of.faults z (λ book numbers. Fits of.feed of.faults book numbers me.plan l.place l.value))) (same_tag seat mid waits.seat_is) s.fits;
+        count = subst (λ o. IfSome o (λ z. HasCount of.faults z.table l.place l.value)) (same_tag seat mid waits.seat_is) s.count;
       }
 
-      pub gets_lent : (later : CoreSeat I) (i : ℕ) (l : Lent I) (r : Result (Entry I) WindowStop) → r ≡ Ok (Leased l) → TurnEnters holds feed faults me mid i r later → HasEntered holds feed faults me seat i l later
-      gets_lent later i l r is a = let e = subst (λ z. TurnEnters holds feed faults me mid i z later) is a in record { adds = adds_since _ later e.adds; lent = lent_since i l e.lent }
+      pub gets_lent : (later : CoreSeat I) (i : ℕ) (l : Lent I) (r : Result (Entry I) WindowStop) → r ≡ Ok (Leased l) → TurnEnters of me mid i r later → HasEntered of me seat i l later
+      gets_lent later i l r is a = let e = subst (λ z. TurnEnters of me mid i z later) is a in record { adds = adds_since _ later e.adds; lent = lent_since i l e.lent }
 
-      pub gets_stopped : (later : CoreSeat I) (i : ℕ) (why : WindowStop) (r : Result (Entry I) WindowStop) → r ≡ Err why → TurnEnters holds feed faults me mid i r later → StopsNow me why [] seat later
-      gets_stopped later i why r e a = stops_since why later (subst (λ z. TurnEnters holds feed faults me mid i z later) e a)
+      pub gets_stopped : (later : CoreSeat I) (i : ℕ) (why : WindowStop) (r : Result (Entry I) WindowStop) → r ≡ Err why → TurnEnters of me mid i r later → StopsNow me why [] seat later
+      gets_stopped later i why r e a = stops_since why later (subst (λ z. TurnEnters of me mid i z later) e a)
 
-      pub gets_again : (later : CoreSeat I) (i : ℕ) (heard : ℕ) (r : Result (Entry I) WindowStop) → r ≡ Ok (Busy heard) → TurnEnters holds feed faults me mid i r later → Adds [] seat later
-      gets_again later i heard r e a = adds_since [] later (subst (λ z. TurnEnters holds feed faults me mid i z later) e a)
+      pub gets_again : (later : CoreSeat I) (i : ℕ) (heard : ℕ) (r : Result (Entry I) WindowStop) → r ≡ Ok (Busy heard) → TurnEnters of me mid i r later → Adds [] seat later
+      gets_again later i heard r e a = adds_since [] later (subst (λ z. TurnEnters of me mid i z later) e a)

@@ -5,16 +5,17 @@ use Rattle.std.proofs.lemmas.List.{append_cancel_left}
 use Rattle.fv_plane.specs.Picture.{Picture}
 use Rattle.fv_plane.specs.declared.key.Key.{Key}
 use Rattle.clip_graph.specs.Plan.{Application, IsPlan}
+use Rattle.inst_table.specs.declared.held.Held.{Ghosts}
 use Rattle.turn_lock.specs.Entries.{entries_of}
 use Rattle.turn_lock.proofs.EntryLemmas.{entries_of-append}
-use Rattle.serve_events.specs.declared.event.Event.{Event}
-use Rattle.serve_events.specs.declared.event.Event.TheVariants.{Take, Deliver}
-use Rattle.serve_events.specs.declared.event.WindowStop.{WindowStop}
-use Rattle.serve_events.specs.Events.{worker_of}
-use Rattle.serve_events.specs.Keys.{IsKey, frame_key}
-use Rattle.serve_events.specs.Own.{has_got, own_events}
-use Rattle.serve_events.specs.Work.{Production, Deliveries, none, also, CutShort, CutDeliveries, untaken, taken, FailedWork, failed, CutWork}
-use Rattle.serve_events.proofs.OwnLemmas.{now_got}
+use Rattle.serve_machine.specs.declared.event.Event.{Event}
+use Rattle.serve_machine.specs.declared.event.Event.TheVariants.{Take, Deliver}
+use Rattle.serve_machine.specs.declared.event.WindowStop.{WindowStop}
+use Rattle.serve_machine.specs.Events.{worker_of}
+use Rattle.serve_machine.specs.Keys.{IsKey, frame_key}
+use Rattle.serve_machine.specs.Own.{has_got, own_events}
+use Rattle.serve_machine.specs.Work.{Production, Deliveries, none, also, CutShort, CutDeliveries, untaken, taken, FailedWork, failed, CutWork}
+use Rattle.serve_machine.proofs.OwnLemmas.{now_got}
 use Rattle.serve_machine.specs.Closing.{AllPast, abandons, nothing}
 use Rattle.serve_machine.specs.Holdings.{Holdings, has_number, holdings_after, own_holdings}
 use Rattle.serve_machine.specs.Stops.{first_stop}
@@ -22,10 +23,10 @@ use Rattle.serve_machine.proofs.ClosingLemmas.{work_closes}
 use Rattle.serve_core.specs.CoreValue.{CoreValue}
 use Rattle.serve_core.specs.Stands.{IsRight}
 use Rattle.serve_core.specs.Turns.{ForAllOf}
-use Rattle.serve_core.specs.Workers.{takes}
-use Rattle.serve_worker.specs.Workers.{WorkerValue}
+use Rattle.serve_machine.specs.Worked.{takes, Delivered, DeliversAll}
+use Rattle.serve_core.specs.WorkerValue.{WorkerValue}
 use Rattle.serve_shared.specs.Seats.{CoreSeat, HasWorker, seat_holdings, AtWork, IsSeat, Adds, RightFor}
-use Rattle.serve_shared.specs.Shares.{Fails, IsStopped, Closes, StopsNow, StopsWithin, Produced, Delivered, DeliversAll, Worked, Continues, Ends, Delivers}
+use Rattle.serve_shared.specs.Shares.{Fails, IsStopped, Closes, StopsNow, StopsWithin, Produced, Worked, Continues, Ends, Delivers}
 use Rattle.serve_shared.specs.Turns.{HasTaken, SeesAll, TurnTakes}
 use Rattle.serve_shared.proofs.EventLemmas.{entries_own}
 use Rattle.serve_shared.proofs.SeatLemmas.{seat_itself, seat_more, same_tag, adds_more, holdings_later, work_later}
@@ -62,7 +63,7 @@ deliveries_more plan root w ns n es fs none p = subst (Deliveries plan root w (n
 deliveries_more plan root w _ n _ fs (also {n = m} {ns = ns} {es = es} {fs = gs} q r) p =
     subst (Deliveries plan root w (m ∷ (ns ++ n ∷ []))) (sym (append_assoc (Take w m ∷ (es ++ Deliver w m ∷ [])) gs (Take w n ∷ (fs ++ Deliver w n ∷ [])))) (also q (deliveries_more plan root w ns n gs fs r p))
 
-module _ {I : Type 0} (feed : I → Option (List Picture)) (faults : I → ℕ) (me : WorkerValue) (seat : CoreSeat I) (work : AtWork me seat) (delivered : IfSome seat.tag (λ s. Delivered me.plan s.fixed.root me.number seat.own)) where
+module _ {I : Type 0} (of : Ghosts I) (me : WorkerValue) (seat : CoreSeat I) (work : AtWork me seat) (delivered : IfSome seat.tag (λ s. Delivered me.plan s.fixed.root me.number seat.own)) where
   abbrev start : CoreValue I
   start = work.sits.start
 
@@ -141,7 +142,7 @@ module _ {I : Type 0} (feed : I → Option (List Picture)) (faults : I → ℕ) 
         }
 
     -- or produced
-    module _ (x : Picture) (next : CoreSeat I) (p : Produced feed faults me mid k x next) where
+    module _ (x : Picture) (next : CoreSeat I) (p : Produced of me mid k x next) where
       closes : holdings_after me.plan (seat_holdings me mid) p.events ≡ seat_holdings me mid
       closes = work_closes.production me.plan me.number k p.events (seat_holdings me mid) work.sits.is_plan took.key.node (record { past = took_past; unlent = ap (λ (h : Holdings). h.leases) has_taken }) p.produced
 
@@ -163,8 +164,8 @@ module _ {I : Type 0} (feed : I → Option (List Picture)) (faults : I → ℕ) 
       pub made_got : has_got me.number k next.own ≡ true
       made_got = ap (has_got me.number k) p.adds.own ∙ now_got me.number k mid.own p.events (work_closes.got me.plan me.number k p.events p.produced)
 
-      pub made_right : RightFor feed faults me.plan next k x
-      made_right = subst (λ o. IfSome o (λ z. ForAllOf feed faults z (λ book numbers. IsRight book me.plan k x))) (sym (same_tag mid next p.adds.seat_is)) p.right
+      pub made_right : RightFor of me.plan next k x
+      made_right = subst (λ o. IfSome o (λ z. ForAllOf of.feed of.faults z (λ book numbers. IsRight book me.plan k x))) (sym (same_tag mid next p.adds.seat_is)) p.right
 
       -- and delivered
       pub delivered_too : (later : CoreSeat I) → Adds (Deliver me.number k.n ∷ []) next later → Continues me seat later

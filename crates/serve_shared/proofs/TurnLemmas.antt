@@ -1,18 +1,18 @@
 -- What a worker knows in its turn, and what the turn leaves.
-use Rattle.std.proofs.Common.{◌≡◌, ℕ, ◌<◌, List, [], ◌∷◌, ◌++◌, Option, Some, IfSome, sym, refl, ap, ◌∙◌, subst, inl, inr, ⊎_elim, append_assoc, append-nil}
+use Rattle.std.proofs.Common.{◌≡◌, ℕ, ◌<◌, List, [], ◌∷◌, ◌++◌, Some, IfSome, sym, refl, ap, ◌∙◌, subst, inl, inr, ⊎_elim, append_assoc, append-nil}
 use Rattle.std.specs.Prelude.{is_some}
 use Rattle.std.specs.List.{All}
 use Rattle.std.specs.Map.{keys_of}
 use Rattle.std.proofs.lemmas.List.Elements.{All-nil, All-cons, All-append}
-use Rattle.fv_plane.specs.Picture.{Picture}
 use Rattle.fv_plane.specs.declared.key.Key.{Key}
+use Rattle.inst_table.specs.declared.held.Held.{Ghosts}
 use Rattle.turn_lock.specs.Entries.{IsPrefix, entries_of, AddsOnly}
-use Rattle.serve_events.specs.declared.event.Event.{Event}
-use Rattle.serve_events.specs.declared.event.Event.TheVariants.{Abandon, Fail}
-use Rattle.serve_events.specs.declared.event.WindowStop.{WindowStop}
-use Rattle.serve_events.specs.declared.event.WindowStop.TheVariants.{Memory}
-use Rattle.serve_events.specs.Events.{worker_of}
-use Rattle.serve_events.specs.Own.{own_events}
+use Rattle.serve_machine.specs.declared.event.Event.{Event}
+use Rattle.serve_machine.specs.declared.event.Event.TheVariants.{Abandon, Fail}
+use Rattle.serve_machine.specs.declared.event.WindowStop.{WindowStop}
+use Rattle.serve_machine.specs.declared.event.WindowStop.TheVariants.{Memory}
+use Rattle.serve_machine.specs.Events.{worker_of}
+use Rattle.serve_machine.specs.Own.{own_events}
 use Rattle.serve_machine.specs.Closing.{abandons}
 use Rattle.serve_machine.specs.Holdings.{own_holdings, claims_of}
 use Rattle.serve_machine.specs.Lifted.{keys_machine}
@@ -26,7 +26,7 @@ use Rattle.serve_core.specs.Steady.{IsSteady, TurnsAreSteady}
 use Rattle.serve_core.specs.Turns.{ForAllOf, StandsFor, TurnsStand}
 use Rattle.serve_core.specs.Workers.{HasTold, told_holdings}
 use Rattle.serve_core.proofs.WorkerLemmas.{has_told}
-use Rattle.serve_worker.specs.Workers.{WorkerValue}
+use Rattle.serve_core.specs.WorkerValue.{WorkerValue}
 use Rattle.serve_shared.specs.Seats.{CoreSeat, seat_holdings, HasSeat, IsSeat, Adds}
 use Rattle.serve_shared.specs.Shares.{StopsNow}
 use Rattle.serve_shared.specs.Steps.{IsRunning, given_up, closed, RunsOut, Refuses}
@@ -34,6 +34,7 @@ use Rattle.serve_core.proofs.SteadyLemmas.{turns_are_steady}
 use Rattle.serve_core.proofs.TurnLemmas.{turns_stand}
 use Rattle.serve_shared.proofs.ClaimLemmas.{given_table, given_journal}
 use Rattle.serve_shared.proofs.EventLemmas.{entries_own, stopped_by}
+use Rattle.serve_shared.proofs.RunLemmas.{first_is_kept}
 
 pub one_mine : (w : ℕ) (e : Event) → worker_of e ≡ w → All (λ e. worker_of e ≡ w) (e ∷ [])
 one_mine w e mine = All-cons (λ e. worker_of e ≡ w) e [] mine (All-nil (λ e. worker_of e ≡ w))
@@ -42,19 +43,19 @@ pub abandons_mine : (w : ℕ) (ks : List Key) → All (λ e. worker_of e ≡ w) 
 abandons_mine w [] = All-nil (λ e. worker_of e ≡ w)
 abandons_mine w (k ∷ ks) = All-append (λ e. worker_of e ≡ w) (abandons w ks) (Abandon w k ∷ []) (abandons_mine w ks) (one_mine w (Abandon w k) refl)
 
-module _ {I : Type 0} (feed : I → Option (List Picture)) (faults : I → ℕ) (ends : I → ℕ → ℕ → ℕ → Type 0) (me : WorkerValue) (seat : CoreSeat I) where
+module _ {I : Type 0} (of : Ghosts I) (me : WorkerValue) (seat : CoreSeat I) where
   -- c is the core at the start of a turn: one of the window, in which the worker has what its seat tells
   pub record InTurn (c : CoreValue I) : Type 0 where
     pub sits : HasSeat me seat
-    pub stands : StandsFor feed faults ends c sits.start
-    pub steady : IsSteady faults c sits.start
+    pub stands : StandsFor of.feed of.faults of.ends c sits.start
+    pub steady : IsSteady of.faults c sits.start
     pub run : IsRun c
     pub seen : IsPrefix seat.seen c.journal
     pub own : own_events me.number c.journal ≡ seat.own
 
-  pub in_turn : (c : CoreValue I) → HasSeat me seat → IfSome seat.tag (λ s. StandsFor feed faults ends c s × IsSteady faults c s) → (0 < c.fixed.count → IsRun c) → entries_of worker_of seat.number c.journal ≡ seat.own → IsPrefix seat.seen c.journal → InTurn c
+  pub in_turn : (c : CoreValue I) → HasSeat me seat → IfSome seat.tag (λ s. StandsFor of.feed of.faults of.ends c s × IsSteady of.faults c s) → (0 < c.fixed.count → IsRun c) → entries_of worker_of seat.number c.journal ≡ seat.own → IsPrefix seat.seen c.journal → InTurn c
   in_turn c sits stands run own seen =
-      let at : StandsFor feed faults ends c sits.start × IsSteady faults c sits.start = subst (λ o. IfSome o (λ s. StandsFor feed faults ends c s × IsSteady faults c s)) sits.tag stands in record {
+      let at : StandsFor of.feed of.faults of.ends c sits.start × IsSteady of.faults c sits.start = subst (λ o. IfSome o (λ s. StandsFor of.feed of.faults of.ends c s × IsSteady of.faults c s)) sits.tag stands in record {
         sits = sits;
         stands = at.0;
         steady = at.1;
@@ -63,27 +64,27 @@ module _ {I : Type 0} (feed : I → Option (List Picture)) (faults : I → ℕ) 
         own = sym (entries_own me.number c.journal) ∙ (ap (λ n. entries_of worker_of n c.journal) (sym sits.number) ∙ own);
       }
 
-  law : TurnsStand feed faults ends
-  law = turns_stand feed faults ends
+  law : TurnsStand of.feed of.faults of.ends
+  law = turns_stand of.feed of.faults of.ends
 
-  steady_law : TurnsAreSteady faults
-  steady_law = turns_are_steady faults
+  steady_law : TurnsAreSteady of.faults
+  steady_law = turns_are_steady of.faults
 
   -- claims given up, and a failure after it, leave a core of the window
 
-  pub given_stands : (s : CoreValue I) (w : ℕ) (ks : List Key) (c : CoreValue I) → StandsFor feed faults ends c s → StandsFor feed faults ends (given_up w ks c) s
+  pub given_stands : (s : CoreValue I) (w : ℕ) (ks : List Key) (c : CoreValue I) → StandsFor of.feed of.faults of.ends c s → StandsFor of.feed of.faults of.ends (given_up w ks c) s
   given_stands s w [] c st = st
   given_stands s w (k ∷ ks) c st = law.abandon s (given_up w ks c) w k (given_stands s w ks c st)
 
-  given_steady : (s : CoreValue I) (w : ℕ) (ks : List Key) (c : CoreValue I) → IsSteady faults c s → IsSteady faults (given_up w ks c) s
+  given_steady : (s : CoreValue I) (w : ℕ) (ks : List Key) (c : CoreValue I) → IsSteady of.faults c s → IsSteady of.faults (given_up w ks c) s
   given_steady s w [] c st = st
   given_steady s w (k ∷ ks) c st = steady_law.abandon s (given_up w ks c) w k (given_steady s w ks c st)
 
-  pub fails_stands : (s : CoreValue I) (w : ℕ) (why : WindowStop) (ks : List Key) (c : CoreValue I) → StandsFor feed faults ends c s → ForAllOf feed faults s (λ book numbers. StopFits feed faults book numbers s.fixed.plan c.table why) → EndShows ends c.table why
-      → StandsFor feed faults ends (failing (given_up w ks c) w why) s
+  pub fails_stands : (s : CoreValue I) (w : ℕ) (why : WindowStop) (ks : List Key) (c : CoreValue I) → StandsFor of.feed of.faults of.ends c s → ForAllOf of.feed of.faults s (λ book numbers. StopFits of.feed of.faults book numbers s.fixed.plan c.table why) → EndShows of.ends c.table why
+      → StandsFor of.feed of.faults of.ends (failing (given_up w ks c) w why) s
   fails_stands s w why ks c st fits ended =
       let same = sym (given_table w ks c) in
-      law.fail s (given_up w ks c) w why (given_stands s w ks c st) (λ book numbers stood. subst (λ table. StopFits feed faults book numbers s.fixed.plan table why) same (fits book numbers stood)) (subst (λ table. EndShows ends table why) same ended)
+      law.fail s (given_up w ks c) w why (given_stands s w ks c st) (λ book numbers stood. subst (λ table. StopFits of.feed of.faults book numbers s.fixed.plan table why) same (fits book numbers stood)) (subst (λ table. EndShows of.ends table why) same ended)
 
   pub fails_journal : (w : ℕ) (why : WindowStop) (c : CoreValue I) → (failing (closed w c) w why).journal ≡ c.journal ++ (abandons w (claims_of w c.claims) ++ Fail w why ∷ [])
   fails_journal w why c = ap (λ l. l ++ Fail w why ∷ []) (given_journal w (claims_of w c.claims) c) ∙ append_assoc c.journal (abandons w (claims_of w c.claims)) (Fail w why ∷ [])
@@ -114,8 +115,8 @@ module _ {I : Type 0} (feed : I → Option (List Picture)) (faults : I → ℕ) 
     pub record Does (d : CoreValue I) (events : List Event) : Type 0 where
       pub journal : d.journal ≡ c.journal ++ events
       pub mine : All (λ e. worker_of e ≡ me.number) events
-      pub stands : StandsFor feed faults ends d t.sits.start
-      pub steady : IsSteady faults d t.sits.start
+      pub stands : StandsFor of.feed of.faults of.ends d t.sits.start
+      pub steady : IsSteady of.faults d t.sits.start
 
     pub record DoesSome (d : CoreValue I) : Type 0 where
       pub events : List Event
@@ -124,8 +125,8 @@ module _ {I : Type 0} (feed : I → Option (List Picture)) (faults : I → ℕ) 
     -- the end of the turn
 
     module _ (turn : CoreSeat I) (is_turn : turn ≡ record seat { seen = c.journal }) where
-      pub stands_left : (d : CoreValue I) → DoesSome d → IfSome turn.tag (λ s. StandsFor feed faults ends d s × IsSteady faults d s)
-      stands_left d s = subst (λ o. IfSome o (λ z. StandsFor feed faults ends d z × IsSteady faults d z)) (sym (ap (λ z. z.tag) is_turn ∙ t.sits.tag)) (s.does.stands, s.does.steady)
+      pub stands_left : (d : CoreValue I) → DoesSome d → IfSome turn.tag (λ s. StandsFor of.feed of.faults of.ends d s × IsSteady of.faults d s)
+      stands_left d s = subst (λ o. IfSome o (λ z. StandsFor of.feed of.faults of.ends d z × IsSteady of.faults d z)) (sym (ap (λ z. z.tag) is_turn ∙ t.sits.tag)) (s.does.stands, s.does.steady)
 
       pub adds_left : (d : CoreValue I) → DoesSome d → AddsOnly worker_of turn.number turn.seen d.journal
       adds_left d s = subst (λ (z : CoreSeat I). AddsOnly worker_of z.number z.seen d.journal) (sym is_turn)
@@ -159,8 +160,8 @@ module _ {I : Type 0} (feed : I → Option (List Picture)) (faults : I → ℕ) 
     same_does d is = record {
       journal = ap (λ (z : CoreValue I). z.journal) is ∙ sym (append-nil c.journal);
       mine = All-nil (λ e. worker_of e ≡ me.number);
-      stands = subst (λ z. StandsFor feed faults ends z t.sits.start) (sym is) t.stands;
-      steady = subst (λ z. IsSteady faults z t.sits.start) (sym is) t.steady;
+      stands = subst (λ z. StandsFor of.feed of.faults of.ends z t.sits.start) (sym is) t.stands;
+      steady = subst (λ z. IsSteady of.faults z t.sits.start) (sym is) t.steady;
     }
 
     -- Work that is closed.
@@ -169,16 +170,16 @@ module _ {I : Type 0} (feed : I → Option (List Picture)) (faults : I → ℕ) 
     closed_does d is = record {
       journal = ap (λ (z : CoreValue I). z.journal) is ∙ (given_journal me.number (claims_of me.number c.claims) c ∙ ap (λ ks. c.journal ++ abandons me.number ks) (sym claims));
       mine = abandons_mine me.number (seat_holdings me seat).claims;
-      stands = subst (λ z. StandsFor feed faults ends z t.sits.start) (sym is) (given_stands t.sits.start me.number (claims_of me.number c.claims) c t.stands);
-      steady = subst (λ z. IsSteady faults z t.sits.start) (sym is) (given_steady t.sits.start me.number (claims_of me.number c.claims) c t.steady);
+      stands = subst (λ z. StandsFor of.feed of.faults of.ends z t.sits.start) (sym is) (given_stands t.sits.start me.number (claims_of me.number c.claims) c t.stands);
+      steady = subst (λ z. IsSteady of.faults z t.sits.start) (sym is) (given_steady t.sits.start me.number (claims_of me.number c.claims) c t.steady);
     }
 
     pub out_does : (why : WindowStop) (d : CoreValue I) → RunsOut me.number why c d → Does d (abandons me.number (seat_holdings me seat).claims ++ Fail me.number Memory ∷ [])
     out_does why d out = record {
       journal = ap (λ (z : CoreValue I). z.journal) out.1 ∙ (fails_journal me.number Memory c ∙ ap (λ ks. c.journal ++ (abandons me.number ks ++ Fail me.number Memory ∷ [])) (sym claims));
       mine = All-append (λ e. worker_of e ≡ me.number) (abandons me.number (seat_holdings me seat).claims) (Fail me.number Memory ∷ []) (abandons_mine me.number (seat_holdings me seat).claims) (one_mine me.number (Fail me.number Memory) refl);
-      stands = subst (λ z. StandsFor feed faults ends z t.sits.start) (sym out.1) (fails_stands t.sits.start me.number Memory (claims_of me.number c.claims) c t.stands (λ book numbers stood. tt) tt);
-      steady = subst (λ z. IsSteady faults z t.sits.start) (sym out.1) (steady_law.fail t.sits.start (closed me.number c) me.number Memory);
+      stands = subst (λ z. StandsFor of.feed of.faults of.ends z t.sits.start) (sym out.1) (fails_stands t.sits.start me.number Memory (claims_of me.number c.claims) c t.stands (λ book numbers stood. tt) tt);
+      steady = subst (λ z. IsSteady of.faults z t.sits.start) (sym out.1) (steady_law.fail t.sits.start (closed me.number c) me.number Memory);
     }
 
     pub refuses_some : (why : WindowStop) (d : CoreValue I) → Refuses me.number why c d → DoesSome d
@@ -191,12 +192,12 @@ module _ {I : Type 0} (feed : I → Option (List Picture)) (faults : I → ℕ) 
         let l = left _ (out_does why d out).journal in
         subst (λ why. StopsNow me why [] seat later) (sym out.0) (record { seat_is = l.seat_is; own_seen = l.own_seen; closes = inl l.own_is })
 
-    pub refuses_stops : (why : WindowStop) (d : CoreValue I) (later : CoreSeat I) → c.stop ≡ first_stop c.journal → Refuses me.number why c d → ((events : List Event) → d.journal ≡ c.journal ++ events → Left events later) → StopsNow me why [] seat later
-    refuses_stops why d later first r left = ⊎_elim
+    pub refuses_stops : (why : WindowStop) (d : CoreValue I) (later : CoreSeat I) → Refuses me.number why c d → ((events : List Event) → d.journal ≡ c.journal ++ events → Left events later) → StopsNow me why [] seat later
+    refuses_stops why d later r left = ⊎_elim
         (λ (out : RunsOut me.number why c d). out_stops why d later out left)
         (λ (stop : (c.stop ≡ Some why) × (d ≡ closed me.number c)).
         let l = left _ (closed_does d stop.1).journal in
-        let other = stopped_by me.number why c.journal (sym first ∙ stop.0) (ap first_stop t.own ∙ t.sits.running) in
+        let other = stopped_by me.number why c.journal (sym (first_is_kept c t.run) ∙ stop.0) (ap first_stop t.own ∙ t.sits.running) in
         record {
           seat_is = l.seat_is;
           own_seen = l.own_seen;

@@ -1,18 +1,19 @@
 -- What the seat of a worker shows: the window that it works in, and what its own events say.
-use Rattle.std.specs.Prelude.{◌≡◌, ℕ, ◌+◌, ◌<◌, ◌≤◌, List, [], ◌++◌, length, Option, Some, None, IfSome}
+use Rattle.std.specs.Prelude.{◌≡◌, ℕ, ◌+◌, ◌<◌, ◌≤◌, List, [], ◌++◌, length, Some, None, IfSome}
 use Rattle.std.specs.List.{AllByRecursion}
 use Rattle.fv_plane.specs.Picture.{Picture}
 use Rattle.fv_plane.specs.declared.key.Key.{Key}
 use Rattle.clip_graph.specs.Plan.{Application, application_at, IsPlan}
+use Rattle.inst_table.specs.declared.held.Held.{Ghosts}
 use Rattle.turn_lock.specs.Entries.{IsPrefix}
 use Rattle.turn_lock.specs.SeatView.{SeatView}
-use Rattle.serve_events.specs.declared.event.Event.{Event}
+use Rattle.serve_machine.specs.declared.event.Event.{Event}
 use Rattle.serve_machine.specs.Holdings.{Holdings, own_holdings}
 use Rattle.serve_machine.specs.Stops.{first_stop}
 use Rattle.serve_core.specs.CoreValue.{CoreValue}
 use Rattle.serve_core.specs.Stands.{IsRight}
 use Rattle.serve_core.specs.Turns.{ForAllOf}
-use Rattle.serve_worker.specs.Workers.{WorkerValue}
+use Rattle.serve_core.specs.WorkerValue.{WorkerValue}
 
 -- all these keys are of nodes from a number on
 abbrev pub AllFrom : ℕ → List Key → Type 0
@@ -60,7 +61,6 @@ module _ {I : Type 0} where
     pub own : later.own ≡ seat.own ++ events
 
   -- a frame that is right, for whatever the window's first core stood
-  abbrev pub RightFor : (I → Option (List Picture)) → (I → ℕ) → List Application → CoreSeat I → Key → Picture
-      → Type 0
-  RightFor feed faults plan seat k frame =
-      IfSome seat.tag (λ s. ForAllOf feed faults s (λ book numbers. IsRight book plan k frame))
+  abbrev pub RightFor : Ghosts I → List Application → CoreSeat I → Key → Picture → Type 0
+  RightFor of plan seat k frame =
+      IfSome seat.tag (λ s. ForAllOf of.feed of.faults s (λ book numbers. IsRight book plan k frame))

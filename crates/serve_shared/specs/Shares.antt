@@ -1,23 +1,23 @@
 -- What a worker among others adds to the journal of a window, whole or cut short by a stop.
-use Rattle.std.specs.Prelude.{◌≡◌, ◌⊎◌, ℕ, ◌≤◌, List, [], ◌∷◌, ◌++◌, Bool, true, false, Contains, Option, None, IfSome, Result, Ok, Err}
+use Rattle.std.specs.Prelude.{◌≡◌, ◌⊎◌, ℕ, List, [], ◌∷◌, ◌++◌, Bool, true, false, Contains, Option, IfSome, Result, Ok, Err}
 use Rattle.fv_plane.specs.Picture.{Picture}
 use Rattle.fv_plane.specs.declared.key.Key.{Key}
 use Rattle.clip_graph.specs.Plan.{Application}
-use Rattle.clip_frames.specs.Asked.{AreOfKeys}
+use Rattle.clip_graph.specs.Unfolding.{AreOfKeys}
+use Rattle.inst_table.specs.declared.held.Held.{Ghosts}
 use Rattle.turn_lock.specs.Entries.{entries_of}
-use Rattle.serve_events.specs.declared.event.Event.{Event}
-use Rattle.serve_events.specs.declared.event.Event.TheVariants.{Enter, Leave, Publish, Fail}
-use Rattle.serve_events.specs.declared.event.WindowStop.{WindowStop}
-use Rattle.serve_events.specs.Events.{worker_of}
-use Rattle.serve_events.specs.Keys.{mode_at, instance_of}
-use Rattle.serve_events.specs.SerialRun.{eviction, leases}
-use Rattle.serve_events.specs.Work.{Production, Productions, Deliveries, CutWork}
+use Rattle.serve_machine.specs.declared.event.Event.{Event}
+use Rattle.serve_machine.specs.declared.event.Event.TheVariants.{Enter, Leave, Publish, Fail}
+use Rattle.serve_machine.specs.declared.event.WindowStop.{WindowStop}
+use Rattle.serve_machine.specs.Events.{worker_of}
+use Rattle.serve_machine.specs.Keys.{mode_at, instance_of}
+use Rattle.serve_machine.specs.SerialRun.{eviction, leases}
+use Rattle.serve_machine.specs.Work.{Production, Productions, CutWork}
 use Rattle.serve_machine.specs.Closing.{abandons}
-use Rattle.serve_machine.specs.Stops.{first_stop}
+use Rattle.serve_machine.specs.Worked.{Delivered, DeliversAll}
 use Rattle.serve_core.specs.CoreValue.{CoreValue}
 use Rattle.serve_core.specs.Sources.{shape_at}
-use Rattle.serve_core.specs.Workers.{takes}
-use Rattle.serve_worker.specs.Workers.{WorkerValue}
+use Rattle.serve_core.specs.WorkerValue.{WorkerValue}
 use Rattle.serve_shared.specs.Seats.{CoreSeat, seat_holdings, AtWork, IsSeat, Adds, RightFor}
 
 module _ {I : Type 0} where
@@ -56,21 +56,21 @@ module _ {I : Type 0} where
     pub closes : Closes me.number why (seat.own ++ done)
         (closing ++ abandons me.number (seat_holdings me seat).claims) later
 
-  module _ (feed : I → Option (List Picture)) (faults : I → ℕ) (me : WorkerValue) (seat : CoreSeat I) where
+  module _ (of : Ghosts I) (me : WorkerValue) (seat : CoreSeat I) where
     -- a key was produced, and its frame is handed out
     pub record Produced (k : Key) (frame : Picture) (later : CoreSeat I) : Type 0 where
       pub events : List Event
       pub produced : Production me.plan me.number k events
       pub adds : Adds events seat later
       pub shape : frame.shape ≡ shape_at me.plan k.node
-      pub right : RightFor feed faults me.plan seat k frame
+      pub right : RightFor of me.plan seat k frame
 
     -- the frames are right, each for its key
     abbrev pub AllRightFor : List Key → List Picture → Type 0
     AllRightFor [] [] = Unit {0}
     AllRightFor [] (x ∷ xs) = ⊥
     AllRightFor (k ∷ ks) [] = ⊥
-    AllRightFor (k ∷ ks) (x ∷ xs) = RightFor feed faults me.plan seat k x × AllRightFor ks xs
+    AllRightFor (k ∷ ks) (x ∷ xs) = RightFor of me.plan seat k x × AllRightFor ks xs
 
     -- keys were produced, one after the other
     pub record Gathered (ks : List Key) (frames : List Picture) (later : CoreSeat I) : Type 0 where
@@ -84,7 +84,7 @@ module _ {I : Type 0} where
     pub record Made (k : Key) (frame : Picture) (later : CoreSeat I) : Type 0 where
       pub adds : Adds (leases me.plan me.number k.node) seat later
       pub shape : frame.shape ≡ shape_at me.plan k.node
-      pub right : RightFor feed faults me.plan seat k frame
+      pub right : RightFor of me.plan seat k frame
 
     -- and it was published
     pub record Finished (k : Key) (frame : Picture) (later : CoreSeat I) : Type 0 where
@@ -92,7 +92,7 @@ module _ {I : Type 0} where
       pub adds :
           Adds (leases me.plan me.number k.node ++ (eviction me.number gone ++ Publish me.number k ∷ [])) seat later
       pub shape : frame.shape ≡ shape_at me.plan k.node
-      pub right : RightFor feed faults me.plan seat k frame
+      pub right : RightFor of me.plan seat k frame
 
 -- no frame of a node was made, or it was not published
 pub data CutMake (plan : List Application) (w i : ℕ) : List Event → List Event → Type 0 where
@@ -100,22 +100,6 @@ pub data CutMake (plan : List Application) (w i : ℕ) : List Event → List Eve
   entered : (mode_at plan i ≡ 1 → ⊥) → CutMake plan w i (Enter w i (instance_of plan w i) ∷ [])
       (Leave w i (instance_of plan w i) ∷ [])
   unpublished : CutMake plan w i (leases plan w i) []
-
--- outputs were delivered
-pub record Delivered (plan : List Application) (root w : ℕ) (own : List Event) : Type 0 where
-  pub outputs : List ℕ
-  pub delivered : Deliveries plan root w outputs own
-
--- outputs were delivered until none was left, or until a stop was kept
-pub record DeliversAll (plan : List Application) (root count w : ℕ) (seen own : List Event) : Type 0 where
-  pub outputs : List ℕ
-  pub delivered : Deliveries plan root w outputs own
-  pub all : first_stop seen ≡ None → count ≤ takes seen
-
--- the work of a worker by its own events and by all that it saw: whole, or cut short by a stop
-abbrev pub IsWork : List Application → ℕ → ℕ → ℕ → List Event → List Event → Type 0
-IsWork plan root count w seen own =
-    DeliversAll plan root count w seen own ⊎ ((why : WindowStop) × CutWork plan root w why seen own)
 
 -- by what it answered
 abbrev pub Worked : {I : Type 0} → List Application → ℕ → CoreValue I → List Event → List Event

@@ -2,11 +2,11 @@
 use Rattle.std.specs.Prelude.{◌≡◌, ◌⊎◌, ℕ, ◌<◌, false, List, [], ◌∷◌, slice_get, Option, Some, None}
 use Rattle.fv_plane.specs.declared.format.Info.{Info}
 use Rattle.fv_plane.specs.declared.key.Key.{Key}
-use Rattle.serve_events.specs.declared.event.WindowStop.{WindowStop}
-use Rattle.serve_events.specs.declared.event.WindowStop.TheVariants.{Memory}
+use Rattle.serve_machine.specs.declared.event.WindowStop.{WindowStop}
+use Rattle.serve_machine.specs.declared.event.WindowStop.TheVariants.{Memory}
 use Rattle.serve_machine.specs.Holdings.{claims_of}
-use Rattle.serve_core.specs.declared.answers.Ask.TheVariants.{Hit as IsCached, Claimed as IsClaimed}
-use Rattle.serve_core.specs.declared.answers.Admitted.TheVariants.{Leased as IsLeased}
+use Rattle.serve_core.specs.declared.answers.Ask.TheVariants.{Hit as IsCached, Claimed as IsClaimed, Taken as IsTaken}
+use Rattle.serve_core.specs.declared.answers.Admitted.TheVariants.{Leased as IsLeased, Busy as IsBusy}
 use Rattle.serve_core.specs.Calls.{Asked, Admits, TookOutput, abandoned, failing}
 use Rattle.serve_core.specs.CoreValue.{CoreValue}
 use Rattle.serve_core.specs.Sources.{shape_at, opened_at}
@@ -39,14 +39,16 @@ module _ {I : Type 0} where
   abbrev pub Refuses : ℕ → WindowStop → CoreValue I → CoreValue I → Type 0
   Refuses w why c d = RunsOut w why c d ⊎ ((c.stop ≡ Some why) × (d ≡ closed w c))
 
+  -- what the core answered: the frame, the claim, or that another worker has the claim
   abbrev pub Finds : CoreValue I → ℕ → Key → Found → CoreValue I → Type 0
   Finds c w k (Hit x) d = Asked c w k (IsCached x) d × (x.shape ≡ shape_at c.fixed.plan k.node)
   Finds c w k Claimed d = Asked c w k IsClaimed d
-  Finds c w k (Taken heard) d = d ≡ c
+  Finds c w k (Taken heard) d = (by : ℕ) × Asked c w k (IsTaken by) d
 
+  -- and for an instance
   abbrev pub Enters : (I → Option Info) → CoreValue I → ℕ → ℕ → Entry I → CoreValue I → Type 0
   Enters holds c w i (Leased l) d = Admits c w i (IsLeased l) d × (holds l.value ≡ opened_at c.fixed.plan i)
-  Enters holds c w i (Busy heard) d = d ≡ c
+  Enters holds c w i (Busy heard) d = (holder : ℕ) × Admits c w i (IsBusy holder) d
 
   -- an output is taken as the key of its frame
   abbrev pub Takes : CoreValue I → ℕ → Option Key → CoreValue I → Type 0

@@ -1,25 +1,25 @@
 -- What each turn of a worker adds, by what it found.
 use Rattle.std.specs.Prelude.{◌≡◌, ℕ, ◌<◌, ◌≤◌, true, List, [], ◌∷◌, ◌++◌, length, Option, Some, None, IfSome, Result, Ok, Err}
-use Rattle.fv_plane.specs.declared.format.Info.{Info}
 use Rattle.fv_plane.specs.declared.key.Key.{Key}
 use Rattle.fv_plane.specs.Picture.{Picture}
+use Rattle.inst_table.specs.declared.held.Held.{Ghosts}
 use Rattle.inst_table.specs.Lent.{Lent}
 use Rattle.turn_lock.specs.Entries.{entries_of}
-use Rattle.serve_events.specs.declared.event.Event.{Event}
-use Rattle.serve_events.specs.declared.event.Event.TheVariants.{Hit as Hits, Claim, Enter, Leave, Publish, Take}
-use Rattle.serve_events.specs.declared.event.WindowStop.{WindowStop}
-use Rattle.serve_events.specs.Events.{worker_of}
-use Rattle.serve_events.specs.Keys.{IsKey, instance_of}
-use Rattle.serve_events.specs.Own.{has_entered}
-use Rattle.serve_events.specs.SerialRun.{eviction}
+use Rattle.serve_machine.specs.declared.event.Event.{Event}
+use Rattle.serve_machine.specs.declared.event.Event.TheVariants.{Hit as Hits, Claim, Enter, Leave, Publish, Take}
+use Rattle.serve_machine.specs.declared.event.WindowStop.{WindowStop}
+use Rattle.serve_machine.specs.Events.{worker_of}
+use Rattle.serve_machine.specs.Keys.{IsKey, instance_of}
+use Rattle.serve_machine.specs.Own.{has_entered}
+use Rattle.serve_machine.specs.SerialRun.{eviction}
 use Rattle.serve_machine.specs.Stops.{first_stop}
 use Rattle.serve_core.specs.Sources.{shape_at, place_of, opened_at}
 use Rattle.serve_core.specs.Stands.{Fits}
 use Rattle.serve_core.specs.Steady.{HasCount}
 use Rattle.serve_core.specs.Turns.{ForAllOf}
-use Rattle.serve_core.specs.Workers.{takes}
-use Rattle.serve_worker.specs.Workers.{WorkerValue}
-use Rattle.serve_worker.specs.Works.{MakeStops}
+use Rattle.serve_machine.specs.Worked.{takes}
+use Rattle.serve_core.specs.WorkerValue.{WorkerValue}
+use Rattle.serve_core.specs.Works.{MakeStops}
 use Rattle.serve_shared.specs.declared.steps.Found.{Found}
 use Rattle.serve_shared.specs.declared.steps.Found.TheVariants.{Hit, Claimed, Taken}
 use Rattle.serve_shared.specs.declared.steps.Entry.{Entry}
@@ -29,36 +29,34 @@ use Rattle.serve_shared.specs.Shares.{StopsNow}
 
 -- the worker's instance of a node is out: it keeps the node's source, fits what the window's first core stood for, and
 -- has failed as often as it had then
-pub record IsLent {I : Type 0} (holds : I → Option Info) (feed : I → Option (List Picture)) (faults : I → ℕ)
-    (me : WorkerValue) (seat : CoreSeat I) (i : ℕ) (l : Lent I) : Type 0 where
+pub record IsLent {I : Type 0} (of : Ghosts I) (me : WorkerValue) (seat : CoreSeat I) (i : ℕ) (l : Lent I)
+    : Type 0 where
   pub place : l.place ≡ place_of me.plan me.number i
-  pub source : holds l.value ≡ opened_at me.plan i
-  pub fits : IfSome seat.tag (λ s. ForAllOf feed faults s (λ book numbers.
-      Fits feed faults book numbers me.plan l.place l.value))
-  pub count : IfSome seat.tag (λ s. HasCount faults s.table l.place l.value)
+  pub source : of.holds l.value ≡ opened_at me.plan i
+  pub fits : IfSome seat.tag (λ s. ForAllOf of.feed of.faults s (λ book numbers.
+      Fits of.feed of.faults book numbers me.plan l.place l.value))
+  pub count : IfSome seat.tag (λ s. HasCount of.faults s.table l.place l.value)
 
 -- it made no frame, and this is why
-pub record HasStopped {I : Type 0} (holds : I → Option Info) (feed : I → Option (List Picture)) (faults : I → ℕ)
-    (ends : I → ℕ → ℕ → ℕ → Type 0) (me : WorkerValue) (seat : CoreSeat I) (l : Lent I) (why : WindowStop)
-    : Type 0 where
+pub record HasStopped {I : Type 0} (of : Ghosts I) (me : WorkerValue) (seat : CoreSeat I) (l : Lent I)
+    (why : WindowStop) : Type 0 where
   pub node : ℕ
   pub in_plan : node < length me.plan
   pub entered : has_entered me.number node seat.own ≡ true
   -- as it was before
   pub old : I
-  pub lent : IsLent holds feed faults me seat node (record { place = l.place; value = old })
-  pub source : holds l.value ≡ holds old
-  pub feed_same : feed l.value ≡ feed old
-  pub faults_more : faults old ≤ faults l.value
-  pub stops : MakeStops feed faults ends me.plan node old l.value why
+  pub lent : IsLent of me seat node (record { place = l.place; value = old })
+  pub source : of.holds l.value ≡ of.holds old
+  pub feed_same : of.feed l.value ≡ of.feed old
+  pub faults_more : of.faults old ≤ of.faults l.value
+  pub stops : MakeStops of.feed of.faults of.ends me.plan node old l.value why
 
-module _ {I : Type 0} (holds : I → Option Info) (feed : I → Option (List Picture)) (faults : I → ℕ) (me : WorkerValue)
-    (seat : CoreSeat I) where
+module _ {I : Type 0} (of : Ghosts I) (me : WorkerValue) (seat : CoreSeat I) where
   -- a frame was cached
   pub record HasHit (k : Key) (frame : Picture) (later : CoreSeat I) : Type 0 where
     pub adds : Adds (Hits me.number k ∷ []) seat later
     pub shape : frame.shape ≡ shape_at me.plan k.node
-    pub right : RightFor feed faults me.plan seat k frame
+    pub right : RightFor of me.plan seat k frame
 
   abbrev pub TurnAsks : Key → Result Found WindowStop → CoreSeat I → Type 0
   TurnAsks k (Ok (Hit x)) later = HasHit k x later
@@ -75,7 +73,7 @@ module _ {I : Type 0} (holds : I → Option Info) (feed : I → Option (List Pic
   -- an instance was lent
   pub record HasEntered (i : ℕ) (l : Lent I) (later : CoreSeat I) : Type 0 where
     pub adds : Adds (Enter me.number i (instance_of me.plan me.number i) ∷ []) seat later
-    pub lent : IsLent holds feed faults me seat i l
+    pub lent : IsLent of me seat i l
 
   abbrev pub TurnEnters : ℕ → Result (Entry I) WindowStop → CoreSeat I → Type 0
   TurnEnters i (Ok (Leased l)) later = HasEntered i l later
@@ -94,7 +92,7 @@ module _ {I : Type 0} (holds : I → Option Info) (feed : I → Option (List Pic
   pub record HasMade (k : Key) (frame : Picture) (later : CoreSeat I) : Type 0 where
     pub adds : Adds (gives_back k) seat later
     pub shape : frame.shape ≡ shape_at me.plan k.node
-    pub right : RightFor feed faults me.plan seat k frame
+    pub right : RightFor of me.plan seat k frame
 
   abbrev pub Lends : Key → Result Picture WindowStop → CoreSeat I → Type 0
   Lends k (Ok x) later = HasMade k x later

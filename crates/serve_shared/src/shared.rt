@@ -1,16 +1,16 @@
 // `run_shared`: a worker that takes turns at the core with others.
 ghost use Rattle.std.specs.Prelude.{◌≡◌, [], IfSome};
 ghost use Rattle.turn_lock.specs.Entries.{entries_of};
-ghost use Rattle.serve_events.specs.Events.{worker_of};
+ghost use Rattle.serve_machine.specs.Events.{worker_of};
 ghost use Rattle.serve_shared.specs.Seats.{HasWorker, AtWork, IsSeat};
-ghost use Rattle.serve_shared.specs.Shares.{Worked, Delivered, Delivers};
+ghost use Rattle.serve_shared.specs.Shares.{Worked, Delivers};
+ghost use Rattle.serve_machine.specs.Worked.{Delivered};
 
 use crate::gate::Gate;
 use crate::produce::produce;
 use crate::turns::{deliver_turn, take_turn};
-use serve_core::Core;
-use serve_events::WindowStop;
-use serve_worker::{Worker, Works};
+use serve_core::{Core, Worker, Works};
+use serve_machine::WindowStop;
 use std::alloc::Global;
 use std::sync::Wait;
 use turn_lock::{LockSeat, TurnLock};
@@ -26,8 +26,7 @@ fn deliver_next<R: Wait, I: Works, G: Gate>(
 ) -> (LockSeat<Core<I>>, Result<bool, WindowStop>)
     requires lock { seat.lock ≡ lock.now }
     requires work { AtWork worker.now seat }
-    requires delivered { IfSome seat.tag (λ s.
-        Delivered worker.now.plan s.fixed.root worker.now.number seat.own) }
+    requires delivered { IfSome seat.tag (λ s. Delivered worker.now.plan s.fixed.root worker.now.number seat.own) }
     ensures { Delivers worker.now seat result.0 result.1 }
 {
     let (seat, taken) = take_turn(rt, lock, seat, worker);
@@ -61,8 +60,7 @@ pub fn run_shared<R: Wait, I: Works, G: Gate>(
     requires fresh { seat.own ≡ [] }
     ensures seat { IsSeat seat result.0 }
     ensures own { entries_of worker_of seat.number result.0.seen ≡ result.0.own }
-    ensures worked { IfSome seat.tag (λ s.
-        Worked worker.old.plan seat.number s result.0.seen result.0.own result.1) }
+    ensures worked { IfSome seat.tag (λ s. Worked worker.old.plan seat.number s result.0.seen result.0.own result.1) }
     ensures worker { worker.new ≡ worker.old }
 {
     // The plan is a graph's, and the seat has a window.

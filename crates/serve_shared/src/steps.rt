@@ -1,21 +1,18 @@
 // What a worker does to the core in one turn: the events of one call, or those that close its work.
-ghost use Rattle.std.specs.Prelude.{◌≡◌, ◌<◌, true, false, Some, length, IfOk, IfErr, OnOk};
+ghost use Rattle.std.specs.Prelude.{◌≡◌, ◌<◌, true, Some, IfOk, IfErr, OnOk};
 ghost use Rattle.clip_graph.specs.Unfolding.{input_keys};
 ghost use Rattle.frame_cache.specs.Cached.{at_key};
-ghost use Rattle.serve_events.specs.Keys.{IsKey, mode_at};
-ghost use Rattle.serve_events.specs.Own.{has_got_all, may_fail, names_source};
-ghost use Rattle.serve_machine.specs.Stops.{first_stop};
+ghost use Rattle.serve_machine.specs.Keys.{IsKey, mode_at};
+ghost use Rattle.serve_machine.specs.Own.{has_got_all, may_fail, names_source};
 ghost use Rattle.serve_core.specs.Calls.{published, failing};
 ghost use Rattle.serve_core.specs.Holds.{claims_at, holds_none, IsThere};
 ghost use Rattle.serve_core.specs.Sources.{shape_at};
 ghost use Rattle.serve_shared.specs.Steps.{IsRunning, closed, RunsOut, Refuses, Finds, Enters, Takes};
 
-use clip_graph::Graph;
 use fv_plane::{Frame, FrameMemory, Key};
 use inst_table::{Held, Lease};
-use serve_core::{Admitted, Ask, Core};
-use serve_events::WindowStop;
-use serve_worker::memory_for;
+use serve_core::{Admitted, Ask, Core, Works};
+use serve_machine::WindowStop;
 use turn_lock::Bell;
 
 /// What a worker learns that asks for a frame.
@@ -42,7 +39,7 @@ fn give_up<I: Held>(core: &mut Core<I>, bell: &Bell, number: u32)
     requires window { 0 < core.old.fixed.count }
     ensures { core.new ≡ closed number core.old }
 {
-    // Called for what its contract says.
+    // In a window the journal is a run, so that no two claims are on one key.
     core.account();
     'claims: while let Some(key) = core.newest_claim(number) {
         core.abandon(number, key);
@@ -71,8 +68,8 @@ fn run_out<I: Held>(core: &mut Core<I>, bell: &Bell, number: u32) -> WindowStop
     WindowStop::Memory
 }
 
-// Asks for a frame. A worker that gets no answer has closed its work.
-fn find<I: Held>(
+/// Asks for a frame. A worker that gets no answer has closed its work.
+pub(crate) fn ask<I: Held>(
     core: &mut Core<I>,
     bell: &Bell,
     number: u32,
@@ -83,7 +80,6 @@ fn find<I: Held>(
     requires open { at_key key core.old.claims ≡ Some number → ⊥ }
     ensures ok { IfOk result (λ found. Finds core.old number key found core.new) }
     ensures err { IfErr result (λ stop. Refuses number stop core.old core.new) }
-    ensures stopped { core.old.stop ≡ first_stop core.old.journal }
 {
     match core.ask(number, key) {
         Ok(Ask::Hit(frame)) => Ok(Found::Hit(frame)),
@@ -99,70 +95,39 @@ fn find<I: Held>(
     }
 }
 
-// Memory for a frame that the worker has the claim on now.
-fn memory_found<I: Held>(
-    core: &mut Core<I>,
-    graph: &Graph,
-    key: Key,
-    found: &Result<Found, WindowStop>,
-) -> FrameMemory
-    requires { IsKey graph.now key }
-    ensures { core.new ≡ core.old }
-{
-    match found {
-        Ok(Found::Claimed) => memory_for(core, graph, key),
-        _ => FrameMemory::none(),
-    }
-}
-
-/// Asks for a frame, and takes memory for it where the worker has the claim on it now. A worker that gets no answer has
-/// closed its work.
-pub(crate) fn ask<I: Held>(
+/// Asks for the worker's instance of a claim's node, and takes memory for the frame with it. A worker that gets no
+/// answer has closed its work.
+pub(crate) fn enter<I: Works>(
     core: &mut Core<I>,
     bell: &Bell,
     number: u32,
-    graph: &Graph,
     key: Key,
-) -> (Result<Found, WindowStop>, FrameMemory)
+) -> (Result<Entry<I>, WindowStop>, FrameMemory)
     requires worker { IsRunning number core.old }
-    requires plan { graph.now ≡ core.old.fixed.plan }
     requires key { IsKey core.old.fixed.plan key }
-    requires open { at_key key core.old.claims ≡ Some number → ⊥ }
-    ensures ok { IfOk result.0 (λ found. Finds core.old number key found core.new) }
-    ensures err { IfErr result.0 (λ stop. Refuses number stop core.old core.new) }
-    ensures stopped { core.old.stop ≡ first_stop core.old.journal }
-{
-    let found = find(core, bell, number, key);
-    let memory = memory_found(core, graph, key, &found);
-    (found, memory)
-}
-
-/// Asks for the worker's instance of a node. A worker that gets no answer has closed its work.
-pub(crate) fn enter<I: Held>(
-    core: &mut Core<I>,
-    bell: &Bell,
-    number: u32,
-    node: u32,
-) -> Result<Entry<I>, WindowStop>
-    requires worker { IsRunning number core.old }
-    requires node { node < length core.old.fixed.plan }
-    requires mode { (mode_at core.old.fixed.plan node ≡ 1) → ⊥ }
-    requires claim { claims_at number node core.old.claims ≡ true }
+    requires mode { (mode_at core.old.fixed.plan key.node ≡ 1) → ⊥ }
+    requires claim { claims_at number key.node core.old.claims ≡ true }
     requires hands { holds_none number core.old.table ≡ true }
-    ensures ok { IfOk result (λ entry. Enters I.holds core.old number node entry core.new) }
-    ensures err { IfErr result (λ stop. Refuses number stop core.old core.new) }
-    ensures stopped { core.old.stop ≡ first_stop core.old.journal }
+    ensures ok { IfOk result.0 (λ entry. Enters I.holds core.old number key.node entry core.new) }
+    ensures err { IfErr result.0 (λ stop. Refuses number stop core.old core.new) }
 {
-    match core.enter(number, node) {
-        Ok(Admitted::Leased(lease)) => Ok(Entry::Leased(lease)),
-        Ok(Admitted::Busy { holder: _ }) => Ok(Entry::Busy {
-            heard: bell.strokes(),
-        }),
+    match core.enter(number, key.node) {
+        Ok(Admitted::Leased(lease)) => {
+            let memory = core.memory_for(key);
+            (Ok(Entry::Leased(lease)), memory)
+        }
+        Ok(Admitted::Busy { holder: _ }) => {
+            let heard = bell.strokes();
+            (Ok(Entry::Busy { heard }), FrameMemory::none())
+        }
         Ok(Admitted::Stopped(stop)) => {
             give_up(core, bell, number);
-            Err(stop)
+            (Err(stop), FrameMemory::none())
         }
-        Err(_) => Err(run_out(core, bell, number)),
+        Err(_) => {
+            let stop = run_out(core, bell, number);
+            (Err(stop), FrameMemory::none())
+        }
     }
 }
 
@@ -200,7 +165,6 @@ pub(crate) fn take<I: Held>(
     requires { IsRunning number core.old }
     ensures ok { IfOk result (λ key. Takes core.old number key core.new) }
     ensures err { IfErr result (λ stop. RunsOut number stop core.old core.new) }
-    ensures stopped { core.old.stop ≡ first_stop core.old.journal }
 {
     let node = core.root();
     match core.take_output(number) {

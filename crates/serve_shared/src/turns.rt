@@ -1,11 +1,10 @@
 // Each function takes one turn at the lock.
-ghost use Rattle.std.specs.Prelude.{◌≡◌, ◌<◌, true, false, length, [], ◌∷◌, IfSome, IfOk, IfErr};
+ghost use Rattle.std.specs.Prelude.{◌≡◌, ◌<◌, true, false, [], ◌∷◌, IfSome};
 ghost use Rattle.clip_graph.specs.Unfolding.{input_keys};
-ghost use Rattle.inst_table.specs.Lent.{Lent};
-ghost use Rattle.serve_events.specs.declared.event.Event.TheVariants.{Leave, Deliver};
-ghost use Rattle.serve_events.specs.declared.event.WindowStop.TheVariants.{Memory};
-ghost use Rattle.serve_events.specs.Keys.{IsKey, has, mode_at, instance_of};
-ghost use Rattle.serve_events.specs.Own.{has_got, has_got_all};
+ghost use Rattle.serve_machine.specs.declared.event.Event.TheVariants.{Leave, Deliver};
+ghost use Rattle.serve_machine.specs.declared.event.WindowStop.TheVariants.{Memory};
+ghost use Rattle.serve_machine.specs.Keys.{IsKey, has, mode_at};
+ghost use Rattle.serve_machine.specs.Own.{has_got, has_got_all};
 ghost use Rattle.serve_machine.specs.Holdings.{has_number};
 ghost use Rattle.serve_core.specs.Sources.{shape_at};
 ghost use Rattle.serve_shared.specs.Seats.{seat_holdings, HasSeat, AtWork, Adds, RightFor};
@@ -15,9 +14,8 @@ ghost use Rattle.serve_shared.specs.Turns.{TurnAsks, TurnEnters, TurnTakes, Turn
 use crate::steps::{Entry, Found, ask, enter, fail, publish, take};
 use fv_plane::{Frame, FrameMemory, Key};
 use inst_table::{Held, Lease};
-use serve_core::Core;
-use serve_events::WindowStop;
-use serve_worker::Worker;
+use serve_core::{Core, Worker, Works};
+use serve_machine::WindowStop;
 use std::sync::Wait;
 use turn_lock::{Bell, LockSeat, TurnLock};
 
@@ -28,51 +26,72 @@ fn wake_stopped<T>(bell: &Bell, found: &Result<T, WindowStop>) {
     }
 }
 
-/// Asks for a frame, and takes memory for it where the worker has the claim on it now.
+/// Asks for a frame.
 pub(crate) fn ask_turn<R: Wait, I: Held>(
     rt: &R,
     lock: &TurnLock<Core<I>>,
     seat: LockSeat<Core<I>>,
     worker: &Worker,
     key: Key,
-) -> (LockSeat<Core<I>>, Result<Found, WindowStop>, FrameMemory)
+) -> (LockSeat<Core<I>>, Result<Found, WindowStop>)
     requires lock { seat.lock ≡ lock.now }
     requires work { AtWork worker.now seat }
     requires key { IsKey worker.now.plan key }
     requires open { has key (seat_holdings worker.now seat).claims ≡ false }
-    ensures { TurnAsks I.holds I.feed I.faults worker.now seat key result.1 result.0 }
+    ensures { TurnAsks I.Held worker.now seat key result.1 result.0 }
 {
     let (mut core, turn) = lock.enter(rt, seat);
-    // Called for what its contract says.
+    // In a window the journal is a run.
     core.account();
-    let (found, memory) = ask(&mut core, lock.bell(), worker.number(), worker.graph(), key);
+    let found = ask(&mut core, lock.bell(), worker.number(), key);
     let seat = lock.leave(turn, core);
     wake_stopped(lock.bell(), &found);
-    (seat, found, memory)
+    (seat, found)
 }
 
-/// Asks for the worker's instance of a claim's node.
-pub(crate) fn enter_turn<R: Wait, I: Held>(
+/// Takes memory for the frame of a key.
+pub(crate) fn memory_turn<R: Wait, I: Works>(
     rt: &R,
     lock: &TurnLock<Core<I>>,
     seat: LockSeat<Core<I>>,
     worker: &Worker,
     key: Key,
-) -> (LockSeat<Core<I>>, Result<Entry<I>, WindowStop>)
+) -> (LockSeat<Core<I>>, FrameMemory)
+    requires lock { seat.lock ≡ lock.now }
+    requires work { AtWork worker.now seat }
+    requires key { IsKey worker.now.plan key }
+    ensures { Adds [] seat result.0 }
+{
+    let (mut core, turn) = lock.enter(rt, seat);
+    // In a window the journal is a run.
+    core.account();
+    let memory = core.memory_for(key);
+    let seat = lock.leave(turn, core);
+    (seat, memory)
+}
+
+/// Asks for the worker's instance of a claim's node, and takes memory for the frame with it.
+pub(crate) fn enter_turn<R: Wait, I: Works>(
+    rt: &R,
+    lock: &TurnLock<Core<I>>,
+    seat: LockSeat<Core<I>>,
+    worker: &Worker,
+    key: Key,
+) -> (LockSeat<Core<I>>, Result<Entry<I>, WindowStop>, FrameMemory)
     requires lock { seat.lock ≡ lock.now }
     requires work { AtWork worker.now seat }
     requires key { IsKey worker.now.plan key }
     requires mode { (mode_at worker.now.plan key.node ≡ 1) → ⊥ }
     requires claim { has key (seat_holdings worker.now seat).claims ≡ true }
-    ensures { TurnEnters I.holds I.feed I.faults worker.now seat key.node result.1 result.0 }
+    ensures { TurnEnters I.Held worker.now seat key.node result.1 result.0 }
 {
     let (mut core, turn) = lock.enter(rt, seat);
-    // Called for what its contract says.
+    // In a window the journal is a run.
     core.account();
-    let entry = enter(&mut core, lock.bell(), worker.number(), key.node);
+    let (entry, memory) = enter(&mut core, lock.bell(), worker.number(), key);
     let seat = lock.leave(turn, core);
     wake_stopped(lock.bell(), &entry);
-    (seat, entry)
+    (seat, entry, memory)
 }
 
 /// Gives an instance back.
@@ -86,11 +105,11 @@ pub(crate) fn leave_turn<R: Wait, I: Held>(
     requires lock { seat.lock ≡ lock.now }
     requires sits { HasSeat worker.now seat }
     requires out { (seat_holdings worker.now seat).leases ≡ lease.place ∷ [] }
-    requires lent { IsLent I.holds I.feed I.faults worker.now seat lease.place.node lease }
+    requires lent { IsLent I.Held worker.now seat lease.place.node lease }
     ensures { Adds (Leave worker.now.number lease.place.node lease.place.instance ∷ []) seat result }
 {
     let (mut core, turn) = lock.enter(rt, seat);
-    // Called for what its contract says.
+    // In a window the journal is a run.
     core.account();
     core.leave(worker.number(), lease);
     lock.bell().strike();
@@ -111,13 +130,13 @@ pub(crate) fn give_back_turn<R: Wait, I: Held>(
     requires lock { seat.lock ≡ lock.now }
     requires sits { HasSeat worker.now seat }
     requires out { (seat_holdings worker.now seat).leases ≡ lease.place ∷ [] }
-    requires stopped { HasStopped I.holds I.feed I.faults I.ends worker.now seat lease stop }
+    requires stopped { HasStopped I.Held worker.now seat lease stop }
     ensures { StopsNow worker.now stop
         (Leave worker.now.number lease.place.node lease.place.instance ∷ []) seat result }
 {
     let number = worker.number();
     let (mut core, turn) = lock.enter(rt, seat);
-    // Called for what its contract says.
+    // In a window the journal is a run.
     core.account();
     core.leave(number, lease);
     fail(&mut core, lock.bell(), number, stop);
@@ -138,7 +157,7 @@ pub(crate) fn fail_turn<R: Wait, I: Held>(
     ensures { StopsNow worker.now Memory [] seat result }
 {
     let (mut core, turn) = lock.enter(rt, seat);
-    // Called for what its contract says.
+    // In a window the journal is a run.
     core.account();
     fail(&mut core, lock.bell(), worker.number(), WindowStop::Memory);
     let seat = lock.leave(turn, core);
@@ -160,11 +179,11 @@ pub(crate) fn publish_turn<R: Wait, I: Held>(
     requires claim { has key (seat_holdings worker.now seat).claims ≡ true }
     requires got { has_got_all worker.now.number (input_keys worker.now.plan key) seat.own ≡ true }
     requires shape { frame.shape ≡ shape_at worker.now.plan key.node }
-    requires right { RightFor I.feed I.faults worker.now.plan seat key frame }
+    requires right { RightFor I.Held worker.now.plan seat key frame }
     ensures { TurnPublishes worker.now seat key result.1 result.0 }
 {
     let (mut core, turn) = lock.enter(rt, seat);
-    // Called for what its contract says.
+    // In a window the journal is a run.
     core.account();
     let done = publish(&mut core, lock.bell(), worker.number(), key, frame);
     let seat = lock.leave(turn, core);
@@ -184,7 +203,7 @@ pub(crate) fn take_turn<R: Wait, I: Held>(
     ensures { TurnTakes worker.now seat result.1 result.0 }
 {
     let (mut core, turn) = lock.enter(rt, seat);
-    // Called for what its contract says.
+    // In a window the journal is a run.
     core.account();
     let taken = take(&mut core, lock.bell(), worker.number());
     let seat = lock.leave(turn, core);
@@ -207,11 +226,11 @@ pub(crate) fn deliver_turn<R: Wait, I: Held>(
     requires root { IfSome seat.tag (λ s. key.node ≡ s.fixed.root) }
     requires got { has_got worker.now.number key seat.own ≡ true }
     requires shape { frame.shape ≡ shape_at worker.now.plan key.node }
-    requires right { RightFor I.feed I.faults worker.now.plan seat key frame }
+    requires right { RightFor I.Held worker.now.plan seat key frame }
     ensures { Adds (Deliver worker.now.number key.n ∷ []) seat result }
 {
     let (mut core, turn) = lock.enter(rt, seat);
-    // Called for what its contract says.
+    // In a window the journal is a run.
     core.account();
     core.deliver(worker.number(), key.n, frame);
     lock.leave(turn, core)

@@ -1,8 +1,8 @@
 -- The numbers of a node's events, counted.
 use Rattle.std.specs.Prelude.{ℕ, ◌+◌, ◌≤◌, ◌<◌, List, length, cond, slice_index_or}
 use Rattle.std.specs.List.{count_by}
-use Rattle.serve_events.specs.declared.event.Event.{Event}
-use Rattle.serve_events.specs.Windows.{WindowEvents}
+use Rattle.serve_machine.specs.declared.event.Event.{Event}
+use Rattle.serve_machine.specs.Windows.{WindowEvents}
 use Rattle.serve_text.specs.declared.counts.Counts.{Counts}
 use Rattle.serve_text.specs.Report.{makes, hits, evicts, enters, number_of}
 

@@ -6,9 +6,9 @@ use Rattle.std.specs.List.{count_by, sum_by, flat_map, range_with_len}
 use Rattle.clip_term.specs.Filters.{name_of}
 use Rattle.clip_graph.specs.Plan.{Application, application_at}
 use Rattle.clip_term.specs.Ops.{filter_of}
-use Rattle.serve_events.specs.declared.event.Event.{Event}
-use Rattle.serve_events.specs.declared.event.Event.TheVariants.{Hit, Enter, Evict, Publish}
-use Rattle.serve_events.specs.Windows.{WindowEvents}
+use Rattle.serve_machine.specs.declared.event.Event.{Event}
+use Rattle.serve_machine.specs.declared.event.Event.TheVariants.{Hit, Enter, Evict, Publish}
+use Rattle.serve_machine.specs.Windows.{WindowEvents}
 
 -- a frame of node i was made
 abbrev pub makes : ℕ → Event → Bool

@@ -4,7 +4,7 @@ use Rattle.std.specs.List.{flat_map, range_with_len}
 use Rattle.fv_io.specs.declared.sink.Sink.{Ghosts}
 use Rattle.fv_io.specs.Sink.{Puts}
 use Rattle.clip_graph.specs.Plan.{Application}
-use Rattle.serve_events.specs.Windows.{WindowEvents}
+use Rattle.serve_machine.specs.Windows.{WindowEvents}
 use Rattle.serve_text.specs.Report.{report_line}
 
 -- the lines of the nodes from `first` to before `end`

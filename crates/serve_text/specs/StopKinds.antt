@@ -1,7 +1,7 @@
 -- The stops of a render, and their exit statuses.
 use Rattle.std.specs.Prelude.{ℕ}
-use Rattle.avs_meaning.specs.declared.stop.ScriptStop.{ScriptStop}
-use Rattle.avs_meaning.specs.declared.stop.ScriptStop.TheVariants as of_script
+use Rattle.avs_meaning.specs.declared.stop.EvalError.{EvalError}
+use Rattle.avs_meaning.specs.declared.stop.EvalError.TheVariants as of_script
 use Rattle.serve_text.specs.declared.stop.Stop.{Stop}
 use Rattle.serve_text.specs.declared.stop.Stop.TheVariants.{Script, Input, Changed, File, Read, Write, Memory}
 
@@ -16,7 +16,7 @@ status_of_stop Memory = 6
 
 -- ---- the stop of a script
 
-abbrev pub stop_of : ScriptStop → Stop
+abbrev pub stop_of : EvalError → Stop
 stop_of (of_script.Fault kind name line) = Script kind name line
 stop_of (of_script.Input name fault) = Input name fault
 stop_of of_script.Read = Read

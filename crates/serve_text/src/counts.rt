@@ -1,9 +1,9 @@
 // The numbers of the events of some nodes, counted in one walk over a journal.
 ghost use Rattle.std.specs.Prelude.{◌≡◌, ℕ, ◌+◌, ◌-◌, ◌^◌, ◌<◌, length, slice_index_or};
-ghost use Rattle.serve_events.specs.Windows.{windows_of};
+ghost use Rattle.serve_machine.specs.Windows.{windows_of};
 ghost use Rattle.serve_text.specs.Counts.{none, with_event, with_events, counts_of, IsAtMost, AreAtMost};
 
-use serve_events::{Event, Record};
+use serve_machine::{Event, Record};
 
 /// How many events of each kind a node has. Events in memory are fewer than 2^64 in a window, in fewer than 2^64 windows,
 /// so that a count of 128 bits is exact.

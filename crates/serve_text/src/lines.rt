@@ -2,7 +2,7 @@
 ghost use Rattle.std.specs.Prelude.{◌≡◌, ◌+◌, ◌<◌, ◌≤◌, ℕ, length, flat_map, slice_index_or, OnOk, OnErr};
 ghost use Rattle.clip_graph.specs.Nodes.{application_of};
 ghost use Rattle.fv_io.specs.Sink.{Puts, PutsPrefix, SinkFailed, IsLater};
-ghost use Rattle.serve_events.specs.Windows.{windows_of};
+ghost use Rattle.serve_machine.specs.Windows.{windows_of};
 ghost use Rattle.serve_text.specs.Counts.{none, counts_of};
 ghost use Rattle.serve_text.specs.Report.{report, node_line};
 ghost use Rattle.serve_text.specs.ReportLines.{lines_between};
@@ -12,7 +12,7 @@ use arrayvec::ArrayString;
 use clip_graph::{Graph, Node};
 use fv_io::{Failed, Sink};
 use itoa::Buffer;
-use serve_events::Record;
+use serve_machine::Record;
 
 // The nodes that are counted in one walk over the journal.
 const BLOCK: usize = 256;

@@ -3,7 +3,7 @@ ghost use Rattle.std.specs.Prelude.{◌≡◌, OnOk, OnErr};
 ghost use Rattle.std.specs.List.{AllByRecursion};
 ghost use Rattle.serve_text.specs.Lines.{Says, write_line};
 ghost use Rattle.serve_text.specs.Reports.{Reports};
-ghost use Rattle.serve_events.specs.Windows.{windows_of};
+ghost use Rattle.serve_machine.specs.Windows.{windows_of};
 ghost use Rattle.serve_text.specs.Report.{report};
 ghost use Rattle.run_text.specs.Lines.{LineFits, journal_lines, journal_text};
 
@@ -12,8 +12,8 @@ use crate::say::say_stop;
 use crate::stop::Stop;
 use clip_graph::Graph;
 use fv_io::{Failed, Sink};
-use run_print::print_journal;
-use serve_events::Record;
+use run_text::print_journal;
+use serve_machine::Record;
 
 // The status of a text that was put, or of one that wasn't, of which it says so.
 fn status_of<E: Sink>(err: &mut E, done: Result<(), Failed>) -> u8

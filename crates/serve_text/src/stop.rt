@@ -2,7 +2,7 @@
 ghost use Rattle.std.specs.Prelude.{◌≡◌};
 ghost use Rattle.serve_text.specs.StopKinds.{status_of_stop};
 
-use avs_meaning::{InputFault, ScriptKind, ScriptStop};
+use avs_meaning::{EvalError, InputFault, ScriptKind};
 use fv_io::Text;
 use std::alloc::AllocError;
 
@@ -88,18 +88,18 @@ impl Stop {
     }
 }
 
-impl From<ScriptStop> for Stop {
+impl From<EvalError> for Stop {
     ghost use Rattle.std.specs.Prelude.{◌≡◌};
     ghost use Rattle.serve_text.specs.StopKinds.{stop_of};
 
     ghost from_gives = { λ of stop. stop ≡ stop_of of };
 
-    fn from(of: ScriptStop) -> Stop {
+    fn from(of: EvalError) -> Stop {
         match of {
-            ScriptStop::Fault { kind, name, line } => Stop::Script { kind, name, line },
-            ScriptStop::Input { name, fault } => Stop::Input { name, fault },
-            ScriptStop::Read => Stop::Read,
-            ScriptStop::Memory => Stop::Memory,
+            EvalError::Fault { kind, name, line } => Stop::Script { kind, name, line },
+            EvalError::Input { name, fault } => Stop::Input { name, fault },
+            EvalError::Read => Stop::Read,
+            EvalError::Memory => Stop::Memory,
         }
     }
 }

@@ -2,7 +2,6 @@
 -- failed, and its places.
 use Rattle.std.proofs.Common.{◌≡◌, ℕ, suc, ◌+◌, ◌<◌, true, false, if◌then◌else◌, List, [], ◌∷◌, ◌++◌, length, map, take, slice_get, Option, Some, None, sym, refl, ap, ◌∙◌, subst, ⊎_elim, arith}
 use Rattle.std.specs.List.{cons_option}
-use Rattle.std.specs.Map.{keys_of}
 use Rattle.std.proofs.lemmas.List.{length-append, map-append}
 use Rattle.std.proofs.lemmas.List.Recursion.{is_count_by}
 use Rattle.fv_io.specs.declared.source.Source.{Ghosts}
@@ -11,7 +10,7 @@ use Rattle.seq_source.specs.FrameSource.{FrameSource, frames_of}
 use Rattle.clip_term.specs.ClipTerm.{Act, source}
 use Rattle.clip_graph.specs.Plan.{Application, application_at, is_source, sources_in as count_sources, IsPlan, IsCounted}
 use Rattle.clip_term.specs.Ops.{source_info}
-use Rattle.clip_frames.specs.Sources.{source_infos, AreSources}
+use Rattle.serve_worker.specs.Sources.{source_infos, AreSources}
 use Rattle.inst_table.specs.declared.place.Place.{Place}
 use Rattle.inst_table.specs.declared.place.Slot.{Slot}
 use Rattle.inst_table.specs.declared.place.Slot.TheVariants.{Free, Leased}
@@ -20,7 +19,7 @@ use Rattle.inst_table.proofs.CallerLemmas.{test}
 use Rattle.serve_core.specs.Sources.{sources_from, all_told, feed_at, book_of}
 use Rattle.serve_worker.specs.declared.instance.Instance.{Instance}
 use Rattle.serve_worker.specs.declared.instance.Instance.TheVariants.{Plain, Scratch, Source}
-use Rattle.serve_worker.specs.Alone.{AllFree, held_in, counts_in}
+use Rattle.serve_core.specs.Tables.{AllFree, held_in, counts_in}
 use Rattle.serve_worker.specs.Furnishing.{sources_in, fault_counts, some_in, Furnishes}
 use Rattle.serve_worker.specs.Instances.{feed_of, faults_of, holds_of}
 
@@ -119,12 +118,3 @@ counts_beside of ((p, Leased w) ∷ es) free = absurd free
 pub same_counts : {S : Type 0} (of : Ghosts S) (es fs : List (Place × Slot (Instance S))) → AllFree es → AllFree fs → held_in holds_of fs ≡ held_in holds_of es → counts_in (faults_of of) fs ≡ counts_in (faults_of of) es
     → fault_counts of (sources_in fs) ≡ fault_counts of (sources_in es)
 same_counts of es fs free free' held counts = counts_beside of fs free' ∙ ((λ i. beside (held i) (counts i)) ∙ sym (counts_beside of es free))
-
--- a table that keeps the same has the same places
-places_in : {I : Type 0} (holds : I → Option Info) (es : List (Place × Slot I)) → keys_of (held_in holds es) ≡ keys_of es
-places_in holds [] = refl
-places_in holds ((p, Free x) ∷ es) = ap (λ ps. p ∷ ps) (places_in holds es)
-places_in holds ((p, Leased w) ∷ es) = ap (λ ps. p ∷ ps) (places_in holds es)
-
-pub places_kept : {I : Type 0} (holds : I → Option Info) (es fs : List (Place × Slot I)) → held_in holds fs ≡ held_in holds es → keys_of fs ≡ keys_of es
-places_kept holds es fs held = sym (places_in holds fs) ∙ (ap keys_of held ∙ places_in holds es)

@@ -11,14 +11,14 @@ use Rattle.seq_source.specs.FrameSource.{FrameSource}
 use Rattle.clip_term.specs.ClipTerm.{Act, source}
 use Rattle.clip_graph.specs.Plan.{Application, application_at, no_application, is_source, sources_in as count_sources, IsPlan, IsCounted}
 use Rattle.clip_term.specs.Ops.{SourcePart, source_info, source_part}
-use Rattle.clip_frames.specs.Sources.{source_infos, AreSources}
-use Rattle.clip_frames.proofs.CallerLemmas.{has_source}
+use Rattle.serve_worker.specs.Sources.{source_infos, AreSources}
+use Rattle.serve_worker.proofs.SourceLemmas.{has_source}
 use Rattle.inst_table.specs.declared.place.Place.{Place}
 use Rattle.inst_table.specs.declared.place.Slot.{Slot}
 use Rattle.inst_table.specs.declared.place.Slot.TheVariants.{Free, Leased}
 use Rattle.inst_table.specs.Places.{place_at, shared_place, own_place, same_place, slot_at, has_place, IsNewPair}
 use Rattle.inst_table.proofs.CallerLemmas.{test, same_places, place_itself, slot_added}
-use Rattle.serve_events.specs.Keys.{mode_at}
+use Rattle.serve_machine.specs.Keys.{mode_at}
 use Rattle.serve_core.specs.Kept.{leases_out}
 use Rattle.serve_core.specs.Sources.{opened_at, HoldTheirs}
 use Rattle.serve_core.proofs.Places.{free_same, some_same}
@@ -26,7 +26,7 @@ use Rattle.serve_worker.specs.declared.instance.Instance.{Instance}
 use Rattle.serve_worker.specs.declared.instance.Instance.TheVariants.{Plain, Scratch, Source}
 use Rattle.serve_worker.specs.Instances.{holds_of}
 use Rattle.serve_worker.specs.Furnishing.{sources_in, IsKindOf, filter_instance, own_entries, IsNewNode, EndsIn, IsNext, source_of, node_entries, Moves, Adds}
-use Rattle.serve_worker.proofs.Making.{source_mode}
+use Rattle.serve_core.proofs.Making.{source_mode}
 
 -- TABLES
 

@@ -1,9 +1,5 @@
-pub mod Tables
-pub mod KeyLemmas
-pub mod Going
-pub mod Making
-pub mod Producing
-pub mod Serving
+pub mod SourceLemmas
+pub mod MakeLemmas
 pub mod Reading
 pub mod FurnishingLemmas
 pub mod CallerLemmas

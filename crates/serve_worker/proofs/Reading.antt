@@ -11,7 +11,7 @@ use Rattle.clip_term.specs.Terms.{check}
 use Rattle.clip_graph.specs.Plan.{Application, application_at, infos_among, is_source, IsPlan}
 use Rattle.clip_term.specs.Ops.{source_info}
 use Rattle.serve_core.specs.Sources.{opened_at}
-use Rattle.serve_worker.specs.Works.{IsMade}
+use Rattle.serve_core.specs.Works.{IsMade}
 
 -- whatever a filter's instance keeps
 pub made_with : {E : Type 0} (plan : List Application) (k : Key) (inputs : List Picture) (feed : Option (List Picture)) (r : Result Picture E) → IfOk r (λ frame. (own : Option (List Picture)) → IsMade plan k own inputs frame) → IfOk r (IsMade plan k feed inputs)

@@ -7,8 +7,9 @@ use Rattle.fv_plane.specs.declared.key.Key.{Key}
 use Rattle.fv_plane.specs.Picture.{Picture}
 use Rattle.y4m_stream.specs.Index.{Indexed, IsIndex}
 use Rattle.seq_source.specs.FrameSource.{FrameSource, frames_of, end_of}
-use Rattle.serve_events.specs.declared.event.WindowStop.{WindowStop}
-use Rattle.serve_events.specs.declared.event.WindowStop.TheVariants.{Read, Changed, Memory}
+use Rattle.inst_table.specs.declared.held.Held.{Ghosts as HeldGhosts}
+use Rattle.serve_machine.specs.declared.event.WindowStop.{WindowStop}
+use Rattle.serve_machine.specs.declared.event.WindowStop.TheVariants.{Read, Changed, Memory}
 use Rattle.serve_worker.specs.declared.instance.Instance.{Instance}
 use Rattle.serve_worker.specs.declared.instance.Instance.TheVariants.{Plain, Scratch, Source}
 
@@ -52,3 +53,7 @@ module _ {S : Type 0} (source : Ghosts S) where
   ReadStops k old new (Read j) = (j ≡ k.node) × SourceFailed source old.source new.source
   ReadStops k old new (Changed j frame want got) = ReadEndsEarly k j frame want got old new
   ReadStops k old new Memory = Unit {0}
+
+-- the instances over these sources, to contracts
+abbrev pub held_of : {S : Type 0} → Ghosts S → HeldGhosts (Instance S)
+held_of of = record { feed = feed_of of; faults = faults_of of; holds = holds_of; ends = Ends of }

@@ -2,26 +2,25 @@
 ghost use Rattle.std.specs.Prelude.{◌≡◌, false, List, Option, IfOk, IfErr};
 ghost use Rattle.fv_plane.specs.Picture.{Picture};
 ghost use Rattle.clip_graph.specs.Plan.{application_at, is_source};
-ghost use Rattle.clip_graph.specs.Unfolding.{input_keys};
-ghost use Rattle.clip_frames.specs.Asked.{AreOfKeys};
-ghost use Rattle.serve_events.specs.Keys.{IsKey};
-ghost use Rattle.serve_worker.specs.Works.{IsMade};
+ghost use Rattle.clip_graph.specs.Unfolding.{input_keys, AreOfKeys};
+ghost use Rattle.serve_machine.specs.Keys.{IsKey};
+ghost use Rattle.serve_core.specs.Works.{IsMade};
 
-use clip_frames::make_frame;
+use crate::make::make_frame;
 use clip_graph::Graph;
 use flt_soft::Scratch;
 use fv_plane::{Frame, FrameMemory, Key};
-use serve_events::WindowStop;
+use serve_machine::WindowStop;
 use std::alloc::{AllocError, Global};
 
 /// The frame that a filter makes of the frames of its inputs, in `memory` as far as that has room.
-pub fn filtered(
+pub(crate) fn filtered(
     alloc: Global,
     memory: FrameMemory,
     graph: &Graph,
     key: Key,
     inputs: &[Frame],
-    scratch: &mut Scratch,
+    scratch: Option<&mut Scratch>,
 ) -> Result<Frame, WindowStop>
     requires key { IsKey graph.now key }
     requires filter { is_source (application_at graph.now key.node).act ≡ false }

@@ -2,7 +2,7 @@
 ghost use Rattle.std.specs.Prelude.{◌≡◌, ◌∷◌, ◌++◌, ◌<◌, [], length, OnOk, OnErr, IsTrue};
 ghost use Rattle.clip_term.specs.ClipTerm.{act_of};
 ghost use Rattle.clip_graph.specs.Plan.{application_at};
-ghost use Rattle.clip_frames.specs.Sources.{AreSources};
+ghost use Rattle.serve_worker.specs.Sources.{AreSources};
 ghost use Rattle.inst_table.specs.declared.place.Slot.TheVariants.{Free};
 ghost use Rattle.inst_table.specs.Places.{IsNewPair, place_at, shared_place};
 ghost use Rattle.serve_core.specs.Kept.{leases_out};
@@ -28,8 +28,8 @@ fn instance_for<S: Source>(alloc: Global, op: &Op) -> Instance<S>
     }
 }
 
-// Lets go of an instance that keeps no source.
-fn let_go<S: Source>(value: Instance<S>)
+// Drops an instance that keeps no source.
+fn drop_filter<S: Source>(value: Instance<S>)
     requires { source_of value ≡ [] }
 {
     match value {
@@ -57,7 +57,7 @@ fn add_filter<S: Source>(
     match table.add(node, instance, shared, instance_for(alloc, op)) {
         Ok(()) => Ok(()),
         Err((value, refused)) => {
-            let_go(value);
+            drop_filter(value);
             Err(refused)
         }
     }

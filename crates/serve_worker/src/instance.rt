@@ -1,19 +1,13 @@
 // The instances of the nodes of a graph.
-ghost use Rattle.std.specs.Prelude.{◌≡◌, ◌<◌, ◌≤◌, false, length, slice_get, Some, IfOk, IfErr, IsErrOf};
+ghost use Rattle.std.specs.Prelude.{◌≡◌, ◌<◌, slice_get, Some, IfOk, IfErr, IsErrOf};
 ghost use Rattle.std.specs.Option.{ForSome};
 ghost use Rattle.fv_io.specs.Source.{IsSteady};
 ghost use Rattle.fv_plane.specs.Picture.{IsPicture};
 ghost use Rattle.seq_source.specs.FrameSource.{frames_of, KeepsFrames};
-ghost use Rattle.clip_graph.specs.Plan.{application_at, is_source};
-ghost use Rattle.clip_graph.specs.Unfolding.{input_keys};
-ghost use Rattle.clip_frames.specs.Asked.{AreOfKeys};
-ghost use Rattle.serve_events.specs.Keys.{IsKey};
-ghost use Rattle.serve_core.specs.Sources.{opened_at};
 ghost use Rattle.serve_worker.specs.Instances.{feed_of, faults_of, holds_of, Ends, ReadStops};
-ghost use Rattle.serve_worker.specs.Works.{IsMade, MakeStops};
 
 use crate::filtering::filtered;
-use crate::works::Works;
+use crate::memory::{memory_for, takes_memory};
 use clip_graph::Graph;
 use flt_soft::Scratch;
 use fv_io::Source;
@@ -21,7 +15,8 @@ use fv_plane::{Frame, FrameMemory, Key};
 use fv_spares::Spares;
 use inst_table::Held;
 use seq_source::{SeqFault, SeqSource};
-use serve_events::WindowStop;
+use serve_core::Works;
+use serve_machine::WindowStop;
 use std::alloc::Global;
 
 /// What a node keeps from frame to frame.
@@ -43,18 +38,27 @@ impl<S: Source> Held for Instance<S> {
     ghost holds = { λ it. holds_of it };
 
     ghost ends = { λ it. Ends S.Source it };
-
-    fn take_memory(&mut self, spares: &mut Spares) {
-        if let Instance::Source(source) = self {
-            let size = source.info().shape.bytes() as usize;
-            if let Some(memory) = spares.take(size) {
-                source.use_memory(memory);
-            }
-        }
-    }
 }
 
 impl<S: Source> Works for Instance<S> {
+    fn takes_memory(graph: &Graph, key: Key) -> bool {
+        takes_memory(graph, key)
+    }
+
+    fn memory_for(graph: &Graph, key: Key, spares: &mut Spares) -> FrameMemory {
+        memory_for(graph, key, spares)
+    }
+
+    fn make_plain(
+        alloc: Global,
+        memory: FrameMemory,
+        graph: &Graph,
+        key: Key,
+        inputs: &[Frame],
+    ) -> Result<Frame, WindowStop> {
+        filtered(alloc, memory, graph, key, inputs, None)
+    }
+
     fn make(
         &mut self,
         alloc: Global,
@@ -65,18 +69,36 @@ impl<S: Source> Works for Instance<S> {
     ) -> Result<Frame, WindowStop> {
         prove!(key.node < graph.len());
         match self {
-            Instance::Plain => {
-                let mut scratch = Scratch::new(alloc);
-                filtered(alloc, memory, graph, key, inputs, &mut scratch)
-            }
-            Instance::Scratch(scratch) => filtered(alloc, memory, graph, key, inputs, scratch),
-            Instance::Source(source) => read(source, key),
+            Instance::Plain => filtered(alloc, memory, graph, key, inputs, None),
+            Instance::Scratch(scratch) => filtered(
+                alloc,
+                memory,
+                graph,
+                key,
+                inputs,
+                Some(scratch),
+            ),
+            Instance::Source(source) => read(source, memory, key),
         }
     }
 }
 
-// The frame that a source reads.
-fn read<S: Source>(source: &mut SeqSource<S>, key: Key) -> Result<Frame, WindowStop>
+// Gives a source memory for its next frame, where there is some.
+fn lend_memory<S: Source>(source: &mut SeqSource<S>, memory: Option<Vec<u8>>)
+    ensures { source.new ≡ source.old }
+{
+    match memory {
+        Some(piece) => source.use_memory(piece),
+        None => {}
+    }
+}
+
+// The frame that a source reads, in `memory` where that is one piece with room for it.
+fn read<S: Source>(
+    source: &mut SeqSource<S>,
+    memory: FrameMemory,
+    key: Key,
+) -> Result<Frame, WindowStop>
     requires { key.n < source.old.index.info.frames }
     ensures frame { IfOk result (λ frame. ForSome (frames_of S.Source source.old) (λ frames.
         slice_get frames key.n ≡ Some frame)) }
@@ -87,11 +109,13 @@ fn read<S: Source>(source: &mut SeqSource<S>, key: Key) -> Result<Frame, WindowS
     ensures steady { (IsErrOf result (WindowStop.Read key.node) → ⊥) →
         IsSteady S.Source source.old.source source.new.source }
 {
-    // Called for what its contract says.
+    let FrameMemory { luma, u: _, v: _ } = memory;
+    lend_memory(source, luma);
+    // The index of a source is one of its bytes.
     source.info();
     match source.frame(key.n) {
         Ok(frame) => {
-            // Called for what its contract says.
+            // A frame is a whole picture.
             frame.shape();
             Ok(frame)
         }

@@ -1,34 +1,48 @@
-// Spare memory for the frames of filters.
-ghost use Rattle.std.specs.Prelude.{◌≡◌};
-ghost use Rattle.serve_events.specs.Keys.{IsKey};
+// Spare memory for the frames of nodes.
+ghost use Rattle.std.specs.Prelude.{◌<◌};
+ghost use Rattle.serve_machine.specs.Keys.{IsKey};
 
-use clip_frames::takes_memory;
+use crate::make::writes;
 use clip_graph::{Graph, Node};
+use clip_term::Op;
 use fv_plane::{FrameMemory, Key};
-use inst_table::Held;
-use serve_core::Core;
+use fv_spares::Spares;
 
-// Memory for a plane of a node's frames, if its filter takes some and there is some.
-fn plane_memory<I: Held>(core: &mut Core<I>, node: &Node, plane: u32) -> Option<Vec<u8>>
-    ensures { core.new ≡ core.old }
-{
-    if takes_memory(&node.op, plane) {
-        core.take_memory(node.info.shape, plane)
+// Memory for a plane of a node's frames, if its filter writes that plane and there is some.
+fn plane_memory(node: &Node, plane: u32, spares: &mut Spares) -> Option<Vec<u8>> {
+    if writes(&node.op, plane) {
+        spares.take_plane(node.info.shape, plane)
     } else {
         None
     }
 }
 
-/// Memory for the frame of a key, for the planes of which its filter writes the rows, as far as there is some.
-pub fn memory_for<I: Held>(core: &mut Core<I>, graph: &Graph, key: Key) -> FrameMemory
+/// Whether the frame of a key is written into memory: a source reads it into one piece, and a filter writes planes of it.
+pub(crate) fn takes_memory(graph: &Graph, key: Key) -> bool
     requires { IsKey graph.now key }
-    ensures { core.new ≡ core.old }
+{
+    prove!(key.node < graph.len());
+    let op = &graph.node(key.node).op;
+    matches!(op, Op::Source { .. }) || writes(op, 0) || writes(op, 1) || writes(op, 2)
+}
+
+/// Memory for the frame of a key, as far as there is some: one piece for a frame that a source reads, and else one for each
+/// plane that the filter writes.
+pub(crate) fn memory_for(graph: &Graph, key: Key, spares: &mut Spares) -> FrameMemory
+    requires { IsKey graph.now key }
 {
     prove!(key.node < graph.len());
     let node = graph.node(key.node);
+    if let Op::Source { info, .. } = &node.op {
+        return FrameMemory {
+            luma: spares.take(info.shape.bytes() as usize),
+            u: None,
+            v: None,
+        };
+    }
     FrameMemory {
-        luma: plane_memory(core, node, 0),
-        u: plane_memory(core, node, 1),
-        v: plane_memory(core, node, 2),
+        luma: plane_memory(node, 0, spares),
+        u: plane_memory(node, 1, spares),
+        v: plane_memory(node, 2, spares),
     }
 }

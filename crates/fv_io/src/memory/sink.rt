@@ -62,6 +62,7 @@ impl Sink for MemSink {
     fn put(&mut self, piece: &[u8]) -> Result<(), Failed>
         ensures put { OnOk result (Some self.new.bytes ≡ with_piece (Some self.old.bytes) piece.now) }
         ensures cut { OnErr result (GetsPrefix (Some self.old.bytes) (Some self.new.bytes) piece.now) }
+        ensures steady { OnOk result (self.new.faults ≡ self.old.faults) }
         ensures later { self.old.faults ≤ self.new.faults }
         ensures failed { OnErr result (HasRisen self.old.faults self.new.faults) }
 

@@ -1,6 +1,6 @@
 use Rattle.std.proofs.Common.{◌≡◌, length}
 use Rattle.avs_tree.specs.View.{expr_view}
-use Rattle.avs_place.specs.ExprMachine as x
+use Rattle.avs_tree.specs.ExprMachine as x
 use Rattle.avs_frames.specs.ExprViews.{frames_view}
 use Rattle.avs_frames.specs.Seen.{seen}
 use Rattle.avs_frames.proofs.expression.after.Given as goal

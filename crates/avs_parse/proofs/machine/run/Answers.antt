@@ -2,8 +2,8 @@ use Rattle.std.proofs.Common.{sym, ap, ◌∙◌, ◌<◌, length, arith}
 use Rattle.avs_lex.specs.TokenList.{IsTokenOf}
 use Rattle.avs_tree.specs.Lexeme.{lexemes}
 use Rattle.avs_tree.specs.View.{script_view}
-use Rattle.avs_place.specs.Nesting.{level_of}
-use Rattle.avs_place.specs.Place as p
+use Rattle.avs_tree.specs.Nesting.{level_of}
+use Rattle.avs_tree.specs.Place as p
 use Rattle.avs_parse.specs.ScriptViews.{state_view, step_view}
 use Rattle.avs_parse.proofs.TurnLemmas.{first_stuck, first_deep, first_whole, first_goes, after_is, each_after, is_few, is_many}
 use Rattle.avs_parse.proofs.machine.run.Goals as goal

@@ -1,7 +1,7 @@
 use Rattle.std.proofs.Common.{◌≡◌, length, All}
 use Rattle.avs_lex.specs.TokenList.{IsTokenOf}
 use Rattle.avs_tree.specs.Lexeme.{lexemes}
-use Rattle.avs_place.specs.Place as p
+use Rattle.avs_tree.specs.Place as p
 use Rattle.avs_parse.specs.ScriptViews.{state_view}
 use Rattle.avs_parse.proofs.machine.run.Given as goal
 

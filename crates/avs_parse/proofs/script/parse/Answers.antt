@@ -2,7 +2,7 @@
 use Rattle.std.proofs.Common.{sym}
 use Rattle.avs_tree.specs.Lexeme.{lexemes}
 use Rattle.avs_tree.specs.View.{script_view}
-use Rattle.avs_place.specs.Place.{StopsAt, DeepAt}
+use Rattle.avs_tree.specs.Place.{StopsAt, DeepAt}
 use Rattle.avs_parse.proofs.PlaceLemmas.{tree_of, deep_of, list_stop, stop_some, deep_some, stop_within, deep_within, numbered, no_tree_stop, no_tree_deep}
 use Rattle.avs_parse.proofs.script.parse.Goals as goal
 

@@ -1,7 +1,7 @@
 -- Window after window.
 use Rattle.std.proofs.Common.{◌≡◌, ◌∙◌, ◌<◌, ◌-◌, ◌+◌, min, sym, ap, subst, arith}
-use Rattle.serve_events.specs.Windows.{windows_of}
-use Rattle.serve_worker.proofs.Tables.{all_free}
+use Rattle.serve_machine.specs.Windows.{windows_of}
+use Rattle.serve_core.proofs.Tables.{all_free}
 use Rattle.prefetch.specs.Crew.{AreOfCrew}
 use Rattle.prefetch.specs.NextWindow.{MakesNext, NextShows}
 use Rattle.prefetch.specs.Windows.{frames_at}
@@ -21,10 +21,10 @@ loop-first-init g c =
     let core = c.args.core in
     record {
       inside = omega arith;
-      keeps = keeps_first g.I.Held.holds g.I.Held.feed g.I.Held.faults g.I.Held.ends core c.requires.between c.requires.unclaimed (all_free core.table c.requires.unlent);
-      crew = subst (λ ws. AreOfCrew core c.args.window 0 ws core) (sym c.requires.fresh) (none_crew core c.args.window c.requires.empty);
-      waits = subst (λ frames. Waits g.I.Held.holds g.I.Held.feed g.I.Held.faults g.I.Held.ends core g.K.Sink c.args.out.now c.args.out.now frames 0) (sym c.new-frames.ensures.items)
-          (none_waits g.I.Held.holds g.I.Held.feed g.I.Held.faults g.I.Held.ends core g.K.Sink c.args.out.now);
+      keeps = keeps_first g.I.Held core c.requires.rest.between c.requires.rest.unclaimed (all_free core.table c.requires.rest.unlent);
+      crew = subst (λ ws. AreOfCrew core c.args.window 0 ws core) (sym c.requires.fresh) (none_crew core c.args.window c.requires.rest.empty);
+      waits = subst (λ frames. Waits g.I.Held core g.K.Sink c.args.out.now c.args.out.now frames 0) (sym c.new-frames.ensures.items)
+          (none_waits g.I.Held core g.K.Sink c.args.out.now);
       later = omega arith;
     }
 
@@ -42,8 +42,8 @@ returns-in-Err-clause-stop g c =
     let total = total_is g (goal.at.returns-in-Err-clause-stop g c).After-node in
     let less : n < frames_at core.fixed.plan core.fixed.root = omega (arith, total, c.loop-first-test.true) in
     let is : count ≡ min c.args.window (frames_at core.fixed.plan core.fixed.root - n) = c.min-count.ensures ∙ ap (λ m. min c.args.window (m - n)) total in
-    let stop : NextShows g.I.Held.holds g.I.Held.feed g.I.Held.faults g.I.Held.ends before n count log longer after g.K.Sink c.loop-first.frames.items c.loop-first.out w.out c.in-Err.stop = rw c.in-Err.is at c.render_crew_window-left.ensures.stop in
-    next_stops core c.args.window g.I.Held.holds g.I.Held.feed g.I.Held.faults g.I.Held.ends g.K.Sink c.args.out.now c.loop-first.out w.out n count log longer before after i.crew less is i.keeps c.loop-first.frames.items i.waits i.later c.in-Err.stop stop
+    let stop : NextShows g.I.Held before n count log longer after g.K.Sink c.loop-first.frames.items c.loop-first.out w.out c.in-Err.stop = rw c.in-Err.is at c.render_crew_window-left.ensures.stop in
+    next_stops core c.args.window g.I.Held g.K.Sink c.args.out.now c.loop-first.out w.out n count log longer before after i.crew less is i.keeps c.loop-first.frames.items i.waits i.later c.in-Err.stop stop
 
 pub loop-first-preserved : goal.loop-first-preserved
 loop-first-preserved g c =
@@ -58,15 +58,15 @@ loop-first-preserved g c =
     let total = total_is g (goal.at.loop-first-preserved g c).After-node in
     let less : n < frames_at core.fixed.plan core.fixed.root = omega (arith, total, c.loop-first-test.true) in
     let is : count ≡ min c.args.window (frames_at core.fixed.plan core.fixed.root - n) = c.min-count.ensures ∙ ap (λ m. min c.args.window (m - n)) total in
-    let one : MakesNext g.I.Held.holds g.I.Held.feed g.I.Held.faults g.I.Held.ends before n count log (windows_of w.journal) after g.K.Sink c.loop-first.frames.items c.loop-first.out w.out c.in-Ok.next.items
+    let one : MakesNext g.I.Held before n count log (windows_of w.journal) after g.K.Sink c.loop-first.frames.items c.loop-first.out w.out c.in-Ok.next.items
     = rw c.in-Ok.is at c.render_crew_window-left.ensures.ok in
-    let put = put_waiting g.I.Held.holds g.I.Held.feed g.I.Held.faults g.I.Held.ends core g.K.Sink c.args.out.now c.loop-first.out w.out c.loop-first.frames.items n i.waits one.put in
+    let put = put_waiting g.I.Held core g.K.Sink c.args.out.now c.loop-first.out w.out c.loop-first.frames.items n i.waits one.put in
     record {
       inside = omega (arith, total, less, is);
-      keeps = keeps_on g.I.Held.holds g.I.Held.feed g.I.Held.faults g.I.Held.ends core before after i.keeps one.adds.delivered.keeps;
+      keeps = keeps_on g.I.Held core before after i.keeps one.adds.delivered.keeps;
       crew = subst (λ ws. AreOfCrew core c.args.window (n + count) ws after) (sym one.adds.log_is) (more_crew core c.args.window g.I.Held.holds n log before i.crew count less is i.keeps.stays one.finished.events.items after one.adds.whole);
-      waits = subst (λ frames. Waits g.I.Held.holds g.I.Held.feed g.I.Held.faults g.I.Held.ends core g.K.Sink c.args.out.now w.out frames (n + count)) (sym one.frames_are)
-          (more_waits g.I.Held.holds g.I.Held.feed g.I.Held.faults g.I.Held.ends core g.K.Sink c.args.out.now w.out w.out before after n count i.keeps one.finished one.adds.delivered put);
+      waits = subst (λ frames. Waits g.I.Held core g.K.Sink c.args.out.now w.out frames (n + count)) (sym one.frames_are)
+          (more_waits g.I.Held core g.K.Sink c.args.out.now w.out w.out before after n count i.keeps one.finished one.adds.delivered put);
       later = omega (arith, i.later, c.render_crew_window-left.ensures.later);
     }
 
@@ -78,8 +78,8 @@ returns-in-Ok-put_frames-clause-ok g c =
     let log = windows_of c.loop-first.journal in
     let total = total_is g (goal.at.returns-in-Ok-put_frames-clause-ok g c).After-node in
     let all : n ≡ frames_at core.fixed.plan core.fixed.root = omega (arith, total, i.inside, c.loop-first-test.false) in
-    let put = put_waiting g.I.Held.holds g.I.Held.feed g.I.Held.faults g.I.Held.ends core g.K.Sink c.args.out.now c.loop-first.out c.put_frames.new.out c.loop-first.frames.items n i.waits (rw c.deref-2.ensures.value at c.in-Ok-put_frames.ensures.put) in
-    renders_all g.I.Held.holds g.I.Held.feed g.I.Held.faults g.I.Held.ends core g.K.Sink c.args.out.now c.put_frames.new.out c.loop-first.core n log all i.keeps put (subst (IsFirstOf core c.args.window log) all (first_crew core c.args.window n log c.loop-first.core i.crew))
+    let put = put_waiting g.I.Held core g.K.Sink c.args.out.now c.loop-first.out c.put_frames.new.out c.loop-first.frames.items n i.waits (rw c.deref-2.ensures.value at c.in-Ok-put_frames.ensures.put) in
+    renders_all g.I.Held core g.K.Sink c.args.out.now c.put_frames.new.out c.loop-first.core n log all i.keeps put (subst (IsFirstOf core c.args.window log) all (first_crew core c.args.window n log c.loop-first.core i.crew))
 
 pub returns-clause-stop : goal.returns-clause-stop
 returns-clause-stop g c =
@@ -89,5 +89,5 @@ returns-clause-stop g c =
     let log = windows_of c.loop-first.journal in
     let total = total_is g (goal.at.returns-clause-stop g c).After-node in
     let put = c.in-Err-put_frames.ensures in
-    waiting_fails g.I.Held.holds g.I.Held.feed g.I.Held.faults g.I.Held.ends core g.K.Sink c.args.out.now c.loop-first.out c.put_frames.new.out c.loop-first.frames.items n i.waits log c.loop-first.core n (omega arith) (omega (arith, total, i.inside)) i.keeps.stays i.later
+    waiting_fails g.I.Held core g.K.Sink c.args.out.now c.loop-first.out c.put_frames.new.out c.loop-first.frames.items n i.waits log c.loop-first.core n (omega arith) (omega (arith, total, i.inside)) i.keeps.stays i.later
     put.failed (rw c.deref-2.ensures.value at put.cut) (first_crew core c.args.window n log c.loop-first.core i.crew)

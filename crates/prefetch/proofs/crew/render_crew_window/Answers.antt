@@ -3,8 +3,8 @@ use Rattle.std.proofs.Common.{◌≡◌, ◌∙◌, ap, map, inl, inr, Option, S
 use Rattle.std.specs.Option.{is_some}
 use Rattle.std.specs.Result.{is_err}
 use Rattle.fv_io.specs.declared.source.Failed.{Failed}
-use Rattle.serve_events.specs.Windows.{windows_of, window_of}
-use Rattle.serve_events.specs.declared.event.WindowStop.{WindowStop}
+use Rattle.serve_machine.specs.Windows.{windows_of, window_of}
+use Rattle.serve_machine.specs.declared.event.WindowStop.{WindowStop}
 use Rattle.prefetch.specs.Crew.{IsCrewWindow, IsCutCrew}
 use Rattle.prefetch.specs.OneWindow.{with_window, PutsFrames, AddsWindow}
 use Rattle.prefetch.proofs.PutLemmas.{puts_not}
@@ -25,18 +25,18 @@ log_is : (g : Over) (c : After-keep_events g) → windows_of c.keep_events.new.j
 log_is g c = c.keep_events.ensures ∙ ap (λ items. with_window (map window_of items) c.args.first c.args.count c.in-Ok-ended.finished.events.items) c.reserve.ensures.items
 
 adds : (g : Over) (c : After-keep_events g) → c.in-Ok-ended.finished.stop ≡ None
-    → AddsWindow g.I.Held.holds g.I.Held.feed g.I.Held.faults g.I.Held.ends c.args.core (IsCrewWindow c.args.core c.args.first c.args.count) (IsCutCrew c.args.core c.args.first c.args.count) c.args.first c.args.count
+    → AddsWindow g.I.Held c.args.core (IsCrewWindow c.args.core c.args.first c.args.count) (IsCutCrew c.args.core c.args.first c.args.count) c.args.first c.args.count
     (windows_of c.args.journal.now) (windows_of c.keep_events.new.journal) c.run_crew_window-core.result.0 c.in-Ok-ended.finished
 adds g c none =
     let core = c.args.core in
-    adds_window g.I.Held.holds g.I.Held.feed g.I.Held.faults g.I.Held.ends core (IsCrewWindow core c.args.first c.args.count) (IsCutCrew core c.args.first c.args.count) c.args.first c.args.count c.run_crew_window-core.result.0 c.in-Ok-ended.finished (rw c.in-Ok-ended.is at c.run_crew_window-core.ensures.ends)
+    adds_window g.I.Held core (IsCrewWindow core c.args.first c.args.count) (IsCutCrew core c.args.first c.args.count) c.args.first c.args.count c.run_crew_window-core.result.0 c.in-Ok-ended.finished (rw c.in-Ok-ended.is at c.run_crew_window-core.ensures.ends)
     (windows_of c.args.journal.now) (windows_of c.keep_events.new.journal) (log_is g c) none
 
 pub returns-then-is_some-clause-stop : goal.returns-then-is_some-clause-stop
 returns-then-is_some-clause-stop g c =
     let core = c.args.core in
     let not = puts_not g.K.Sink c.args.out.now c.run_crew_window-core.new.out c.args.frames.items c.run_crew_window-core.result.2 c.if-is_err.ensures.value c.run_crew_window-core.ensures.put in
-    let early = ends_early g.I.Held.holds g.I.Held.feed g.I.Held.faults g.I.Held.ends core (IsCrewWindow core c.args.first c.args.count) (IsCutCrew core c.args.first c.args.count) c.args.first c.args.count c.run_crew_window-core.result.0
+    let early = ends_early g.I.Held core (IsCrewWindow core c.args.first c.args.count) (IsCutCrew core c.args.first c.args.count) c.args.first c.args.count c.run_crew_window-core.result.0
     c.in-Ok-ended.finished (rw c.in-Ok-ended.is at c.run_crew_window-core.ensures.ends) c.if-is_some.ensures in
     record { failed = not.0; cut = not.1; window = inr (ap (map window_of) c.reserve.ensures.items, inr early) }
 

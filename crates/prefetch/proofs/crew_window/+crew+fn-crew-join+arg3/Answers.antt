@@ -12,7 +12,7 @@ use Rattle.std.specs.contracts.impls.GlobalAllocator.TheImpl as global_impl
 use Rattle.clip_graph.specs.contracts.graph.Graph as graph
 use Rattle.serve_core.specs.contracts.state.Core as core
 use Rattle.serve_core.specs.contracts.booked.CoreBooked.TheImpl as booked
-use Rattle.serve_events.specs.contracts.event.Event as event
+use Rattle.serve_machine.specs.contracts.event.Event as event
 use Rattle.turn_lock.specs.contracts.seat.LockSeat as seat_row
 use Rattle.turn_lock.specs.contracts.turn_lock.TurnLock as lock_row
 use Rattle.turn_lock.proofs.seat.LockSeat.TheSendSync as seat

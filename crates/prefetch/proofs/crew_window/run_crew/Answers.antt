@@ -28,4 +28,4 @@ close-requires-clause-all g c = all_numbers c.args.core.fixed.plan c.in-Ok-new.l
 pub returns-in-Ok-new-clause-worked : goal.returns-in-Ok-new-clause-worked
 returns-in-Ok-new-clause-worked g c =
     let e = c.close.ensures in
-    closed_done g.I.Held.feed g.I.Held.faults g.I.Held.ends c.in-Ok-new.lock (c.args.workers + 1) c.args.core c.close.result (vec_len c.in-Ok-shares_of.shares) c.crew-seat.result.0 (gathered g (goal.at.returns-in-Ok-new-clause-worked g c).After-crew-seat) e.ended_seen e.ended e.own e.others e.stands
+    closed_done g.I.Held c.in-Ok-new.lock (c.args.workers + 1) c.args.core c.close.result (vec_len c.in-Ok-shares_of.shares) c.crew-seat.result.0 (gathered g (goal.at.returns-in-Ok-new-clause-worked g c).After-crew-seat) e.ended_seen e.ended e.own e.others e.stands

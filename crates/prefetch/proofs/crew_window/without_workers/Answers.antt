@@ -3,4 +3,4 @@ use Rattle.prefetch.proofs.CrewLemmas.{without_workers}
 use Rattle.prefetch.proofs.crew_window.without_workers.Goals as goal
 
 pub returns : goal.returns
-returns g c = record { worked = without_workers g.I.Held.feed g.I.Held.faults g.I.Held.ends c.args.core c.fail.new.self c.requires.fresh c.fail.ensures }
+returns g c = record { worked = without_workers g.I.Held c.args.core c.fail.new.self c.requires.fresh c.fail.ensures }

@@ -1,6 +1,6 @@
 -- The window that ended.
 use Rattle.std.proofs.Common.{◌≡◌, ◌∙◌, ap, map, refl}
-use Rattle.serve_events.specs.Windows.{windows_of, window_of}
+use Rattle.serve_machine.specs.Windows.{windows_of, window_of}
 use Rattle.prefetch.specs.OneWindow.{with_window}
 use Rattle.prefetch.specs.SerialWindows.{IsSerialWindow, IsCutSerial}
 use Rattle.prefetch.proofs.RenderLemmas.{adds_window, cuts_window}
@@ -18,8 +18,8 @@ returns-in-None-clause-ok g c =
     let core = c.args.core.now in
     record {
       finished = c.in-Ok-run_window.finished;
-      adds = adds_window g.I.Held.holds g.I.Held.feed g.I.Held.faults g.I.Held.ends core (IsSerialWindow core c.args.n 1) (IsCutSerial core) c.args.n 1 c.run_window.new.core c.in-Ok-run_window.finished
-          (serial_ends g.I.Held.holds g.I.Held.feed g.I.Held.faults g.I.Held.ends core c.run_window.new.core c.args.n 1 c.in-Ok-run_window.finished c.in-Ok-run_window.finished.stop c.in-Ok-run_window.ensures.ends)
+      adds = adds_window g.I.Held core (IsSerialWindow core c.args.n 1) (IsCutSerial core) c.args.n 1 c.run_window.new.core c.in-Ok-run_window.finished
+          (serial_ends g.I.Held core c.run_window.new.core c.args.n 1 c.in-Ok-run_window.finished c.in-Ok-run_window.finished.stop c.in-Ok-run_window.ensures.ends)
           (windows_of c.args.journal.now) (windows_of c.keep_events.new.journal) (log_is g at.After-keep_events) c.in-None.is;
       frames_are = refl;
     }
@@ -28,6 +28,6 @@ pub returns-in-Some-clause-stop : goal.returns-in-Some-clause-stop
 returns-in-Some-clause-stop g c =
     let at = goal.at.returns-in-Some-clause-stop g c in
     let core = c.args.core.now in
-    cuts_window g.I.Held.holds g.I.Held.feed g.I.Held.faults g.I.Held.ends core (IsSerialWindow core c.args.n 1) (IsCutSerial core) c.args.n 1 c.run_window.new.core c.in-Ok-run_window.finished
-    (serial_ends g.I.Held.holds g.I.Held.feed g.I.Held.faults g.I.Held.ends core c.run_window.new.core c.args.n 1 c.in-Ok-run_window.finished c.in-Ok-run_window.finished.stop c.in-Ok-run_window.ensures.ends)
+    cuts_window g.I.Held core (IsSerialWindow core c.args.n 1) (IsCutSerial core) c.args.n 1 c.run_window.new.core c.in-Ok-run_window.finished
+    (serial_ends g.I.Held core c.run_window.new.core c.args.n 1 c.in-Ok-run_window.finished c.in-Ok-run_window.finished.stop c.in-Ok-run_window.ensures.ends)
     (windows_of c.args.journal.now) (windows_of c.keep_events.new.journal) (log_is g at.After-keep_events) c.in-Some.stop c.in-Some.is

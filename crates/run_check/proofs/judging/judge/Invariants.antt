@@ -1,9 +1,9 @@
 use Rattle.std.proofs.Common.{◌≡◌, ℕ, ◌+◌, ◌≤◌, List, length}
 use Rattle.clip_graph.specs.Plan.{Application}
 use Rattle.run_text.specs.declared.line.Line.{Line}
-use Rattle.run_law.specs.Progress.{Progress, unread}
-use Rattle.run_law.proofs.JudgeLemmas.{Consumed}
-use Rattle.run_state.specs.Stages.{StandsFor}
+use Rattle.run_text.specs.Progress.{Progress, unread}
+use Rattle.run_text.proofs.JudgeLemmas.{Consumed}
+use Rattle.run_check.specs.Stages.{StandsFor}
 use Rattle.run_check.proofs.judging.judge.Given as goal
 
 -- these lines were read

@@ -1,6 +1,6 @@
 use Rattle.std.proofs.Common.{true, false, sym, ◌∙◌, subst, arith}
-use Rattle.run_law.specs.Progress.{next}
-use Rattle.run_state.specs.Stages.{Goes, StandsFor}
+use Rattle.run_text.specs.Progress.{next}
+use Rattle.run_check.specs.Stages.{Goes, StandsFor}
 use Rattle.run_check.proofs.StepLemmas.{cut_at, no_end, no_line, one_line}
 use Rattle.run_check.proofs.judging.step.Goals as goal
 

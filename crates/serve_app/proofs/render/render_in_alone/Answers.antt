@@ -1,7 +1,7 @@
 -- What is put is the clip that the script means.
 use Rattle.std.proofs.Common.{◌∙◌, arith}
 use Rattle.serve_worker.specs.Instances.{faults_of}
-use Rattle.serve_stream.specs.declared.staff.Staff.TheVariants.{One}
+use Rattle.prefetch.specs.declared.staff.Staff.TheVariants.{One}
 use Rattle.serve_app.specs.Journals.{AreHands}
 use Rattle.serve_app.proofs.ClosingLemmas.{count_rose}
 use Rattle.serve_app.proofs.PlayLemmas.{fit, script_render}

@@ -13,7 +13,7 @@ decreases-produce g l = 2 * l.key.node + 1
 abbrev pub invariant-gather-loop-input : goal.invariant-gather-loop-input
 invariant-gather-loop-input g l = record {
   inside : l.i ≤ length (input_keys l.worker.plan l.key);
-  gathered : Gathered g.I.Held.feed g.I.Held.faults l.worker l.fn.seat (take l.i (input_keys l.worker.plan l.key)) l.frames.items l.seat;
+  gathered : Gathered g.I.Held l.worker l.fn.seat (take l.i (input_keys l.worker.plan l.key)) l.frames.items l.seat;
 }
 
 abbrev pub decreases-gather-loop-input : goal.decreases-gather-loop-input

@@ -1,6 +1,6 @@
 use Rattle.std.proofs.Common.{◌≤◌, ◌-◌, length}
 use Rattle.fv_io.specs.Sink.{IsLater}
-use Rattle.serve_events.specs.Windows.{windows_of}
+use Rattle.serve_machine.specs.Windows.{windows_of}
 use Rattle.serve_text.specs.ReportLines.{lines_between, PutsUpTo}
 use Rattle.serve_text.specs.Report.{report}
 use Rattle.serve_text.proofs.lines.put_report.Given as goal

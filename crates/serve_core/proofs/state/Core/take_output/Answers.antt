@@ -2,7 +2,7 @@ use Rattle.std.proofs.Common.{◌≡◌, ◌≢◌, ◌+◌, ◌-◌, ◌<◌, �
 use Rattle.std.specs.Vec.{vec_len, vec_capacity}
 use Rattle.frame_cache.proofs.CallerLemmas.{absent}
 use Rattle.serve_core.specs.CoreValue.{CoreValue}
-use Rattle.serve_events.specs.declared.event.Event.TheVariants.{Take}
+use Rattle.serve_machine.specs.declared.event.Event.TheVariants.{Take}
 use Rattle.serve_core.proofs.Keeping.{took_kept, next_undelivered}
 use Rattle.serve_core.proofs.state.Core.take_output.Goals as goal
 

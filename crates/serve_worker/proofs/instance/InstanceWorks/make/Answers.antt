@@ -2,7 +2,7 @@
 use Rattle.std.proofs.Common.{◌≡◌, Some, sym, ap, ◌∙◌, subst, arith, IfOk}
 use Rattle.serve_core.specs.Sources.{opened_at}
 use Rattle.serve_worker.specs.Instances.{feed_of, holds_of}
-use Rattle.serve_worker.specs.Works.{IsMade}
+use Rattle.serve_core.specs.Works.{IsMade}
 use Rattle.serve_worker.proofs.Reading.{made_with, of_source, made_of_source}
 use Rattle.serve_worker.proofs.instance.InstanceWorks.make.Goals as goal
 

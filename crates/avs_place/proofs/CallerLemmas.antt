@@ -1,6 +1,0 @@
--- What the proofs of other crates cite of the lemmas on the machine.
-pub use Rattle.avs_place.proofs.OneToken.{same_advance}
-pub use Rattle.avs_place.proofs.Places.{exact, accepted}
-pub use Rattle.avs_place.proofs.OnePlace.{one_stop, one_deep, never_both}
-pub use Rattle.avs_place.proofs.OneTree.{one_tree}
-pub use Rattle.avs_place.proofs.Ends.{end_is_told}

@@ -1,5 +1,0 @@
-use Rattle.avs_place.proofs.OneToken.{same_advance}
-use Rattle.avs_place.proofs.laws.one_token.Goals as goal
-
-pub returns : goal.returns
-returns c = λ state token ts us. same_advance token ts us state

@@ -1,5 +1,0 @@
-use Rattle.avs_place.proofs.OneTree.{one_tree}
-use Rattle.avs_place.proofs.laws.one_tree.Goals as goal
-
-pub returns : goal.returns
-returns c = one_tree

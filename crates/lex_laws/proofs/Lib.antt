@@ -1,0 +1,10 @@
+pub mod SameLemmas
+pub mod FillingLemmas
+pub mod GapLemmas
+pub mod FaultLemmas
+pub mod FaultBeginsLemmas
+pub mod AgreeLemmas
+pub mod EndLineLemmas
+pub mod NewlineLemmas
+pub mod CaseLemmas
+pub mod CaseReadLemmas

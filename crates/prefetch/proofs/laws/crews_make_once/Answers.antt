@@ -1,5 +1,0 @@
-use Rattle.prefetch.proofs.OnceLemmas.{crews_make_once}
-use Rattle.prefetch.proofs.laws.crews_make_once.Goals as goal
-
-pub returns : goal.returns
-returns c = crews_make_once

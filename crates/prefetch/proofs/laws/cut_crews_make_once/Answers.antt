@@ -1,5 +1,0 @@
-use Rattle.prefetch.proofs.OnceLemmas.{cut_crews_make_once}
-use Rattle.prefetch.proofs.laws.cut_crews_make_once.Goals as goal
-
-pub returns : goal.returns
-returns c = cut_crews_make_once

@@ -1,0 +1,49 @@
+use Rattle.std.proofs.Common.{rules}
+use Rattle.serve_machine.specs.Windows.{windows_of}
+use Rattle.serve_worker.specs.Instances.{holds_of}
+use Rattle.serve_core.proofs.Tables.{all_free}
+use Rattle.prefetch.specs.Windows.{Stays}
+use Rattle.prefetch.proofs.CoreRenders.{stays_by, steady_by, named_by}
+use Rattle.prefetch.proofs.StreamLemmas.{streamed, streamed_headless}
+use Rattle.prefetch.proofs.stream.put_clip_alone.Goals as goal
+use Rattle.prefetch.proofs.stream.put_clip_alone.Given.{Over}
+use Rattle.prefetch.proofs.stream.put_clip_alone.Goals.{After-whole_of-whole}
+
+pub returns-in-Err-clause-streamed : goal.returns-in-Err-clause-streamed
+returns-in-Err-clause-streamed g c =
+    streamed_headless g.S.Source g.K.Sink c.args.core c.args.window c.node.result.now.info c.args.out.now c.put_head.new.out c.in-Err.stop c.args.journal.now
+    (search rules) c.in-Err.ensures.stop c.requires.none
+
+pub returns-in-Err-clause-free : goal.returns-in-Err-clause-free
+returns-in-Err-clause-free g c = all_free c.args.core.table c.requires.unlent
+
+pub whole_of-whole-requires : goal.whole_of-whole-requires
+whole_of-whole-requires g c = record {
+  named = named_by g.S.Source c.args.core g.K.Sink c.put_head.new.out c.render_alone-core.new.out c.args.window (windows_of c.render_alone-core.new.journal) c.render_alone-core.result.0
+      c.render_alone-core.result.1 c.render_alone-core.ensures.stop;
+}
+
+pub returns-clause-streamed : goal.returns-clause-streamed
+returns-clause-streamed g c =
+    streamed g.S.Source g.K.Sink c.args.core c.args.window c.node.result.now.info c.args.out.now c.put_head.new.out c.render_alone-core.new.out c.render_alone-core.new.journal
+    c.render_alone-core.result.0 c.render_alone-core.result.1 c.args.kept c.whole_of-whole.result c.requires.some c.requires.stands (search rules) c.in-Ok.ensures.put
+    c.put_head.ensures.later c.requires.kept c.render_alone-core.ensures.ok c.render_alone-core.ensures.stop c.whole_of-whole.ensures
+
+stays : (g : Over) (c : After-whole_of-whole g) → Stays holds_of c.args.core c.render_alone-core.result.0
+stays g c =
+    stays_by g.S.Source c.args.core g.K.Sink c.put_head.new.out c.render_alone-core.new.out c.args.window (windows_of c.render_alone-core.new.journal) c.render_alone-core.result.0
+    c.render_alone-core.result.1 c.render_alone-core.ensures.ok c.render_alone-core.ensures.stop
+
+pub returns-clause-free : goal.returns-clause-free
+returns-clause-free g c = let kept = stays g c in kept.free
+
+pub returns-clause-held : goal.returns-clause-held
+returns-clause-held g c = let kept = stays g c in kept.held
+
+pub returns-clause-unclaimed : goal.returns-clause-unclaimed
+returns-clause-unclaimed g c = let kept = stays g c in kept.unclaimed
+
+pub returns-clause-steady : goal.returns-clause-steady
+returns-clause-steady g c =
+    steady_by g.S.Source c.args.core g.K.Sink c.put_head.new.out c.render_alone-core.new.out c.args.window (windows_of c.render_alone-core.new.journal) c.render_alone-core.result.0
+    c.render_alone-core.result.1 c.render_alone-core.result.0.fixed.plan c.render_alone-core.result.0.fixed.workers c.node.result.now.info.frames c.args.kept c.whole_of-whole.result c.render_alone-core.ensures.ok c.whole_of-whole.ensures

@@ -1,0 +1,9 @@
+pub mod Worlds
+pub mod SmallStreams
+pub mod StreamRows
+pub mod TokenRows
+pub mod PlaceRows
+pub mod ValueRows
+pub mod ModeRows
+pub mod FieldRows
+pub mod DeepRows

@@ -1,5 +1,0 @@
-pub mod LineLemmas
-pub mod ProgressLemmas
-pub mod JudgeLemmas
-pub mod ExampleLemmas
-pub mod PlaceLemmas

@@ -1,5 +1,0 @@
-pub mod Tallies
-pub mod Claims
-pub mod Mirrors
-pub mod Leases
-pub mod Stages

@@ -1,0 +1,4 @@
+pub mod KeyLemmas
+pub mod Going
+pub mod Producing
+pub mod Serving

@@ -1,4 +1,0 @@
-pub mod KeyLemmas
-pub mod OwnLemmas
-pub mod SerialLemmas
-pub mod WorkLemmas

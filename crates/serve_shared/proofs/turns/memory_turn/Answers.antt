@@ -1,0 +1,24 @@
+use Rattle.serve_shared.proofs.TurnLemmas.{in_turn, stands_left, adds_left, left_turn}
+use Rattle.serve_shared.proofs.TurnCases.{nothing_some, nothing_ends}
+use Rattle.serve_shared.proofs.turns.memory_turn.Goals as goal
+
+pub leave-seat-requires-clause-stands : goal.leave-seat-requires-clause-stands
+leave-seat-requires-clause-stands g c =
+    let core = c.enter-core.result.0 in
+    let t = in_turn g.I.Held c.args.worker.now c.args.seat core c.requires.work.sits c.enter-core.ensures.stands c.account.ensures c.enter-core.ensures.own c.enter-core.ensures.seen in
+    stands_left g.I.Held c.args.worker.now c.args.seat core t c.enter-core.result.1 c.enter-core.ensures.turn c.memory_for-memory.new.self
+    (nothing_some g.I.Held c.args.worker.now c.args.seat core t c.memory_for-memory.new.self c.memory_for-memory.ensures)
+
+pub leave-seat-requires-clause-added : goal.leave-seat-requires-clause-added
+leave-seat-requires-clause-added g c =
+    let core = c.enter-core.result.0 in
+    let t = in_turn g.I.Held c.args.worker.now c.args.seat core c.requires.work.sits c.enter-core.ensures.stands c.account.ensures c.enter-core.ensures.own c.enter-core.ensures.seen in
+    adds_left g.I.Held c.args.worker.now c.args.seat core t c.enter-core.result.1 c.enter-core.ensures.turn c.memory_for-memory.new.self
+    (nothing_some g.I.Held c.args.worker.now c.args.seat core t c.memory_for-memory.new.self c.memory_for-memory.ensures)
+
+pub returns : goal.returns
+returns g c =
+    let core = c.enter-core.result.0 in
+    let t = in_turn g.I.Held c.args.worker.now c.args.seat core c.requires.work.sits c.enter-core.ensures.stands c.account.ensures c.enter-core.ensures.own c.enter-core.ensures.seen in
+    nothing_ends g.I.Held c.args.worker.now c.args.seat core t c.memory_for-memory.new.self c.leave-seat.result c.memory_for-memory.ensures
+    (left_turn g.I.Held c.args.worker.now c.args.seat core t c.memory_for-memory.new.self c.enter-core.result.1 c.leave-seat.result c.enter-core.ensures.turn c.leave-seat.ensures.seat c.leave-seat.ensures.own)
