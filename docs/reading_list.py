@@ -3,7 +3,7 @@
 
     docs/reading_list.py [--check]
 
-It begins at `Ends` of serve_app, the clause of the top call, and follows each word of a definition to the definition that the
+It begins at `Ends` and `LeavesJournal` of serve_app, the clauses of the top call, and follows each word of a definition to the definition that the
 file's imports, or the file itself, give it. Definitions of std and of the prover's library aren't among them, nor types of the
 code, which have their place in `src/`. With --check nothing is written: the status is 1 where the table is another.
 """
@@ -14,7 +14,7 @@ import sys
 
 ROOT = os.path.dirname(os.path.dirname(os.path.abspath(__file__)))
 PAGE = os.path.join(ROOT, "docs", "proved.md")
-START = ("serve_app", "Headline", "Ends")
+START = [("serve_app", "Headline", "Ends"), ("serve_app", "Headline", "LeavesJournal")]
 FIRST = "| Crate | Files of `specs/`, and how many definitions of each |"
 HEAD = re.compile(r"\s*(?:pub )?(?:(?:abbrev|unfoldable) (?:pub )?([^\s:]+) ?:|(?:record|data) ([^\s:({]+))")
 OF_MUTUAL = re.compile(r"\s+pub ([^\s:]+) :")
@@ -77,7 +77,7 @@ class Specs:
                 yield other
 
     def closure(self, start):
-        seen, todo = set(), [start]
+        seen, todo = set(), list(start)
         while todo:
             key = todo.pop()
             if key not in seen:

@@ -20,7 +20,7 @@ LAYERS = [
     ("frames and streams", "fv_rows fv_spares y4m_stream seq_source fv_session"),
     ("scripts as trees", "avs_lex lex_laws avs_values"),
     ("clips and filters", "clip_term mt_modes clip_reference"),
-    ("what scripts mean", "avs_meaning row_laws avs_state"),
+    ("what scripts mean", "avs_meaning row_laws meaning_laws avs_state"),
     ("the core", "frame_cache serve_machine turn_lock serve_core"),
     ("workers and windows", "serve_alone run_text"),
     ("the program", "serve_text prefetch serve_replay serve_app avsserve fv_real"),

@@ -1,21 +1,19 @@
 // `BlankClip`: its arguments, their refusals, and the clip that they make.
-ghost use Rattle.std.specs.Prelude.{◌≡◌, ◌≤◌, IsTrue, true, option_map, OnOk};
+ghost use Rattle.std.specs.Prelude.{◌≡◌, ◌≤◌, IsTrue, true, option_map};
 ghost use Rattle.fv_plane.specs.Format.{has_depth};
 ghost use Rattle.fv_plane.specs.Refusals.{first_fault};
 ghost use Rattle.fv_plane.specs.Info.{IsPar};
 ghost use Rattle.clip_term.specs.Blank as b;
 ghost use Rattle.avs_meaning.specs.Arguments.{all_fit_filters};
 ghost use Rattle.avs_meaning.specs.Filters as f;
-ghost use Rattle.avs_state.specs.Answers.{Gives};
-ghost use Rattle.avs_state.specs.Sources.{sources_of};
-ghost use Rattle.avs_state.specs.States.{state_of, AsksNothing};
+ghost use Rattle.avs_state.specs.Walks.{Runs};
 ghost use Rattle.avs_calls.specs.Views.{args_view, text_given};
 
 use crate::arguments::{number_at, text_at};
 use avs_meaning::{EvalError, ScriptKind};
-use avs_state::{Machine, fault_at};
+use avs_state::{At, Machine, fault_at};
 use avs_values::Value;
-use clip_term::{BLACK, Filter, FilterFault, Op, colour_of, no_colour};
+use clip_term::{BLACK, Filter, FilterFault, Op, colour_of, is_colour};
 use fv_io::Text;
 use fv_plane::{Field, Format, Info, Par, PixelType, Shape, Tag, format_named};
 use std::alloc::Global;
@@ -97,7 +95,7 @@ fn refusal(base: &Info, args: &BlankArgs<'_>) -> Option<FilterFault>
         return Some(FilterFault::BadText);
     }
     let wrong_rate = is_below_one(args.fps) || is_below_one(args.fps_denominator);
-    if wrong_rate || no_colour(colour_given(args)) {
+    if wrong_rate || !is_colour(colour_given(args)) {
         return Some(FilterFault::BadRange);
     }
     None
@@ -174,19 +172,15 @@ fn blank_like(
     machine: &mut Machine,
     base: &Info,
     args: &BlankArgs<'_>,
-    script_name: &Text,
-    line: u32,
+    at: At<'_>,
 ) -> Result<Value, EvalError>
     requires par { IsPar base.now.par }
     requires depth { has_depth base.now.shape.kind base.now.shape.bits ≡ true }
-    ensures gives { Gives (λ x. x) (f.blank_like script_name.now base.now (args_view args.now) line (state_of
-        machine.old))
-        result (state_of machine.new) }
-    ensures asks { AsksNothing machine.old machine.new }
-    ensures sources { OnOk result (sources_of (state_of machine.new).plan ≡ sources_of (state_of machine.old).plan) }
+    ensures { Runs (λ x. x) (f.blank_like at.entry.name.now base.now (args_view args.now) at.entry.line)
+        machine.old result machine.new }
 {
     if let Some(fault) = refusal(base, args) {
-        return Err(fault_at(alloc, ScriptKind::Filter(fault), script_name, line));
+        return Err(fault_at(alloc, ScriptKind::Filter(fault), at));
     }
     let info = blank_info(base, args);
     let colour = colour_of(colour_given(args));
@@ -195,8 +189,7 @@ fn blank_like(
         Filter::BlankClip,
         Op::Blank { info, colour },
         &[],
-        script_name,
-        line,
+        at,
     )
 }
 
@@ -206,20 +199,17 @@ fn blank_of(
     machine: &mut Machine,
     clip: Option<&Value>,
     args: &BlankArgs<'_>,
-    script_name: &Text,
-    line: u32,
+    at: At<'_>,
 ) -> Result<Value, EvalError>
-    ensures gives { Gives (λ x. x) (f.blank_of script_name.now (option_map (λ value. value.now) clip.entry) (args_view
-        args.now) line (state_of machine.old)) result (state_of machine.new) }
-    ensures asks { AsksNothing machine.old machine.new }
-    ensures sources { OnOk result (sources_of (state_of machine.new).plan ≡ sources_of (state_of machine.old).plan) }
+    ensures { Runs (λ x. x) (f.blank_of at.entry.name.now (option_map (λ value. value.now) clip.entry)
+        (args_view args.now) at.entry.line) machine.old result machine.new }
 {
     match clip {
         Some(Value::Clip(i)) => {
-            let info = machine.info_of(alloc, *i, script_name, line)?;
-            blank_like(alloc, machine, &info, args, script_name, line)
+            let info = machine.info_of(alloc, *i, at)?;
+            blank_like(alloc, machine, &info, args, at)
         }
-        _ => blank_like(alloc, machine, &default_clip(), args, script_name, line),
+        _ => blank_like(alloc, machine, &default_clip(), args, at),
     }
 }
 
@@ -230,19 +220,16 @@ pub(crate) fn blank(
     machine: &mut Machine,
     signature: usize,
     values: &[Value],
-    script_name: &Text,
-    line: u32,
+    at: At<'_>,
 ) -> Result<Value, EvalError>
     requires fit { IsTrue (all_fit_filters values.now) }
-    ensures gives { Gives (λ x. x) (f.blank script_name.now signature values.now line (state_of machine.old)) result
-        (state_of machine.new) }
-    ensures asks { AsksNothing machine.old machine.new }
-    ensures sources { OnOk result (sources_of (state_of machine.new).plan ≡ sources_of (state_of machine.old).plan) }
+    ensures { Runs (λ x. x) (f.blank at.entry.name.now signature values.now at.entry.line)
+        machine.old result machine.new }
 {
     if signature == 0 {
         let args = BlankArgs::of(values, 0);
-        return blank_of(alloc, machine, values.get(7), &args, script_name, line);
+        return blank_of(alloc, machine, values.get(7), &args, at);
     }
     let args = BlankArgs::of(values, 1);
-    blank_of(alloc, machine, values.first(), &args, script_name, line)
+    blank_of(alloc, machine, values.first(), &args, at)
 }

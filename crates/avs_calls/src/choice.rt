@@ -8,7 +8,7 @@ ghost use Rattle.avs_tree.specs.Words.{meaning_in};
 ghost use Rattle.avs_calls.specs.Arguments.{Reads};
 
 use crate::arguments::text_at;
-use crate::read::Unread;
+use crate::refused::Refused;
 use avs_meaning::ScriptKind;
 use avs_runtime::{RunFault, compile};
 use avs_tree::meaning;
@@ -48,7 +48,7 @@ fn expression_at(
 }
 
 /// What `ConditionalSelect` does with its arguments, where the test clip has this info.
-pub(crate) fn choose(alloc: Global, values: &[Value], test: &Info) -> Result<Op, Unread>
+pub(crate) fn choose(alloc: Global, values: &[Value], test: &Info) -> Result<Op, Refused>
     ensures { Reads (a.chooses (a.expression_at values.now script_of test.now 1)) result }
 {
     let expr = expression_at(alloc, values, test, 1)?;
@@ -56,7 +56,7 @@ pub(crate) fn choose(alloc: Global, values: &[Value], test: &Info) -> Result<Op,
 }
 
 /// What `ConditionalFilter` does with its arguments, where the test clip has this info.
-pub(crate) fn decide(alloc: Global, values: &[Value], test: &Info) -> Result<Op, Unread>
+pub(crate) fn decide(alloc: Global, values: &[Value], test: &Info) -> Result<Op, Refused>
     ensures { Reads (a.decides (a.expression_at values.now script_of test.now 3) (a.expression_at values.now script_of test.now 5)
         (meaning_in a.comparisons (unwrap_or (a.text_at values.now 4) []))) result }
 {
@@ -64,6 +64,6 @@ pub(crate) fn decide(alloc: Global, values: &[Value], test: &Info) -> Result<Op,
     let right = expression_at(alloc, values, test, 5)?;
     match comparison(text_at(values, 4).unwrap_or("")) {
         Some(op) => Ok(Op::Run(RunOp::Filter { left, op, right })),
-        None => Err(Unread::Refused(ScriptKind::Filter(FilterFault::BadText))),
+        None => Err(Refused::Fault(ScriptKind::Filter(FilterFault::BadText))),
     }
 }

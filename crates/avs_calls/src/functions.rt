@@ -5,7 +5,7 @@ ghost use Rattle.avs_meaning.specs.Operators as m;
 ghost use Rattle.avs_state.specs.Answers.{Answers};
 
 use avs_meaning::EvalError;
-use avs_state::value_fault;
+use avs_state::{At, value_fault};
 use avs_values::{Bound, PlainFn, Value, call_plain};
 use fv_io::Text;
 use std::alloc::Global;
@@ -15,13 +15,13 @@ pub fn plain(
     alloc: Global,
     function: PlainFn,
     given: &Bound,
-    script_name: &Text,
-    line: u32,
+    at: At<'_>,
 ) -> Result<Value, EvalError>
-    ensures { Answers (λ x. x) (m.placed script_name.now line (p.plain function (bound_view given.now))) result }
+    ensures { Answers (λ x. x) (m.placed at.entry.name.now at.entry.line
+        (p.plain function (bound_view given.now))) result }
 {
     match call_plain(alloc, function, given) {
         Ok(value) => Ok(value),
-        Err(fault) => Err(value_fault(alloc, fault, script_name, line)),
+        Err(fault) => Err(value_fault(alloc, fault, at)),
     }
 }

@@ -13,10 +13,10 @@ ghost use Rattle.avs_eval.specs.Deeper.{Deeper};
 
 use crate::ranges::{positional_args, range_in};
 use crate::walker::Walker;
-use avs_calls::{clip_property, filter, plain, prefetch, ranged, set_mode};
-use avs_expressions::{Callee, called, fit_callee, parameters};
-use avs_meaning::{Builtin, EvalError, ScriptKind, Table, Variable};
-use avs_state::{ByName, Definition, Host, Machine, stop_of};
+use avs_calls::{apply_filter, clip_property, plain, prefetch, ranged, set_mode, signatures};
+use avs_expressions::{Callee, called, fit_or_last, parameters, signature_of};
+use avs_meaning::{Builtin, EvalError, ScriptKind, Variable};
+use avs_state::{At, ByName, Definition, Host, Machine, stop_of};
 use avs_tree::Statement;
 use avs_values::{Bound, Given, Value};
 use clip_term::Filter;
@@ -26,15 +26,7 @@ use std::alloc::{AllocError, Global};
 impl<
     't,
     H: Host,
-    F: Fn(
-        Global,
-        &Table,
-        &mut Machine,
-        &mut H,
-        u32,
-        &Text,
-        &[Statement],
-    ) -> Result<Value, EvalError>,
+    F: Fn(Global, &mut Machine, &mut H, u32, &Text, &[Statement]) -> Result<Value, EvalError>,
 > Walker<'t, H, F> {
     // Opens the clip of a file.
     fn open(
@@ -48,9 +40,13 @@ impl<
             machine.old result machine.new }
         ensures kept { Keeps H.Host machine.old host.old (stop_in result) machine.new host.new }
     {
+        let at = At {
+            name: self.script_name,
+            line,
+        };
         match host.clip(name) {
-            Ok(info) => machine.add_source(self.alloc, name, info, self.script_name, line),
-            Err(fault) => Err(stop_of(self.alloc, fault, name, self.script_name, line)),
+            Ok(info) => machine.add_source(self.alloc, name, info, at),
+            Err(fault) => Err(stop_of(self.alloc, fault, name, at)),
         }
     }
 
@@ -94,7 +90,7 @@ impl<
     }
 
     // A filter of bound arguments.
-    fn filter(
+    fn apply_filter(
         &self,
         machine: &mut Machine,
         host: &mut H,
@@ -109,14 +105,16 @@ impl<
     {
         match applied {
             Filter::Y4MSource => self.open_source(machine, host, &given.values, line),
-            _ => filter(
+            _ => apply_filter(
                 self.alloc,
                 machine,
                 applied,
                 signature,
                 given,
-                self.script_name,
-                line,
+                At {
+                    name: self.script_name,
+                    line,
+                },
             ),
         }
     }
@@ -137,65 +135,69 @@ impl<
             (bound_view given.now) self.now.script_name.now line) machine.old result machine.new }
         ensures kept { Keeps H.Host machine.old host.old (stop_in result) machine.new host.new }
     {
+        let at = At {
+            name: self.script_name,
+            line,
+        };
         match builtin {
             Builtin::Eval => self.eval(machine, host, &given.values, line),
             Builtin::Import => self.import(machine, host, &given.values, line),
-            Builtin::SetFilterMTMode => {
-                set_mode(self.alloc, machine, &given.values, self.script_name, line)
-            }
-            Builtin::Prefetch => prefetch(
-                self.alloc,
-                machine,
-                &given.values,
-                self.script_name,
-                line,
-            ),
+            Builtin::SetFilterMTMode => { set_mode(self.alloc, machine, &given.values, at) }
+            Builtin::Prefetch => prefetch(self.alloc, machine, &given.values, at),
             Builtin::ApplyRange => Err(self.fault(ScriptKind::NoMatch, line)),
-            Builtin::Plain(function) => plain(self.alloc, function, given, self.script_name, line),
+            Builtin::Plain(function) => plain(self.alloc, function, given, at),
             Builtin::Clip(function) => {
-                clip_property(
-                    self.alloc,
-                    machine,
-                    function,
-                    &given.values,
-                    self.script_name,
-                    line,
-                )
+                clip_property(self.alloc, machine, function, &given.values, at)
             }
             Builtin::Filter(filter) => {
-                self.filter(machine, host, filter, signature, given, line)
+                self.apply_filter(machine, host, filter, signature, given, line)
             }
         }
     }
 
-    // A call but of `ApplyRange`, whose arguments are bound by the signature of this number.
-    fn applied(
+    // A function of the script, whose arguments are bound.
+    fn run_defined(
         &self,
         machine: &mut Machine,
         host: &mut H,
-        callee: &Callee<'_>,
-        signature: usize,
+        definition: &Definition,
         given: &Bound,
         line: u32,
     ) -> Result<Value, EvalError>
         requires deeper { Deeper H.Host self.now.depth F.Fn self.now.run }
-        requires other { callee_view callee.now ≡ c.builtin Builtin.ApplyRange → ⊥ }
-        ensures told { Told H.told (λ v. v) (e.performed (context_in H.Host self.now.depth) (callee_view callee.now)
-            signature (bound_view given.now) self.now.script_name.now line) machine.old result machine.new }
+        ensures told { Told H.told (λ v. v) (e.performed (context_in H.Host self.now.depth)
+            (c.user (defined_view definition.now)) 0 (bound_view given.now) self.now.script_name.now line)
+            machine.old result machine.new }
         ensures kept { Keeps H.Host machine.old host.old (stop_in result) machine.new host.new }
     {
-        match callee {
-            Callee::User(definition) => {
-                if self.depth == 0 {
-                    return Err(self.fault(ScriptKind::CallDepth, line));
-                }
-                let env = parameters(self.alloc, &definition.function.params, &given.values)?;
-                self.inside(machine, host, definition, env)
-            }
-            Callee::Builtin(row) => {
-                self.builtin(machine, host, row.builtin(), signature, given, line)
-            }
+        if self.depth == 0 {
+            return Err(self.fault(ScriptKind::CallDepth, line));
         }
+        let env = parameters(self.alloc, &definition.function.params, &given.values)?;
+        self.inside(machine, host, definition, env)
+    }
+
+    // A call of a function of the script.
+    fn call_defined(
+        &self,
+        machine: &mut Machine,
+        host: &mut H,
+        definition: &Definition,
+        args: Vec<Given>,
+        last: Option<Value>,
+        line: u32,
+    ) -> Result<Value, EvalError>
+        requires deeper { Deeper H.Host self.now.depth F.Fn self.now.run }
+        ensures told { Told H.told (λ v. v) (e.apply (context_in H.Host self.now.depth)
+            (c.user (defined_view definition.now)) args.items last self.now.script_name.now line)
+            machine.old result machine.new }
+        ensures kept { Keeps H.Host machine.old host.old (stop_in result) machine.new host.new }
+    {
+        let taken = signature_of(self.alloc, &definition.function.params)?;
+        let Some((_, given)) = fit_or_last(self.alloc, &[taken], args, last)? else {
+            return Err(self.fault(ScriptKind::NoMatch, line));
+        };
+        self.run_defined(machine, host, definition, &given, line)
     }
 
     // `ApplyRange`: calls the function of a name with the clip and further values, and shows what that gives in a range of
@@ -213,18 +215,15 @@ impl<
             given.now.rest.items self.now.script_name.now line) machine.old result machine.new }
         ensures kept { Keeps H.Host machine.old host.old (stop_in result) machine.new host.new }
     {
+        let at = At {
+            name: self.script_name,
+            line,
+        };
         let range = match range_in(&given.values) {
             Ok(range) => range,
             Err(kind) => return Err(self.fault(kind, line)),
         };
-        let callee = called(
-            self.alloc,
-            self.table,
-            machine,
-            range.name,
-            self.script_name,
-            line,
-        )?;
+        let callee = called(self.alloc, machine, range.name, at)?;
         let args = positional_args(self.alloc, range.clip, &given.rest)?;
         let shown = match self.call(machine, host, &callee, args, None, line) {
             Ok(shown) => shown,
@@ -237,9 +236,34 @@ impl<
             range.first,
             range.last,
             &shown,
-            self.script_name,
-            line,
+            at,
         )
+    }
+
+    // A call of a built-in function.
+    #[cycle(calls)]
+    fn call_builtin(
+        &self,
+        machine: &mut Machine,
+        host: &mut H,
+        builtin: Builtin,
+        args: Vec<Given>,
+        last: Option<Value>,
+        line: u32,
+    ) -> Result<Value, EvalError>
+        requires deeper { Deeper H.Host self.now.depth F.Fn self.now.run }
+        ensures told { Told H.told (λ v. v) (e.apply (context_in H.Host self.now.depth) (c.builtin builtin)
+            args.items last self.now.script_name.now line) machine.old result machine.new }
+        ensures kept { Keeps H.Host machine.old host.old (stop_in result) machine.new host.new }
+    {
+        let taken = signatures(self.alloc, builtin)?;
+        let Some((signature, given)) = fit_or_last(self.alloc, &taken, args, last)? else {
+            return Err(self.fault(ScriptKind::NoMatch, line));
+        };
+        match builtin {
+            Builtin::ApplyRange => self.apply_range(machine, host, &given, line),
+            _ => self.builtin(machine, host, builtin, signature, &given, line),
+        }
     }
 
     /// A call with these arguments, tried again with `last` first, if it is given.
@@ -248,7 +272,7 @@ impl<
         &self,
         machine: &mut Machine,
         host: &mut H,
-        callee: &Callee<'_>,
+        callee: &Callee,
         args: Vec<Given>,
         last: Option<Value>,
         line: u32,
@@ -258,14 +282,13 @@ impl<
             args.items last self.now.script_name.now line) machine.old result machine.new }
         ensures kept { Keeps H.Host machine.old host.old (stop_in result) machine.new host.new }
     {
-        let Some((signature, given)) = fit_callee(self.alloc, callee, args, last)? else {
-            return Err(self.fault(ScriptKind::NoMatch, line));
-        };
         match callee {
-            Callee::Builtin(row) if row.builtin() == Builtin::ApplyRange => {
-                self.apply_range(machine, host, &given, line)
+            Callee::User(definition) => {
+                self.call_defined(machine, host, definition, args, last, line)
             }
-            _ => self.applied(machine, host, callee, signature, &given, line),
+            Callee::Builtin(builtin) => {
+                self.call_builtin(machine, host, *builtin, args, last, line)
+            }
         }
     }
 }

@@ -6,7 +6,7 @@ ghost use Rattle.avs_eval.specs.OutsideBy.{outside_by};
 ghost use Rattle.avs_state.specs.Walks.{Keeps, stop_in};
 
 use crate::walker::Walker;
-use avs_meaning::{EvalError, Table};
+use avs_meaning::EvalError;
 use avs_state::{Host, Machine};
 use avs_statements::body_of;
 use avs_tree::Statement;
@@ -18,7 +18,6 @@ use std::marker::PhantomData;
 /// Executes the statements of a text or a function, where so many calls may nest.
 pub(crate) fn run<H: Host>(
     alloc: Global,
-    table: &Table,
     machine: &mut Machine,
     host: &mut H,
     depth: u32,
@@ -32,7 +31,6 @@ pub(crate) fn run<H: Host>(
 {
     let walker = Walker {
         alloc,
-        table,
         script_name,
         depth,
         run: run::<H>,

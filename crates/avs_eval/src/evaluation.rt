@@ -12,8 +12,8 @@ ghost use Rattle.avs_state.specs.Walks.{Keeps, stop_in};
 
 use crate::depth::run;
 use crate::texts::load_body;
-use avs_meaning::{Crew, EvalError, ScriptKind, Table};
-use avs_state::{Host, Machine, fault_at};
+use avs_meaning::{Crew, EvalError, ScriptKind};
+use avs_state::{At, Host, Machine, fault_at};
 use avs_tree::Statement;
 use avs_values::Value;
 use clip_graph::Graph;
@@ -44,9 +44,9 @@ fn clip_of(
     ensures inside { IfOk result (λ i. i < length (state_of machine.now).plan) }
 {
     let Value::Clip(i) = value else {
-        return Err(fault_at(alloc, ScriptKind::NotClip, name, line));
+        return Err(fault_at(alloc, ScriptKind::NotClip, At { name, line }));
     };
-    machine.info_of(alloc, i, name, line)?;
+    machine.info_of(alloc, i, At { name, line })?;
     Ok(i)
 }
 
@@ -54,7 +54,6 @@ fn clip_of(
 #[tactic(auto, using(crate::proofs::RunLemmas::run_fails, crate::proofs::RunLemmas::run_ends))]
 fn clip_of_run<H: Host>(
     alloc: Global,
-    table: &Table,
     machine: &mut Machine,
     host: &mut H,
     name: &Text,
@@ -66,14 +65,13 @@ fn clip_of_run<H: Host>(
     ensures kept { Keeps H.Host machine.old host.old (stop_in result) machine.new host.new }
     ensures inside { IfOk result (λ i. i < length (state_of machine.new).plan) }
 {
-    let value = run(alloc, table, machine, host, CALL_LIMIT, name, statements)?;
+    let value = run(alloc, machine, host, CALL_LIMIT, name, statements)?;
     clip_of(alloc, machine, value, name, last_line)
 }
 
 // Executes a text as the script of this name.
 fn execute<H: Host>(
     alloc: Global,
-    table: &Table,
     machine: &mut Machine,
     host: &mut H,
     name: &Text,
@@ -86,15 +84,7 @@ fn execute<H: Host>(
     ensures inside { IfOk result (λ i. i < length (state_of machine.new).plan) }
 {
     let body = load_body(alloc, machine, name, text)?;
-    clip_of_run(
-        alloc,
-        table,
-        machine,
-        host,
-        name,
-        &body.statements,
-        body.last_line,
-    )
+    clip_of_run(alloc, machine, host, name, &body.statements, body.last_line)
 }
 
 /// Evaluates a text as the script of this name, over a host that has opened nothing.
@@ -119,9 +109,8 @@ pub fn eval<H: Host>(
     // Only a failed read counts a fault, so none is tried again.
     ensures faults { CountsFaults result (H.faults host.old) (H.faults host.new) }
 {
-    let table = Table::new(alloc)?;
     let mut machine = Machine::new(alloc);
-    let root = execute(alloc, &table, &mut machine, host, name, text)?;
+    let root = execute(alloc, &mut machine, host, name, text)?;
     let prefetch = machine.crew();
     Ok(Opened {
         graph: machine.into_graph(),

@@ -1,24 +1,21 @@
 // Texts that a run executes beside the script: those of `Eval`, `Import` and functions.
-ghost use Rattle.std.specs.Prelude.{◌≡◌, ◌<◌, ◌≤◌, length, OnOk};
+ghost use Rattle.std.specs.Prelude.{◌<◌, ◌≤◌, length};
 ghost use Rattle.avs_tree.specs.View.{block_view};
 ghost use Rattle.avs_values.specs.Outcome.{text_limit};
 ghost use Rattle.avs_parse.specs.Load.{script_of};
 ghost use Rattle.avs_meaning.specs.Expressions as e;
 ghost use Rattle.avs_meaning.specs.Meaning as m;
-ghost use Rattle.avs_state.specs.Answers.{Gives};
 ghost use Rattle.avs_state.specs.Hosts.{Told};
-ghost use Rattle.avs_state.specs.Walks.{Keeps, stop_in};
-ghost use Rattle.avs_state.specs.Sources.{sources_of};
-ghost use Rattle.avs_state.specs.States.{state_of, AsksNothing};
+ghost use Rattle.avs_state.specs.Walks.{Keeps, Runs, stop_in};
 ghost use Rattle.avs_eval.specs.Bodies as b;
 ghost use Rattle.avs_eval.specs.Bodies.{body_by, body_view};
 ghost use Rattle.avs_eval.specs.OutsideBy.{context_in, outside_by};
 ghost use Rattle.avs_eval.specs.Deeper.{Deeper};
 
 use crate::walker::Walker;
-use avs_meaning::{EvalError, ScriptKind, Table};
+use avs_meaning::{EvalError, ScriptKind};
 use avs_parse::{LoadFault, Loaded, load};
-use avs_state::{Host, Machine, fault_at, stop_of};
+use avs_state::{At, Host, Machine, fault_at, stop_of};
 use avs_tree::{Script, Statement};
 use avs_values::Value;
 use fv_io::Text;
@@ -43,10 +40,7 @@ pub(crate) fn load_body(
     text: &Text,
 ) -> Result<Body, EvalError>
     requires { length text.now ≤ text_limit }
-    ensures gives { Gives body_view (body_by (script_of text.now) script_name.now (state_of machine.old)) result
-        (state_of machine.new) }
-    ensures asks { AsksNothing machine.old machine.new }
-    ensures sources { OnOk result (sources_of (state_of machine.new).plan ≡ sources_of (state_of machine.old).plan) }
+    ensures { Runs body_view (body_by (script_of text.now) script_name.now) machine.old result machine.new }
 {
     match load(alloc, text.as_str()) {
         Ok(Loaded { script, last_line }) => {
@@ -61,13 +55,34 @@ pub(crate) fn load_body(
             })
         }
         Err(LoadFault::Lex { kind, line }) => {
-            Err(fault_at(alloc, ScriptKind::Lex(kind), script_name, line))
+            Err(fault_at(
+                alloc,
+                ScriptKind::Lex(kind),
+                At {
+                    name: script_name,
+                    line,
+                },
+            ))
         }
         Err(LoadFault::Syntax { line }) => {
-            Err(fault_at(alloc, ScriptKind::Syntax, script_name, line))
+            Err(fault_at(
+                alloc,
+                ScriptKind::Syntax,
+                At {
+                    name: script_name,
+                    line,
+                },
+            ))
         }
         Err(LoadFault::NestLimit { line }) => {
-            Err(fault_at(alloc, ScriptKind::NestLimit, script_name, line))
+            Err(fault_at(
+                alloc,
+                ScriptKind::NestLimit,
+                At {
+                    name: script_name,
+                    line,
+                },
+            ))
         }
         Err(LoadFault::Memory) => Err(EvalError::Memory),
     }
@@ -76,15 +91,7 @@ pub(crate) fn load_body(
 impl<
     't,
     H: Host,
-    F: Fn(
-        Global,
-        &Table,
-        &mut Machine,
-        &mut H,
-        u32,
-        &Text,
-        &[Statement],
-    ) -> Result<Value, EvalError>,
+    F: Fn(Global, &mut Machine, &mut H, u32, &Text, &[Statement]) -> Result<Value, EvalError>,
 > Walker<'t, H, F> {
     /// Executes statements of the text of this name one call deeper.
     pub(crate) fn deeper(
@@ -100,15 +107,7 @@ impl<
             body.now)) machine.old result machine.new }
         ensures kept { Keeps H.Host machine.old host.old (stop_in result) machine.new host.new }
     {
-        (self.run)(
-            self.alloc,
-            self.table,
-            machine,
-            host,
-            self.depth - 1,
-            script_name,
-            body,
-        )
+        (self.run)(self.alloc, machine, host, self.depth - 1, script_name, body)
     }
 
     // Executes a text that a call at a line has.
@@ -215,7 +214,15 @@ impl<
                 machine.count_import();
                 Ok(text)
             }
-            Err(fault) => Err(stop_of(self.alloc, fault, name, self.script_name, line)),
+            Err(fault) => Err(stop_of(
+                self.alloc,
+                fault,
+                name,
+                At {
+                    name: self.script_name,
+                    line,
+                },
+            )),
         }
     }
 

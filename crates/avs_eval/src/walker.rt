@@ -4,8 +4,8 @@ ghost use Rattle.avs_eval.specs.Deeper.{Deeper};
 ghost use Rattle.avs_eval.specs.OutsideBy.{context_in};
 
 use avs_expressions::{Callee, Calls, value_of};
-use avs_meaning::{EvalError, ScriptKind, Table};
-use avs_state::{Host, Machine, fault_at};
+use avs_meaning::{EvalError, ScriptKind};
+use avs_state::{At, Host, Machine, fault_at};
 use avs_statements::Evaluator;
 use avs_tree::{Expr, Statement};
 use avs_values::{Given, Value};
@@ -17,8 +17,6 @@ use std::marker::PhantomData;
 #[derive_where(Clone, Copy; F)]
 pub(crate) struct Walker<'t, H, F> {
     pub(crate) alloc: Global,
-    /// The built-in functions.
-    pub(crate) table: &'t Table,
     /// The name of the text.
     pub(crate) script_name: &'t Text,
     /// How many calls may still nest.
@@ -33,22 +31,21 @@ impl<'t, H, F> Walker<'t, H, F> {
     pub(crate) fn fault(&self, kind: ScriptKind, line: u32) -> EvalError
         ensures { Shows (script kind self.now.script_name.now line) result }
     {
-        fault_at(self.alloc, kind, self.script_name, line)
+        fault_at(
+            self.alloc,
+            kind,
+            At {
+                name: self.script_name,
+                line,
+            },
+        )
     }
 }
 
 impl<
     't,
     H: Host,
-    F: Fn(
-        Global,
-        &Table,
-        &mut Machine,
-        &mut H,
-        u32,
-        &Text,
-        &[Statement],
-    ) -> Result<Value, EvalError>,
+    F: Fn(Global, &mut Machine, &mut H, u32, &Text, &[Statement]) -> Result<Value, EvalError>,
 > Calls<H> for Walker<'t, H, F> {
     ghost may = { λ walker. Deeper H.Host walker.depth F.Fn walker.run };
 
@@ -60,15 +57,11 @@ impl<
         self.script_name
     }
 
-    fn table(&self) -> &Table {
-        self.table
-    }
-
     fn apply(
         &self,
         machine: &mut Machine,
         host: &mut H,
-        callee: &Callee<'_>,
+        callee: &Callee,
         args: Vec<Given>,
         last: Option<Value>,
         line: u32,
@@ -80,15 +73,7 @@ impl<
 impl<
     't,
     H: Host,
-    F: Fn(
-        Global,
-        &Table,
-        &mut Machine,
-        &mut H,
-        u32,
-        &Text,
-        &[Statement],
-    ) -> Result<Value, EvalError>,
+    F: Fn(Global, &mut Machine, &mut H, u32, &Text, &[Statement]) -> Result<Value, EvalError>,
 > Evaluator<H> for Walker<'t, H, F> {
     ghost may = { λ walker. Deeper H.Host walker.depth F.Fn walker.run };
 

@@ -9,7 +9,7 @@ use Rattle.avs_expressions.specs.declared.callee.Callee.TheVariants.{User, Built
 
 abbrev pub callee_view : Callee → m.Callee
 callee_view (User shared) = m.user (defined_view shared.value)
-callee_view (Builtin row) = m.builtin row.now
+callee_view (Builtin function) = m.builtin function
 
 abbrev pub fit_view : Option (ℕ × Bound) → m.Fit
 fit_view = option_map (λ found. (found.0, bound_view found.1))

@@ -3,38 +3,36 @@ ghost use Rattle.std.specs.Prelude.{◌≡◌, [], map, IfOk, option_map};
 ghost use Rattle.avs_values.specs.Views.{signature_view};
 ghost use Rattle.avs_meaning.specs.Calls as m;
 ghost use Rattle.avs_state.specs.States.{state_of};
-ghost use Rattle.avs_expressions.specs.Views.{callee_view, fit_view};
+ghost use Rattle.avs_expressions.specs.Views.{callee_view};
 
-use crate::fits::fit_or_last;
-use avs_meaning::{Row, Table, Variable};
+use avs_meaning::{Builtin, Variable};
 use avs_state::{ByName, Definition, Machine, set_in};
 use avs_tree::{Parameter, TypeWord};
-use avs_values::{Bound, Given, Kind, Param, Signature, Value};
+use avs_values::{Kind, Param, Signature, Value};
 use fv_io::Text;
 use std::alloc::{AllocError, Global};
 use std::rc::Rc;
 
 /// What a name calls.
 #[derive(Drop)]
-pub enum Callee<'t> {
+pub enum Callee {
     User(Rc<Definition>),
-    Builtin(&'t Row),
+    Builtin(Builtin),
 }
 
 /// What a name calls. A function of the script hides a built-in one. An `Err` is out of memory.
-pub fn callee_of<'t>(
+pub fn callee_of(
     alloc: Global,
-    table: &'t Table,
     machine: &Machine,
     name: &Text,
-) -> Result<Option<Callee<'t>>, AllocError>
+) -> Result<Option<Callee>, AllocError>
     ensures { IfOk result (λ found. option_map callee_view found ≡ m.callee name.now (state_of machine.now).functions) }
 {
     if let Some(definition) = machine.find(alloc, name)? {
         return Ok(Some(Callee::User(definition)));
     }
-    match table.find(name.as_str()) {
-        Some(row) => Ok(Some(Callee::Builtin(row))),
+    match Builtin::named(name.as_str()) {
+        Some(builtin) => Ok(Some(Callee::Builtin(builtin))),
         None => Ok(None),
     }
 }
@@ -51,7 +49,8 @@ fn kind_of(word: TypeWord) -> Kind
     }
 }
 
-fn signature_of(alloc: Global, params: &[Parameter]) -> Result<Signature, AllocError>
+/// What a function of the script takes. An `Err` is out of memory.
+pub fn signature_of(alloc: Global, params: &[Parameter]) -> Result<Signature, AllocError>
     ensures { IfOk result (λ made. signature_view made ≡ m.signature_of params.now) }
 {
     let mut taken = Vec::new(alloc);
@@ -68,26 +67,6 @@ fn signature_of(alloc: Global, params: &[Parameter]) -> Result<Signature, AllocE
         rest: None,
         least: 0,
     })
-}
-
-/// The first signature of what is called that the arguments fit, by its number, and what they are bound to; where they fit
-/// none, the same with `last` first, if it is given. An `Err` is out of memory.
-pub fn fit_callee(
-    alloc: Global,
-    callee: &Callee<'_>,
-    args: Vec<Given>,
-    last: Option<Value>,
-) -> Result<Option<(usize, Bound)>, AllocError>
-    ensures { IfOk result (λ found.
-        fit_view found ≡ m.fit_or_last (m.takes (callee_view callee.now)) args.items last) }
-{
-    match callee {
-        Callee::User(definition) => {
-            let taken = signature_of(alloc, &definition.function.params)?;
-            fit_or_last(alloc, &[taken], args, last)
-        }
-        Callee::Builtin(row) => fit_or_last(alloc, row.signatures(), args, last),
-    }
 }
 
 /// The parameters of a function as its variables. An `Err` is out of memory.

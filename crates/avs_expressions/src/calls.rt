@@ -1,6 +1,6 @@
 // `Calls`: what makes the calls of a text.
 use crate::callee::Callee;
-use avs_meaning::{EvalError, Table};
+use avs_meaning::EvalError;
 use avs_state::{Host, Machine};
 use avs_values::{Given, Value};
 use fv_io::Text;
@@ -28,15 +28,12 @@ pub trait Calls<H: Host> {
     fn script_name(&self) -> &Text
         ensures { result.now ≡ here self.now };
 
-    /// The built-in functions.
-    fn table(&self) -> &Table;
-
     /// A call with these arguments, tried again with `last` first, if it is given.
     fn apply(
         &self,
         machine: &mut Machine,
         host: &mut H,
-        callee: &Callee<'_>,
+        callee: &Callee,
         args: Vec<Given>,
         last: Option<Value>,
         line: u32,

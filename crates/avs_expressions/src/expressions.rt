@@ -11,7 +11,7 @@ use crate::calls::Calls;
 use crate::evaluation::Evaluation;
 use crate::operate::{combined, compared, prefixed};
 use avs_meaning::EvalError;
-use avs_state::{Host, Machine, truth};
+use avs_state::{At, Host, Machine, truth};
 use avs_tree::{Arg, DotCall, Expr, Operator, Step};
 use avs_values::{Given, UnaryOp, Value};
 use fv_io::Text;
@@ -44,8 +44,10 @@ impl<'c, H: Host, C: Calls<H>> Evaluation<'c, H, C> {
                     self.alloc,
                     UnaryOp::Negative,
                     &value,
-                    self.calls.script_name(),
-                    *line,
+                    At {
+                        name: self.calls.script_name(),
+                        line: *line,
+                    },
                 )
             }
             Expr::Not { operand, line } => {
@@ -54,8 +56,10 @@ impl<'c, H: Host, C: Calls<H>> Evaluation<'c, H, C> {
                     self.alloc,
                     UnaryOp::Not,
                     &value,
-                    self.calls.script_name(),
-                    *line,
+                    At {
+                        name: self.calls.script_name(),
+                        line: *line,
+                    },
                 )
             }
             Expr::Chain { first, rest } => {
@@ -70,7 +74,16 @@ impl<'c, H: Host, C: Calls<H>> Evaluation<'c, H, C> {
             } => {
                 let a = self.value_of(machine, host, left)?;
                 let b = self.value_of(machine, host, right)?;
-                compared(self.alloc, *op, &a, &b, self.calls.script_name(), *line)
+                compared(
+                    self.alloc,
+                    *op,
+                    &a,
+                    &b,
+                    At {
+                        name: self.calls.script_name(),
+                        line: *line,
+                    },
+                )
             }
             Expr::Pick {
                 condition,
@@ -79,7 +92,14 @@ impl<'c, H: Host, C: Calls<H>> Evaluation<'c, H, C> {
                 line,
             } => {
                 let value = self.value_of(machine, host, condition)?;
-                if truth(self.alloc, &value, self.calls.script_name(), *line)? {
+                if truth(
+                    self.alloc,
+                    &value,
+                    At {
+                        name: self.calls.script_name(),
+                        line: *line,
+                    },
+                )? {
                     self.value_of(machine, host, yes)
                 } else {
                     self.value_of(machine, host, no)
@@ -228,13 +248,27 @@ impl<'c, H: Host, C: Calls<H>> Evaluation<'c, H, C> {
     {
         match op {
             Operator::Or => {
-                if truth(self.alloc, &first, self.calls.script_name(), line)? {
+                if truth(
+                    self.alloc,
+                    &first,
+                    At {
+                        name: self.calls.script_name(),
+                        line,
+                    },
+                )? {
                     return Ok(Value::Bool(true));
                 }
                 self.truth_of(machine, host, operand, line)
             }
             Operator::And => {
-                if truth(self.alloc, &first, self.calls.script_name(), line)? {
+                if truth(
+                    self.alloc,
+                    &first,
+                    At {
+                        name: self.calls.script_name(),
+                        line,
+                    },
+                )? {
                     return self.truth_of(machine, host, operand, line);
                 }
                 Ok(Value::Bool(false))
@@ -247,8 +281,10 @@ impl<'c, H: Host, C: Calls<H>> Evaluation<'c, H, C> {
                     op,
                     &first,
                     &second,
-                    self.calls.script_name(),
-                    line,
+                    At {
+                        name: self.calls.script_name(),
+                        line,
+                    },
                 )
             }
         }
@@ -269,7 +305,14 @@ impl<'c, H: Host, C: Calls<H>> Evaluation<'c, H, C> {
         ensures kept { Keeps H.Host machine.old host.old (stop_in result) machine.new host.new }
     {
         let value = self.value_of(machine, host, operand)?;
-        let holds = truth(self.alloc, &value, self.calls.script_name(), line)?;
+        let holds = truth(
+            self.alloc,
+            &value,
+            At {
+                name: self.calls.script_name(),
+                line,
+            },
+        )?;
         Ok(Value::Bool(holds))
     }
 }

@@ -25,7 +25,7 @@ fn fit(
 
 /// The first signature that the arguments fit, by its number, and what they are bound to; where they fit none, the same
 /// with `last` first, if it is given. An `Err` is out of memory.
-pub(crate) fn fit_or_last(
+pub fn fit_or_last(
     alloc: Global,
     signatures: &[Signature],
     mut args: Vec<Given>,

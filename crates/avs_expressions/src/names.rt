@@ -11,27 +11,25 @@ ghost use Rattle.avs_expressions.specs.Views.{callee_view};
 use crate::callee::{Callee, callee_of};
 use crate::calls::Calls;
 use crate::evaluation::Evaluation;
-use avs_meaning::{EvalError, ScriptKind, Table};
-use avs_state::{Host, Machine, fault_at};
+use avs_meaning::{EvalError, ScriptKind};
+use avs_state::{At, Host, Machine, fault_at};
 use avs_values::{Given, Value};
 use fv_io::Text;
 use std::alloc::{AllocError, Global};
 
 /// What a name calls, at a line of a text.
-pub fn called<'t>(
+pub fn called(
     alloc: Global,
-    table: &'t Table,
     machine: &Machine,
     name: &Text,
-    script_name: &Text,
-    line: u32,
-) -> Result<Callee<'t>, EvalError>
-    ensures { Gives callee_view (e.called script_name.now name.now line (state_of machine.now)) result
+    at: At<'_>,
+) -> Result<Callee, EvalError>
+    ensures { Gives callee_view (e.called at.entry.name.now name.now at.entry.line (state_of machine.now)) result
         (state_of machine.now) }
 {
-    match callee_of(alloc, table, machine, name)? {
+    match callee_of(alloc, machine, name)? {
         Some(callee) => Ok(callee),
-        None => Err(fault_at(alloc, ScriptKind::UnknownName, script_name, line)),
+        None => Err(fault_at(alloc, ScriptKind::UnknownName, at)),
     }
 }
 
@@ -42,17 +40,18 @@ impl<'c, H: Host, C: Calls<H>> Evaluation<'c, H, C> {
         machine: &Machine,
         name: &Text,
         line: u32,
-    ) -> Result<Callee<'c>, EvalError>
+    ) -> Result<Callee, EvalError>
         ensures { Gives callee_view (e.called (C.here self.now.calls.now) name.now line (state_of machine.now)) result
             (state_of machine.now) }
     {
         called(
             self.alloc,
-            self.calls.table(),
             machine,
             name,
-            self.calls.script_name(),
-            line,
+            At {
+                name: self.calls.script_name(),
+                line,
+            },
         )
     }
 
@@ -61,7 +60,7 @@ impl<'c, H: Host, C: Calls<H>> Evaluation<'c, H, C> {
         &self,
         machine: &mut Machine,
         host: &mut H,
-        callee: &Callee<'_>,
+        callee: &Callee,
         args: Vec<Given>,
         line: u32,
     ) -> Result<Value, EvalError>

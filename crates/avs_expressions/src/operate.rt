@@ -1,13 +1,12 @@
 // Operators.
-ghost use Rattle.std.specs.Prelude.{◌≡◌, OnOk};
+ghost use Rattle.std.specs.Prelude.{◌≡◌};
 ghost use Rattle.avs_values.specs.Operators as v;
 ghost use Rattle.avs_meaning.specs.Operators as m;
-ghost use Rattle.avs_state.specs.Answers.{Answers, Gives};
-ghost use Rattle.avs_state.specs.Sources.{sources_of};
-ghost use Rattle.avs_state.specs.States.{state_of, AsksNothing};
+ghost use Rattle.avs_state.specs.Answers.{Answers};
+ghost use Rattle.avs_state.specs.Walks.{Runs};
 
 use avs_meaning::{EvalError, ScriptKind};
-use avs_state::{Machine, fault_at, value_fault};
+use avs_state::{At, Machine, fault_at, value_fault};
 use avs_tree::Operator;
 use avs_values::{BinaryOp, UnaryOp, Value, binary, unary};
 use clip_term::{Filter, Op, TimeOp};
@@ -39,14 +38,14 @@ pub(crate) fn compared(
     op: Operator,
     left: &Value,
     right: &Value,
-    script_name: &Text,
-    line: u32,
+    at: At<'_>,
 ) -> Result<Value, EvalError>
-    ensures { Answers (λ x. x) (m.placed script_name.now line (v.binary (m.binary_of op) left.now right.now)) result }
+    ensures { Answers (λ x. x) (m.placed at.entry.name.now at.entry.line
+        (v.binary (m.binary_of op) left.now right.now)) result }
 {
     match binary(alloc, binary_of(op), left, right) {
         Ok(value) => Ok(value),
-        Err(fault) => Err(value_fault(alloc, fault, script_name, line)),
+        Err(fault) => Err(value_fault(alloc, fault, at)),
     }
 }
 
@@ -55,14 +54,13 @@ pub(crate) fn prefixed(
     alloc: Global,
     op: UnaryOp,
     operand: &Value,
-    script_name: &Text,
-    line: u32,
+    at: At<'_>,
 ) -> Result<Value, EvalError>
-    ensures { Answers (λ x. x) (m.placed script_name.now line (v.unary op operand.now)) result }
+    ensures { Answers (λ x. x) (m.placed at.entry.name.now at.entry.line (v.unary op operand.now)) result }
 {
     match unary(op, operand) {
         Ok(value) => Ok(value),
-        Err(fault) => Err(value_fault(alloc, fault, script_name, line)),
+        Err(fault) => Err(value_fault(alloc, fault, at)),
     }
 }
 
@@ -73,13 +71,10 @@ pub(crate) fn combined(
     op: Operator,
     left: &Value,
     right: &Value,
-    script_name: &Text,
-    line: u32,
+    at: At<'_>,
 ) -> Result<Value, EvalError>
-    ensures gives { Gives (λ x. x) (m.combined script_name.now op line left.now right.now (state_of machine.old)) result
-        (state_of machine.new) }
-    ensures asks { AsksNothing machine.old machine.new }
-    ensures sources { OnOk result (sources_of (state_of machine.new).plan ≡ sources_of (state_of machine.old).plan) }
+    ensures { Runs (λ x. x) (m.combined at.entry.name.now op at.entry.line left.now right.now)
+        machine.old result machine.new }
 {
     match (op, left, right) {
         (Operator::Plus, Value::Clip(i), Value::Clip(j)) => machine.make(
@@ -87,23 +82,16 @@ pub(crate) fn combined(
             Filter::UnalignedSplice,
             Op::Time(TimeOp::UnalignedSplice),
             &[*i, *j],
-            script_name,
-            line,
+            at,
         ),
         (Operator::PlusPlus, Value::Clip(i), Value::Clip(j)) => machine.make(
             alloc,
             Filter::AlignedSplice,
             Op::Time(TimeOp::AlignedSplice),
             &[*i, *j],
-            script_name,
-            line,
+            at,
         ),
-        (Operator::PlusPlus, _, _) => Err(fault_at(
-            alloc,
-            ScriptKind::TypeFault,
-            script_name,
-            line,
-        )),
-        _ => compared(alloc, op, left, right, script_name, line),
+        (Operator::PlusPlus, _, _) => Err(fault_at(alloc, ScriptKind::TypeFault, at)),
+        _ => compared(alloc, op, left, right, at),
     }
 }

@@ -3,38 +3,38 @@ use Rattle.std.specs.Prelude.{◌≡◌, List, [], ◌∷◌, map, Result, IfOk}
 use Rattle.avs_tree.specs.View.{expr_view, arg_view, method_call_view, step_view}
 use Rattle.avs_tree.specs.ExprMachine as x
 use Rattle.avs_frames.specs.declared.memory.OutOfMemory.{OutOfMemory}
-use Rattle.avs_frames.specs.declared.frame.Callee.{Callee}
-use Rattle.avs_frames.specs.declared.frame.Callee.TheVariants as k
-use Rattle.avs_frames.specs.declared.frame.Frame.{Frame}
-use Rattle.avs_frames.specs.declared.frame.Frame.TheVariants as f
-use Rattle.avs_frames.specs.declared.frame.ExprState.{ExprState}
-use Rattle.avs_frames.specs.declared.frame.ExprState.TheVariants as n
-use Rattle.avs_frames.specs.declared.frame.ExprStep.{ExprStep}
-use Rattle.avs_frames.specs.declared.frame.ExprStep.TheVariants as r
-use Rattle.avs_frames.specs.declared.frame.Closing.{Closing}
-use Rattle.avs_frames.specs.declared.frame.Closing.TheVariants as g
+use Rattle.avs_frames.specs.declared.state.Callee.{Callee}
+use Rattle.avs_frames.specs.declared.state.Callee.TheVariants as k
+use Rattle.avs_frames.specs.declared.state.Open.{Open}
+use Rattle.avs_frames.specs.declared.state.Open.TheVariants as f
+use Rattle.avs_frames.specs.declared.state.ExprState.{ExprState}
+use Rattle.avs_frames.specs.declared.state.ExprState.TheVariants as n
+use Rattle.avs_frames.specs.declared.state.ExprStep.{ExprStep}
+use Rattle.avs_frames.specs.declared.state.ExprStep.TheVariants as r
+use Rattle.avs_frames.specs.declared.state.Closing.{Closing}
+use Rattle.avs_frames.specs.declared.state.Closing.TheVariants as g
 
 abbrev pub callee_view : Callee → x.Callee
 callee_view (k.Call n) = x.call_of n.name n.line
 callee_view (k.Method e n) = x.method_of (expr_view e.first.value) (map method_call_view e.calls.items) n.name n.line
 
-abbrev pub frame_view : Frame → x.Frame
-frame_view f.Paren = x.paren
-frame_view (f.Argument c found n) = x.argument (callee_view c) (map arg_view found.items) n
-frame_view (f.Minus line) = x.minus_of line
-frame_view (f.Not line) = x.not_of line
-frame_view (f.Chain e ss last) = x.chain_of (expr_view e.value) (map step_view ss.items) last.op last.line
-frame_view (f.Compare e last) = x.compare_of last.op (expr_view e.value) last.line
-frame_view (f.Yes e line) = x.yes_of (expr_view e.value) line
-frame_view (f.No e yes_ line) = x.no_of (expr_view e.value) (expr_view yes_.value) line
+abbrev pub open_view : Open → x.Open
+open_view f.Paren = x.paren
+open_view (f.Argument c found n) = x.argument (callee_view c) (map arg_view found.items) n
+open_view (f.Minus line) = x.minus_of line
+open_view (f.Not line) = x.not_of line
+open_view (f.Chain e ss last) = x.chain_of (expr_view e.value) (map step_view ss.items) last.op last.line
+open_view (f.Compare e last) = x.compare_of last.op (expr_view e.value) last.line
+open_view (f.Yes e line) = x.yes_of (expr_view e.value) line
+open_view (f.No e yes_ line) = x.no_of (expr_view e.value) (expr_view yes_.value) line
 
--- The innermost frame is last in the code, and first here.
-abbrev pub onto : List x.Frame → List Frame → List x.Frame
+-- What is innermost is last in the code, and first here.
+abbrev pub onto : List x.Open → List Open → List x.Open
 onto outer [] = outer
-onto outer (f ∷ fs) = onto (frame_view f ∷ outer) fs
+onto outer (f ∷ fs) = onto (open_view f ∷ outer) fs
 
-unfoldable pub frames_view : List Frame → List x.Frame
-frames_view fs = onto [] fs
+unfoldable pub opened_view : List Open → List x.Open
+opened_view fs = onto [] fs
 
 abbrev pub expr_state_view : ExprState → x.ExprState
 expr_state_view n.OperandNext = x.operand_next
@@ -47,7 +47,7 @@ expr_state_view (n.CallsRead e) = x.calls_read (expr_view e.first.value) (map me
 
 abbrev pub expr_step_view : ExprStep → x.ExprStep
 expr_step_view r.Refused = x.refused
-expr_step_view (r.Keeps state fs) = x.keeps (expr_state_view state) (frames_view fs.items)
+expr_step_view (r.Keeps state fs) = x.keeps (expr_state_view state) (opened_view fs.items)
 expr_step_view (r.Leaves e) = x.leaves (expr_view e.value)
 
 -- The code makes this step, unless memory runs out.
@@ -57,9 +57,9 @@ Makes result step = IfOk result (λ made. expr_step_view made ≡ step)
 abbrev pub closing_view : Closing → x.Closing
 closing_view g.Refused = x.no_closing
 closing_view (g.Taken state) = x.taken (expr_state_view state)
-closing_view (g.Reopened f) = x.reopened (frame_view f)
+closing_view (g.Reopened f) = x.reopened (open_view f)
 closing_view (g.Closed k e) = x.closed k (expr_view e.value)
 
--- the same of what a token does to a frame
+-- the same of what a token does to what is open
 abbrev pub Closes : Result Closing OutOfMemory → x.Closing → Type 0
 Closes result closing = IfOk result (λ made. closing_view made ≡ closing)

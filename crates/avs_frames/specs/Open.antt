@@ -1,8 +1,8 @@
 -- How many levels of nesting are open.
 use Rattle.std.specs.Prelude.{ℕ, [], ◌∷◌}
-use Rattle.avs_tree.specs.Nesting.{frames_level}
-use Rattle.avs_frames.specs.declared.frame.Frame.{Frame}
-use Rattle.avs_frames.specs.ExprViews.{frame_view}
+use Rattle.avs_tree.specs.Nesting.{open_level}
+use Rattle.avs_frames.specs.declared.state.Open.{Open}
+use Rattle.avs_frames.specs.ExprViews.{open_view}
 
-abbrev pub opens : Frame → ℕ
-opens f = frames_level (frame_view f ∷ [])
+abbrev pub opens : Open → ℕ
+opens f = open_level (open_view f ∷ [])

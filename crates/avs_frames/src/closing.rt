@@ -1,17 +1,17 @@
-// What a token does to the innermost frame, after an expression in it.
+// What a token does to what is open innermost, after an expression in it.
 ghost use Rattle.std.specs.Prelude.{◌≡◌, ◌∷◌, ◌++◌, [], None, map, IfOk};
 ghost use Rattle.avs_tree.specs.Lexeme.{precedence_of};
 ghost use Rattle.avs_tree.specs.View.{expr_view, arg_view, step_view};
 ghost use Rattle.avs_tree.specs.Next.{operator_at};
 ghost use Rattle.avs_tree.specs.ExprMachine as machine;
-ghost use Rattle.avs_frames.specs.ExprViews.{Closes, callee_view, frame_view, expr_state_view, closing_view};
+ghost use Rattle.avs_frames.specs.ExprViews.{Closes, callee_view, open_view, expr_state_view, closing_view};
 ghost use Rattle.avs_frames.specs.Seen.{seen};
 
-use crate::frame::{
-    COMPARISON, Callee, Closing, EXPRESSION, ExprState, Frame, Named, OperatorAt, PRIMARY, UNARY,
-};
 use crate::memory::{Outcome, boxed, pushed};
-use crate::turn::Turn;
+use crate::seen::Seen;
+use crate::state::{
+    COMPARISON, Callee, Closing, EXPRESSION, ExprState, Named, Open, OperatorAt, PRIMARY, UNARY,
+};
 use avs_tree::{Arg, DotCall, Expr, Operator, Punctuation, Step};
 use fv_io::Text;
 use std::alloc::Global;
@@ -54,7 +54,7 @@ pub fn called(alloc: Global, callee: Callee, args: Vec<Arg>) -> Outcome<ExprStat
     }
 }
 
-// The frame ends, as an expression of this precedence.
+// What is open ends, as an expression of this precedence.
 fn closed(alloc: Global, precedence: u8, whole: Expr) -> Outcome<Closing>
     ensures { Closes result (machine.closed precedence (expr_view whole)) }
 {
@@ -65,13 +65,13 @@ fn closed(alloc: Global, precedence: u8, whole: Expr) -> Outcome<Closing>
 }
 
 // After what is inside of parentheses.
-fn close_group(inside: Box<Expr>, turn: Turn<'_>) -> Outcome<Closing>
-    ensures { Closes result (machine.closing (expr_view inside.value) machine.paren (seen turn.entry)) }
+fn close_group(inside: Box<Expr>, token: Seen<'_>) -> Outcome<Closing>
+    ensures { Closes result (machine.closing (expr_view inside.value) machine.paren (seen token.entry)) }
 {
-    if !turn.is(Punctuation::RightParen) {
+    if !token.is(Punctuation::RightParen) {
         return Ok(refused(inside));
     }
-    match primary(turn.alloc, Expr::Group(inside)) {
+    match primary(token.alloc, Expr::Group(inside)) {
         Ok(group) => Ok(Closing::Taken(group)),
         Err(error) => Err(error),
     }
@@ -89,7 +89,7 @@ fn label(callee: Callee, found: Vec<Arg>, name: Option<Text>, value: Box<Expr>) 
     }
     match Box::into_inner(value) {
         Expr::Name { name, line: _ } => {
-            Closing::Reopened(Frame::Argument(callee, found, Some(name)))
+            Closing::Reopened(Open::Argument(callee, found, Some(name)))
         }
         other => refused((callee, found, other)),
     }
@@ -116,7 +116,7 @@ fn next_argument(
         (machine.argument (callee_view callee) (map arg_view found.items ++ (name, expr_view value.value) ∷ []) None)) }
 {
     match with_argument(found, name, value) {
-        Ok(found) => Ok(Closing::Reopened(Frame::Argument(callee, found, None))),
+        Ok(found) => Ok(Closing::Reopened(Open::Argument(callee, found, None))),
         Err(error) => {
             // Dropped in place, each of its parts would be a step of this proof.
             drop(callee);
@@ -155,18 +155,18 @@ fn close_argument(
     found: Vec<Arg>,
     name: Option<Text>,
     value: Box<Expr>,
-    turn: Turn<'_>,
+    token: Seen<'_>,
 ) -> Outcome<Closing>
     ensures { Closes result (machine.closing (expr_view value.value)
-        (machine.argument (callee_view callee) (map arg_view found.items) name) (seen turn.entry)) }
+        (machine.argument (callee_view callee) (map arg_view found.items) name) (seen token.entry)) }
 {
-    if turn.is(Punctuation::Comma) {
+    if token.is(Punctuation::Comma) {
         return next_argument(callee, found, name, value);
     }
-    if turn.is(Punctuation::RightParen) {
-        return last_argument(turn.alloc, callee, found, name, value);
+    if token.is(Punctuation::RightParen) {
+        return last_argument(token.alloc, callee, found, name, value);
     }
-    if turn.is(Punctuation::Assign) {
+    if token.is(Punctuation::Assign) {
         return Ok(label(callee, found, name, value));
     }
     Ok(refused((callee, found, name, value)))
@@ -190,18 +190,18 @@ fn after_operand(
     first: Box<Expr>,
     rest: Vec<Step>,
     last: Operator,
-    turn: Turn<'_>,
+    token: Seen<'_>,
 ) -> Outcome<Closing>
-    ensures { Closes result (machine.more_of (operator_at (precedence_of last) (seen turn.entry)) last
-        (expr_view first.value) (map step_view rest.items) turn.entry.line) }
+    ensures { Closes result (machine.more_of (operator_at (precedence_of last) (seen token.entry)) last
+        (expr_view first.value) (map step_view rest.items) token.entry.line) }
 {
     let precedence = last.precedence();
-    match turn.operator(precedence) {
+    match token.operator(precedence) {
         Some(op) => {
-            let line = turn.line;
-            Ok(Closing::Reopened(Frame::Chain(first, rest, OperatorAt { op, line })))
+            let line = token.line;
+            Ok(Closing::Reopened(Open::Chain(first, rest, OperatorAt { op, line })))
         }
-        None => closed(turn.alloc, precedence, Expr::Chain { first, rest }),
+        None => closed(token.alloc, precedence, Expr::Chain { first, rest }),
     }
 }
 
@@ -211,37 +211,37 @@ fn close_chain(
     rest: Vec<Step>,
     last: OperatorAt,
     operand: Box<Expr>,
-    turn: Turn<'_>,
+    token: Seen<'_>,
 ) -> Outcome<Closing>
     ensures { Closes result (machine.closing (expr_view operand.value)
-        (machine.chain_of (expr_view first.value) (map step_view rest.items) last.op last.line) (seen turn.entry)) }
+        (machine.chain_of (expr_view first.value) (map step_view rest.items) last.op last.line) (seen token.entry)) }
 {
     match with_step(rest, last, operand) {
-        Ok(rest) => after_operand(first, rest, last.op, turn),
+        Ok(rest) => after_operand(first, rest, last.op, token),
         Err(error) => Err(error),
     }
 }
 
 // After the first branch of a `?`.
-fn close_branch(condition: Box<Expr>, line: u32, yes: Box<Expr>, turn: Turn<'_>) -> Closing
+fn close_branch(condition: Box<Expr>, line: u32, yes: Box<Expr>, token: Seen<'_>) -> Closing
     ensures { closing_view result
-        ≡ machine.closing (expr_view yes.value) (machine.yes_of (expr_view condition.value) line) (seen turn.entry) }
+        ≡ machine.closing (expr_view yes.value) (machine.yes_of (expr_view condition.value) line) (seen token.entry) }
 {
-    if !turn.is(Punctuation::Colon) {
+    if !token.is(Punctuation::Colon) {
         return refused((condition, yes));
     }
-    Closing::Reopened(Frame::No(condition, yes, line))
+    Closing::Reopened(Open::No(condition, yes, line))
 }
 
-/// What the token does to a frame, after this expression in it.
-pub fn close_frame(frame: Frame, expr: Box<Expr>, turn: Turn<'_>) -> Outcome<Closing>
-    ensures { Closes result (machine.closing (expr_view expr.value) (frame_view frame) (seen turn.entry)) }
+/// What the token does to what is open innermost, after this expression in it.
+pub fn close_innermost(innermost: Open, expr: Box<Expr>, token: Seen<'_>) -> Outcome<Closing>
+    ensures { Closes result (machine.closing (expr_view expr.value) (open_view innermost) (seen token.entry)) }
 {
-    let alloc = turn.alloc;
-    match frame {
-        Frame::Paren => close_group(expr, turn),
-        Frame::Argument(callee, found, name) => close_argument(callee, found, name, expr, turn),
-        Frame::Minus(line) => closed(
+    let alloc = token.alloc;
+    match innermost {
+        Open::Paren => close_group(expr, token),
+        Open::Argument(callee, found, name) => close_argument(callee, found, name, expr, token),
+        Open::Minus(line) => closed(
             alloc,
             UNARY,
             Expr::Minus {
@@ -249,7 +249,7 @@ pub fn close_frame(frame: Frame, expr: Box<Expr>, turn: Turn<'_>) -> Outcome<Clo
                 line,
             },
         ),
-        Frame::Not(line) => closed(
+        Open::Not(line) => closed(
             alloc,
             UNARY,
             Expr::Not {
@@ -257,8 +257,8 @@ pub fn close_frame(frame: Frame, expr: Box<Expr>, turn: Turn<'_>) -> Outcome<Clo
                 line,
             },
         ),
-        Frame::Chain(first, rest, last) => close_chain(first, rest, last, expr, turn),
-        Frame::Compare(left, last) => {
+        Open::Chain(first, rest, last) => close_chain(first, rest, last, expr, token),
+        Open::Compare(left, last) => {
             let whole = Expr::Compare {
                 op: last.op,
                 left,
@@ -267,8 +267,8 @@ pub fn close_frame(frame: Frame, expr: Box<Expr>, turn: Turn<'_>) -> Outcome<Clo
             };
             closed(alloc, COMPARISON, whole)
         }
-        Frame::Yes(condition, line) => Ok(close_branch(condition, line, expr, turn)),
-        Frame::No(condition, yes, line) => {
+        Open::Yes(condition, line) => Ok(close_branch(condition, line, expr, token)),
+        Open::No(condition, yes, line) => {
             let whole = Expr::Pick {
                 condition,
                 yes,

@@ -2,189 +2,189 @@
 ghost use Rattle.std.specs.Prelude.{◌≡◌, ◌∷◌, Some, map, IfOk};
 ghost use Rattle.avs_tree.specs.View.{expr_view, method_call_view};
 ghost use Rattle.avs_tree.specs.ExprMachine as machine;
-ghost use Rattle.avs_frames.specs.ExprViews.{Makes, callee_view, frame_view, frames_view, expr_state_view};
+ghost use Rattle.avs_frames.specs.ExprViews.{Makes, callee_view, open_view, opened_view, expr_state_view};
 ghost use Rattle.avs_frames.specs.Seen.{seen};
-ghost use Rattle.avs_frames.specs.declared.frame.ExprState.TheVariants.{DotRead, MethodRead};
+ghost use Rattle.avs_frames.specs.declared.state.ExprState.TheVariants.{DotRead, MethodRead};
 
-use crate::closing::{called, close_frame, primary};
-use crate::frame::{
-    COMPARISON, Callee, Closing, EXPRESSION, ExprState, ExprStep, Frame, Named, OperatorAt,
-    POSTFIX, PRIMARY, Receiver,
-};
+use crate::closing::{called, close_innermost, primary};
 use crate::memory::{Outcome, boxed, pushed};
-use crate::turn::Turn;
+use crate::seen::Seen;
+use crate::state::{
+    COMPARISON, Callee, Closing, EXPRESSION, ExprState, ExprStep, Named, Open, OperatorAt, POSTFIX,
+    PRIMARY, Receiver,
+};
 use avs_tree::{DotCall, Expr, Keyword, Operator, Punctuation, Symbol};
 use std::alloc::Global;
 
 // An operand of one token.
-fn literal(value: Expr, frames: Vec<Frame>, turn: Turn<'_>) -> Outcome<ExprStep>
-    ensures { Makes result (machine.keeps (machine.value_read 0 (expr_view value)) (frames_view frames.items)) }
+fn literal(value: Expr, opened: Vec<Open>, token: Seen<'_>) -> Outcome<ExprStep>
+    ensures { Makes result (machine.keeps (machine.value_read 0 (expr_view value)) (opened_view opened.items)) }
 {
-    match primary(turn.alloc, value) {
-        Ok(state) => Ok(ExprStep::Keeps(state, frames)),
+    match primary(token.alloc, value) {
+        Ok(state) => Ok(ExprStep::Keeps(state, opened)),
         Err(error) => Err(error),
     }
 }
 
-// A new innermost frame.
-#[tactic(auto, using(crate::proofs::FrameLemmas::frames_push))]
-fn open(frames: Vec<Frame>, frame: Frame) -> Outcome<ExprStep>
-    ensures { Makes result (machine.keeps machine.operand_next (frame_view frame ∷ frames_view frames.items)) }
+// One more is open, innermost.
+#[tactic(auto, using(crate::proofs::OpenLemmas::opened_push))]
+fn add_open(opened: Vec<Open>, innermost: Open) -> Outcome<ExprStep>
+    ensures { Makes result (machine.keeps machine.operand_next (open_view innermost ∷ opened_view opened.items)) }
 {
-    match pushed(frames, frame) {
-        Ok(frames) => Ok(ExprStep::Keeps(ExprState::OperandNext, frames)),
+    match pushed(opened, innermost) {
+        Ok(opened) => Ok(ExprStep::Keeps(ExprState::OperandNext, opened)),
         Err(error) => Err(error),
     }
 }
 
 // A name and its line.
-fn named(turn: Turn<'_>) -> Outcome<Named>
-    ensures name { IfOk result (λ made. made.name ≡ turn.entry.content.now) }
-    ensures line { IfOk result (λ made. made.line ≡ turn.entry.line) }
+fn named(token: Seen<'_>) -> Outcome<Named>
+    ensures name { IfOk result (λ made. made.name ≡ token.entry.content.now) }
+    ensures line { IfOk result (λ made. made.line ≡ token.entry.line) }
 {
-    let name = turn.text()?;
-    let line = turn.line;
+    let name = token.text()?;
+    let line = token.line;
     Ok(Named { name, line })
 }
 
 /// The first token of an operand.
 #[tactic(auto, unfolding(avs_tree::specs::ExprMachine::operand))]
-pub fn operand(frames: Vec<Frame>, turn: Turn<'_>) -> Outcome<ExprStep>
-    ensures { Makes result (machine.operand (frames_view frames.items) (seen turn.entry)) }
+pub fn operand(opened: Vec<Open>, token: Seen<'_>) -> Outcome<ExprStep>
+    ensures { Makes result (machine.operand (opened_view opened.items) (seen token.entry)) }
 {
-    let line = turn.line;
-    match turn.symbol {
-        Symbol::Int(number) => literal(Expr::Int(number), frames, turn),
-        Symbol::Str => match turn.text() {
-            Ok(text) => literal(Expr::Str(text), frames, turn),
+    let line = token.line;
+    match token.symbol {
+        Symbol::Int(number) => literal(Expr::Int(number), opened, token),
+        Symbol::Str => match token.text() {
+            Ok(text) => literal(Expr::Str(text), opened, token),
             Err(error) => Err(error),
         },
-        Symbol::Keyword(Keyword::True) => literal(Expr::Bool(true), frames, turn),
-        Symbol::Keyword(Keyword::False) => literal(Expr::Bool(false), frames, turn),
-        Symbol::Name => match named(turn) {
-            Ok(name) => Ok(ExprStep::Keeps(ExprState::NameRead(name), frames)),
+        Symbol::Keyword(Keyword::True) => literal(Expr::Bool(true), opened, token),
+        Symbol::Keyword(Keyword::False) => literal(Expr::Bool(false), opened, token),
+        Symbol::Name => match named(token) {
+            Ok(name) => Ok(ExprStep::Keeps(ExprState::NameRead(name), opened)),
             Err(error) => Err(error),
         },
-        Symbol::Punctuation(Punctuation::LeftParen) => open(frames, Frame::Paren),
-        Symbol::Operator(Operator::Minus) => open(frames, Frame::Minus(line)),
-        Symbol::Punctuation(Punctuation::Not) => open(frames, Frame::Not(line)),
+        Symbol::Punctuation(Punctuation::LeftParen) => add_open(opened, Open::Paren),
+        Symbol::Operator(Operator::Minus) => add_open(opened, Open::Minus(line)),
+        Symbol::Punctuation(Punctuation::Not) => add_open(opened, Open::Not(line)),
         _ => Ok(ExprStep::Refused),
     }
 }
 
 // An operator after its first operand.
-fn operator(alloc: Global, first: Box<Expr>, op: Operator, line: u32) -> Frame
-    ensures { frame_view result ≡ machine.operand_of op (expr_view first.value) line }
+fn operator(alloc: Global, first: Box<Expr>, op: Operator, line: u32) -> Open
+    ensures { open_view result ≡ machine.operand_of op (expr_view first.value) line }
 {
     let last = OperatorAt { op, line };
     if op.precedence() == COMPARISON {
-        return Frame::Compare(first, last);
+        return Open::Compare(first, last);
     }
-    Frame::Chain(first, Vec::new(alloc), last)
+    Open::Chain(first, Vec::new(alloc), last)
 }
 
 // The token that continues an expression.
 #[tactic(auto, unfolding(avs_tree::specs::ExprMachine::grow))]
-fn grow(first: Box<Expr>, frames: Vec<Frame>, turn: Turn<'_>) -> Outcome<ExprStep>
-    ensures { Makes result (machine.grow (expr_view first.value) (frames_view frames.items) (seen turn.entry)) }
+fn grow(first: Box<Expr>, opened: Vec<Open>, token: Seen<'_>) -> Outcome<ExprStep>
+    ensures { Makes result (machine.grow (expr_view first.value) (opened_view opened.items) (seen token.entry)) }
 {
-    let line = turn.line;
-    match turn.symbol {
+    let line = token.line;
+    match token.symbol {
         Symbol::Punctuation(Punctuation::Dot) => {
-            let calls = Vec::new(turn.alloc);
+            let calls = Vec::new(token.alloc);
             let state = ExprState::DotRead(Receiver { first, calls });
-            Ok(ExprStep::Keeps(state, frames))
+            Ok(ExprStep::Keeps(state, opened))
         }
-        Symbol::Punctuation(Punctuation::Question) => open(frames, Frame::Yes(first, line)),
-        Symbol::Operator(op) => open(frames, operator(turn.alloc, first, op, line)),
+        Symbol::Punctuation(Punctuation::Question) => add_open(opened, Open::Yes(first, line)),
+        Symbol::Operator(op) => add_open(opened, operator(token.alloc, first, op, line)),
         _ => Ok(ExprStep::Refused),
     }
 }
 
 // The highest precedence of what comes next.
-#[tactic(auto, using(crate::proofs::FrameLemmas::of_hole))]
-fn hole(frames: &[Frame]) -> u8
-    ensures { result ≡ machine.hole (frames_view frames.now) }
+#[tactic(auto, using(crate::proofs::OpenLemmas::of_hole))]
+fn hole(opened: &[Open]) -> u8
+    ensures { result ≡ machine.hole (opened_view opened.now) }
 {
-    match frames.last() {
-        Some(frame) => frame.hole(),
+    match opened.last() {
+        Some(innermost) => innermost.hole(),
         None => EXPRESSION,
     }
 }
 
-// After an expression of this precedence: the token continues it, or it closes frames.
-#[tactic(auto, using(crate::proofs::FrameLemmas::of_frames))]
+// After an expression of this precedence: the token continues it, or it closes what is open.
+#[tactic(auto, using(crate::proofs::OpenLemmas::of_opened))]
 fn after(
     mut precedence: u8,
     mut expr: Box<Expr>,
-    mut frames: Vec<Frame>,
-    turn: Turn<'_>,
+    mut opened: Vec<Open>,
+    token: Seen<'_>,
 ) -> Outcome<ExprStep>
-    ensures { Makes result (machine.after precedence (expr_view expr.value) (frames_view frames.items) (seen turn.entry)) }
+    ensures { Makes result (machine.after precedence (expr_view expr.value) (opened_view opened.items) (seen token.entry)) }
 {
-    while !turn.continues(precedence, hole(&frames)) {
-        let frame = match frames.pop() {
-            Some(frame) => frame,
+    while !token.continues(precedence, hole(&opened)) {
+        let innermost = match opened.pop() {
+            Some(innermost) => innermost,
             None => return Ok(ExprStep::Leaves(expr)),
         };
-        match close_frame(frame, expr, turn) {
+        match close_innermost(innermost, expr, token) {
             Ok(Closing::Closed(made, whole)) => {
                 precedence = made;
                 expr = whole;
                 continue;
             }
-            Ok(Closing::Reopened(frame)) => return open(frames, frame),
-            Ok(Closing::Taken(state)) => return Ok(ExprStep::Keeps(state, frames)),
+            Ok(Closing::Reopened(innermost)) => return add_open(opened, innermost),
+            Ok(Closing::Taken(state)) => return Ok(ExprStep::Keeps(state, opened)),
             Ok(Closing::Refused) => return Ok(ExprStep::Refused),
             Err(error) => return Err(error),
         }
     }
-    grow(expr, frames, turn)
+    grow(expr, opened, token)
 }
 
 // After a name.
-fn after_name(called: Named, frames: Vec<Frame>, turn: Turn<'_>) -> Outcome<ExprStep>
+fn after_name(called: Named, opened: Vec<Open>, token: Seen<'_>) -> Outcome<ExprStep>
     ensures { Makes result (machine.expr_step (machine.name_read called.name called.line)
-        (frames_view frames.items) (seen turn.entry)) }
+        (opened_view opened.items) (seen token.entry)) }
 {
-    if turn.is(Punctuation::LeftParen) {
+    if token.is(Punctuation::LeftParen) {
         let state = ExprState::ArgsOpened(Callee::Call(called));
-        return Ok(ExprStep::Keeps(state, frames));
+        return Ok(ExprStep::Keeps(state, opened));
     }
     let Named { name, line } = called;
-    match boxed(turn.alloc, Expr::Name { name, line }) {
-        Ok(name) => after(PRIMARY, name, frames, turn),
+    match boxed(token.alloc, Expr::Name { name, line }) {
+        Ok(name) => after(PRIMARY, name, opened, token),
         Err(error) => Err(error),
     }
 }
 
 // After the left parenthesis of arguments.
-#[tactic(auto, using(crate::proofs::FrameLemmas::frames_push))]
-fn first_argument(callee: Callee, frames: Vec<Frame>, turn: Turn<'_>) -> Outcome<ExprStep>
+#[tactic(auto, using(crate::proofs::OpenLemmas::opened_push))]
+fn first_argument(callee: Callee, opened: Vec<Open>, token: Seen<'_>) -> Outcome<ExprStep>
     ensures { Makes result (machine.expr_step (machine.args_opened (callee_view callee))
-        (frames_view frames.items) (seen turn.entry)) }
+        (opened_view opened.items) (seen token.entry)) }
 {
-    let found = Vec::new(turn.alloc);
-    if turn.is(Punctuation::RightParen) {
-        return match called(turn.alloc, callee, found) {
-            Ok(state) => Ok(ExprStep::Keeps(state, frames)),
+    let found = Vec::new(token.alloc);
+    if token.is(Punctuation::RightParen) {
+        return match called(token.alloc, callee, found) {
+            Ok(state) => Ok(ExprStep::Keeps(state, opened)),
             Err(error) => Err(error),
         };
     }
-    match pushed(frames, Frame::Argument(callee, found, None)) {
-        Ok(frames) => operand(frames, turn),
+    match pushed(opened, Open::Argument(callee, found, None)) {
+        Ok(opened) => operand(opened, token),
         Err(error) => Err(error),
     }
 }
 
 // After a dot.
-fn method_name(receiver: Receiver, frames: Vec<Frame>, turn: Turn<'_>) -> Outcome<ExprStep>
+fn method_name(receiver: Receiver, opened: Vec<Open>, token: Seen<'_>) -> Outcome<ExprStep>
     ensures { Makes result (machine.expr_step (expr_state_view (DotRead receiver))
-        (frames_view frames.items) (seen turn.entry)) }
+        (opened_view opened.items) (seen token.entry)) }
 {
-    match turn.symbol {
-        Symbol::Name => match named(turn) {
-            Ok(name) => Ok(ExprStep::Keeps(ExprState::MethodRead(receiver, name), frames)),
+    match token.symbol {
+        Symbol::Name => match named(token) {
+            Ok(name) => Ok(ExprStep::Keeps(ExprState::MethodRead(receiver, name), opened)),
             Err(error) => Err(error),
         },
         _ => Ok(ExprStep::Refused),
@@ -192,16 +192,16 @@ fn method_name(receiver: Receiver, frames: Vec<Frame>, turn: Turn<'_>) -> Outcom
 }
 
 // After method calls.
-fn after_calls(receiver: Receiver, frames: Vec<Frame>, turn: Turn<'_>) -> Outcome<ExprStep>
+fn after_calls(receiver: Receiver, opened: Vec<Open>, token: Seen<'_>) -> Outcome<ExprStep>
     ensures { Makes result (machine.after_calls (expr_view receiver.first.value)
-        (map method_call_view receiver.calls.items) (frames_view frames.items) (seen turn.entry)) }
+        (map method_call_view receiver.calls.items) (opened_view opened.items) (seen token.entry)) }
 {
-    if turn.is(Punctuation::Dot) {
-        return Ok(ExprStep::Keeps(ExprState::DotRead(receiver), frames));
+    if token.is(Punctuation::Dot) {
+        return Ok(ExprStep::Keeps(ExprState::DotRead(receiver), opened));
     }
     let Receiver { first, calls } = receiver;
-    match boxed(turn.alloc, Expr::Dots { first, calls }) {
-        Ok(whole) => after(POSTFIX, whole, frames, turn),
+    match boxed(token.alloc, Expr::Dots { first, calls }) {
+        Ok(whole) => after(POSTFIX, whole, opened, token),
         Err(error) => Err(error),
     }
 }
@@ -210,35 +210,35 @@ fn after_calls(receiver: Receiver, frames: Vec<Frame>, turn: Turn<'_>) -> Outcom
 fn after_method(
     receiver: Receiver,
     method: Named,
-    frames: Vec<Frame>,
-    turn: Turn<'_>,
+    opened: Vec<Open>,
+    token: Seen<'_>,
 ) -> Outcome<ExprStep>
     ensures { Makes result (machine.expr_step (expr_state_view (MethodRead receiver method))
-        (frames_view frames.items) (seen turn.entry)) }
+        (opened_view opened.items) (seen token.entry)) }
 {
-    if turn.is(Punctuation::LeftParen) {
+    if token.is(Punctuation::LeftParen) {
         let state = ExprState::ArgsOpened(Callee::Method(receiver, method));
-        return Ok(ExprStep::Keeps(state, frames));
+        return Ok(ExprStep::Keeps(state, opened));
     }
     let Named { name, line } = method;
     let args = None;
     match receiver.with_call(DotCall { name, args, line }) {
-        Ok(receiver) => after_calls(receiver, frames, turn),
+        Ok(receiver) => after_calls(receiver, opened, token),
         Err(error) => Err(error),
     }
 }
 
 /// What the token does to an expression.
-pub fn expr_step(state: ExprState, frames: Vec<Frame>, turn: Turn<'_>) -> Outcome<ExprStep>
-    ensures { Makes result (machine.expr_step (expr_state_view state) (frames_view frames.items) (seen turn.entry)) }
+pub fn expr_step(state: ExprState, opened: Vec<Open>, token: Seen<'_>) -> Outcome<ExprStep>
+    ensures { Makes result (machine.expr_step (expr_state_view state) (opened_view opened.items) (seen token.entry)) }
 {
     match state {
-        ExprState::OperandNext => operand(frames, turn),
-        ExprState::ValueRead(precedence, expr) => after(precedence, expr, frames, turn),
-        ExprState::NameRead(name) => after_name(name, frames, turn),
-        ExprState::ArgsOpened(callee) => first_argument(callee, frames, turn),
-        ExprState::DotRead(receiver) => method_name(receiver, frames, turn),
-        ExprState::MethodRead(receiver, name) => after_method(receiver, name, frames, turn),
-        ExprState::CallsRead(receiver) => after_calls(receiver, frames, turn),
+        ExprState::OperandNext => operand(opened, token),
+        ExprState::ValueRead(precedence, expr) => after(precedence, expr, opened, token),
+        ExprState::NameRead(name) => after_name(name, opened, token),
+        ExprState::ArgsOpened(callee) => first_argument(callee, opened, token),
+        ExprState::DotRead(receiver) => method_name(receiver, opened, token),
+        ExprState::MethodRead(receiver, name) => after_method(receiver, name, opened, token),
+        ExprState::CallsRead(receiver) => after_calls(receiver, opened, token),
     }
 }

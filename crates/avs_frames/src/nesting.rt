@@ -1,20 +1,20 @@
 // How many levels of nesting are open in an expression.
 ghost use Rattle.std.specs.Prelude.{◌≡◌, ◌<◌, ◌≤◌, ◌^◌};
-ghost use Rattle.avs_tree.specs.Nesting.{frames_level, expr_level};
-ghost use Rattle.avs_frames.specs.ExprViews.{frames_view, expr_state_view};
+ghost use Rattle.avs_tree.specs.Nesting.{open_level, expr_level};
+ghost use Rattle.avs_frames.specs.ExprViews.{opened_view, expr_state_view};
 
-use crate::frame::{ExprState, Frame};
+use crate::state::{ExprState, Open};
 
-/// How many of the frames are levels.
-pub fn frames_level(frames: &[Frame]) -> usize
-    ensures level { result ≡ frames_level (frames_view frames.now) }
+/// How many levels of nesting all these open.
+pub fn open_level(opened: &[Open]) -> usize
+    ensures level { result ≡ open_level (opened_view opened.now) }
     ensures few { result < 2 ^ 63 }
 {
-    let mut open = 0;
-    for frame in frames {
-        open += frame.opens();
+    let mut levels = 0;
+    for item in opened {
+        levels += item.opens();
     }
-    open
+    levels
 }
 
 impl ExprState {

@@ -19,8 +19,9 @@ use Rattle.clip_term.specs.declared.op.TimeOp.TheVariants as t
 use Rattle.clip_graph.specs.declared.graph.TheConstants.Graph.{MAX_NODES, MAX_DEPTH}
 use Rattle.clip_graph.specs.Plan.{Application, deepest, infos_among, sources_in}
 use Rattle.mt_modes.specs.Modes.{mode_in}
-use Rattle.avs_meaning.specs.Arguments.{Reading, reading, takes, number_at, text_at, clips_among, all_fit_filters, out_of_range}
+use Rattle.avs_meaning.specs.Arguments.{Reading, takes, number_at, text_at, clips_given, all_fit_filters, out_of_range}
 use Rattle.avs_meaning.specs.Faults.{input}
+use Rattle.avs_meaning.specs.FilterRows.{reading}
 use Rattle.avs_meaning.specs.Outside.{Outside}
 use Rattle.avs_meaning.specs.State.{Run, ◌>>=◌, pure, fails}
 use Rattle.avs_meaning.specs.declared.fault.InputFault.{InputFault}
@@ -125,7 +126,7 @@ module _ (here : Text) where
   filtered outside f.BlankClip n given line =
       if all_fit_filters given.values then blank n given.values line else fails out_of_range here line
   filtered outside filter n given line =
-      applied outside.trees filter given (clips_among given.values ++ clips_among given.rest) line
+      applied outside.trees filter given (clips_given given) line
 
   -- ApplyRange shows what its function gave in a range of frames of the clip, and the clip elsewhere.
   abbrev pub ranged : ℕ → ℤ → ℤ → ℕ → Value → Run Value

@@ -1,4 +1,7 @@
 pub mod Signatures
+pub mod Compiled
+pub mod Arguments
+pub mod FilterRows
 pub mod Table
 pub mod Faults
 pub mod FaultNames
@@ -8,8 +11,6 @@ pub mod Outside
 pub mod Context
 pub mod Calls
 pub mod ClipFunctions
-pub mod Compiled
-pub mod Arguments
 pub mod Settings
 pub mod Filters
 pub mod Operators

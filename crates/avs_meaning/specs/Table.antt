@@ -9,7 +9,8 @@ use Rattle.avs_values.specs.declared.value.Kind.TheVariants as k
 use Rattle.clip_term.specs.Filters as filters
 use Rattle.clip_term.specs.declared.filter.Filter.{Filter}
 use Rattle.clip_term.specs.declared.filter.Filter.TheVariants as f
-use Rattle.avs_meaning.specs.Signatures.{one, filter_signatures, apply_range, set_mode, prefetch}
+use Rattle.avs_meaning.specs.FilterRows.{filter_signatures}
+use Rattle.avs_meaning.specs.Signatures.{one, apply_range, set_mode, prefetch}
 use Rattle.avs_meaning.specs.declared.builtin.Builtin.{Builtin}
 use Rattle.avs_meaning.specs.declared.builtin.Builtin.TheVariants as b
 use Rattle.avs_meaning.specs.declared.builtin.ClipFn.{ClipFn}

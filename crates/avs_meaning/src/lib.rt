@@ -2,7 +2,8 @@
 //!
 //! `specs/Meaning.antt` gives each script its clip, or the first fault. It goes over the tree of the script
 //! (`specs/Expressions.antt`, `specs/Statements.antt`) with a state (`specs/State.antt`). What the outside tells, texts as
-//! trees among it, is a parameter (`specs/Outside.antt`). `Table` has the built-in functions of `specs/Table.antt`.
+//! trees among it, is a parameter (`specs/Outside.antt`). `Builtin::named` finds the built-in
+//! functions of `specs/Table.antt`, and `specs/FilterRows.antt` has what each filter takes and does with it.
 #![tactic(auto)]
 
 mod builtin;
@@ -12,12 +13,9 @@ pub mod laws;
 mod state;
 mod stop;
 mod table;
-mod takes;
 
 pub use builtin::{Builtin, ClipFn};
 pub use crew::Crew;
 pub use fault::{FileKind, InputFault, ScriptKind};
 pub use state::{SourceClip, Variable};
 pub use stop::EvalError;
-pub use table::{Row, Table};
-pub use takes::signatures;

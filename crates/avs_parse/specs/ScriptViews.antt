@@ -3,7 +3,7 @@ use Rattle.std.specs.Prelude.{◌≡◌, ℕ, List, [], ◌∷◌, map, Option, 
 use Rattle.avs_tree.specs.Tree as t
 use Rattle.avs_tree.specs.View.{StatementIs, expr_view, arm_view, statement_view, function_view, script_view, arms_of, else_of, block_view}
 use Rattle.avs_tree.specs.Machine as m
-use Rattle.avs_frames.specs.ExprViews.{frames_view, expr_state_view}
+use Rattle.avs_frames.specs.ExprViews.{opened_view, expr_state_view}
 use Rattle.avs_frames.specs.declared.memory.OutOfMemory.{OutOfMemory}
 use Rattle.avs_parse.specs.declared.state.Use.{Use}
 use Rattle.avs_parse.specs.declared.state.Use.TheVariants as u
@@ -83,7 +83,7 @@ outer a f = f a.line (map statement_view a.before.items) (map function_view a.le
 
 abbrev pub statement_state_view : StatementState → m.StatementState
 statement_state_view n.StatementNext = m.statement_next
-statement_state_view (n.InExpression purpose state fs) = m.in_expression (use_view purpose) (expr_state_view state) (frames_view fs.items)
+statement_state_view (n.InExpression purpose state fs) = m.in_expression (use_view purpose) (expr_state_view state) (opened_view fs.items)
 statement_state_view (n.ParenthesisNext purpose) = m.parenthesis_next (use_view purpose)
 statement_state_view (n.BracesNext owner) = m.braces_next (owner_view owner)
 statement_state_view (n.AfterArm arms) = m.after_arm (map arm_view arms.items)

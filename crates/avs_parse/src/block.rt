@@ -6,7 +6,7 @@ ghost use Rattle.avs_parse.specs.ScriptViews.{Steps, ended_view, inner, levels_v
 
 use crate::around::{Around, Levels};
 use crate::state::{Ended, OpenFunction, Owner, ScriptStep, Signature, State, StatementState};
-use avs_frames::{Outcome, Turn, pushed};
+use avs_frames::{Outcome, Seen, pushed};
 use avs_tree::{Arm, Expr, Function, Punctuation, Statement, Symbol};
 use std::alloc::Global;
 
@@ -116,16 +116,16 @@ pub fn close_outermost(
 }
 
 /// The token after a statement: a newline, `}` or the end.
-pub fn done(around: Around, turn: Turn<'_>) -> Outcome<ScriptStep>
-    ensures { Steps result (machine.done_by (Some turn.entry.symbol)
+pub fn done(around: Around, token: Seen<'_>) -> Outcome<ScriptStep>
+    ensures { Steps result (machine.done_by (Some token.entry.symbol)
         (map statement_view around.before.items) around.line (levels_view around.levels)) }
 {
-    match turn.symbol {
+    match token.symbol {
         Symbol::Punctuation(Punctuation::Newline) => Ok(goes(
             StatementState::StatementNext,
             around,
         )),
-        Symbol::Punctuation(Punctuation::RightBrace) => around.close(turn.alloc),
+        Symbol::Punctuation(Punctuation::RightBrace) => around.close(token.alloc),
         Symbol::Punctuation(Punctuation::End) => Ok(around.end()),
         _ => Ok(refused(around)),
     }

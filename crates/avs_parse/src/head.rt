@@ -8,7 +8,7 @@ ghost use Rattle.avs_frames.specs.Seen.{seen};
 use crate::around::Around;
 use crate::block::refused;
 use crate::state::{HeadState, ScriptStep, Signature, State};
-use avs_frames::{Outcome, Turn, pushed};
+use avs_frames::{Outcome, Seen, pushed};
 use avs_tree::{Parameter, Punctuation, Symbol, TypeWord, is_name, type_word};
 use fv_io::Text;
 
@@ -20,11 +20,11 @@ fn head_goes(here: HeadState, around: Around) -> ScriptStep
 }
 
 // The name of the function.
-fn function_name(around: Around, turn: Turn<'_>) -> Outcome<ScriptStep>
-    ensures { Steps result (outer around (machine.advance_head machine.after_function) (seen turn.entry)) }
+fn function_name(around: Around, token: Seen<'_>) -> Outcome<ScriptStep>
+    ensures { Steps result (outer around (machine.advance_head machine.after_function) (seen token.entry)) }
 {
-    match turn.symbol {
-        Symbol::Name => match turn.text() {
+    match token.symbol {
+        Symbol::Name => match token.text() {
             Ok(name) => Ok(head_goes(HeadState::AfterName(name), around)),
             Err(error) => Err(error),
         },
@@ -33,21 +33,21 @@ fn function_name(around: Around, turn: Turn<'_>) -> Outcome<ScriptStep>
 }
 
 // The parenthesis after the name.
-fn parenthesis(name: Text, around: Around, turn: Turn<'_>) -> ScriptStep
-    ensures { step_view result ≡ outer around (machine.advance_head (machine.after_function_name name)) (seen turn.entry) }
+fn parenthesis(name: Text, around: Around, token: Seen<'_>) -> ScriptStep
+    ensures { step_view result ≡ outer around (machine.advance_head (machine.after_function_name name)) (seen token.entry) }
 {
-    if !turn.is(Punctuation::LeftParen) {
+    if !token.is(Punctuation::LeftParen) {
         return refused((name, around));
     }
     head_goes(HeadState::Opened(name), around)
 }
 
 // The type of a parameter.
-fn parameter_type(signature: Signature, must: bool, around: Around, turn: Turn<'_>) -> ScriptStep
-    ensures { step_view result ≡ outer around (machine.type_by (Some turn.entry.symbol)
-        (type_word_of turn.entry.content.now) signature.name signature.params.items must) }
+fn parameter_type(signature: Signature, must: bool, around: Around, token: Seen<'_>) -> ScriptStep
+    ensures { step_view result ≡ outer around (machine.type_by (Some token.entry.symbol)
+        (type_word_of token.entry.content.now) signature.name signature.params.items must) }
 {
-    match (turn.symbol, type_word(turn.content)) {
+    match (token.symbol, type_word(token.content)) {
         (Symbol::Name, Some(word)) => head_goes(
             HeadState::AfterType(signature, must, word),
             around,
@@ -57,15 +57,15 @@ fn parameter_type(signature: Signature, must: bool, around: Around, turn: Turn<'
 }
 
 // After the left parenthesis: a right one, or the first parameter.
-fn first_parameter(name: Text, around: Around, turn: Turn<'_>) -> ScriptStep
-    ensures { step_view result ≡ outer around (machine.advance_head (machine.head_opened name)) (seen turn.entry) }
+fn first_parameter(name: Text, around: Around, token: Seen<'_>) -> ScriptStep
+    ensures { step_view result ≡ outer around (machine.advance_head (machine.head_opened name)) (seen token.entry) }
 {
-    let params = Vec::new(turn.alloc);
+    let params = Vec::new(token.alloc);
     let signature = Signature { name, params };
-    if turn.is(Punctuation::RightParen) {
+    if token.is(Punctuation::RightParen) {
         return head_goes(HeadState::BracesNext(signature), around);
     }
-    parameter_type(signature, false, around, turn)
+    parameter_type(signature, false, around, token)
 }
 
 // The function with one more parameter.
@@ -73,14 +73,14 @@ fn with_parameter(
     signature: Signature,
     word: TypeWord,
     optional: bool,
-    turn: Turn<'_>,
+    token: Seen<'_>,
 ) -> Outcome<Signature>
     ensures name { IfOk result (λ made. made.name ≡ signature.name) }
     ensures params { IfOk result (λ made. made.params.items
-        ≡ machine.with_parameter signature.params.items word optional turn.entry.content.now) }
+        ≡ machine.with_parameter signature.params.items word optional token.entry.content.now) }
 {
     let parameter = Parameter {
-        name: turn.text()?,
+        name: token.text()?,
         word,
         optional,
     };
@@ -95,12 +95,12 @@ fn parameter(
     word: TypeWord,
     optional: bool,
     around: Around,
-    turn: Turn<'_>,
+    token: Seen<'_>,
 ) -> Outcome<ScriptStep>
     ensures { Steps result (machine.goes (outer around (machine.at_head (machine.after_parameter signature.name
-        (machine.with_parameter signature.params.items word optional turn.entry.content.now) optional)))) }
+        (machine.with_parameter signature.params.items word optional token.entry.content.now) optional)))) }
 {
-    match with_parameter(signature, word, optional, turn) {
+    match with_parameter(signature, word, optional, token) {
         Ok(signature) => Ok(head_goes(HeadState::AfterParameter(signature, optional), around)),
         Err(error) => Err(error),
     }
@@ -112,63 +112,63 @@ fn parameter_name(
     must: bool,
     word: TypeWord,
     around: Around,
-    turn: Turn<'_>,
+    token: Seen<'_>,
 ) -> Outcome<ScriptStep>
-    ensures { Steps result (outer around (machine.parameter_by (Some turn.entry.symbol) turn.entry.content.now
+    ensures { Steps result (outer around (machine.parameter_by (Some token.entry.symbol) token.entry.content.now
         signature.name signature.params.items must word)) }
 {
-    match turn.symbol {
-        Symbol::Name if !must => parameter(signature, word, false, around, turn),
-        Symbol::Str if is_name(turn.content) => parameter(signature, word, true, around, turn),
+    match token.symbol {
+        Symbol::Name if !must => parameter(signature, word, false, around, token),
+        Symbol::Str if is_name(token.content) => parameter(signature, word, true, around, token),
         _ => Ok(refused((signature, around))),
     }
 }
 
 // After a parameter: a comma or the right parenthesis.
-fn after_parameter(signature: Signature, must: bool, around: Around, turn: Turn<'_>) -> ScriptStep
+fn after_parameter(signature: Signature, must: bool, around: Around, token: Seen<'_>) -> ScriptStep
     ensures { step_view result ≡ outer around
-        (machine.advance_head (machine.after_parameter signature.name signature.params.items must)) (seen turn.entry) }
+        (machine.advance_head (machine.after_parameter signature.name signature.params.items must)) (seen token.entry) }
 {
-    if turn.is(Punctuation::Comma) {
+    if token.is(Punctuation::Comma) {
         return head_goes(HeadState::ParameterNext(signature, must), around);
     }
-    if turn.is(Punctuation::RightParen) {
+    if token.is(Punctuation::RightParen) {
         return head_goes(HeadState::BracesNext(signature), around);
     }
     refused((signature, around))
 }
 
 // Newlines and the left brace.
-fn body(signature: Signature, around: Around, turn: Turn<'_>) -> ScriptStep
+fn body(signature: Signature, around: Around, token: Seen<'_>) -> ScriptStep
     ensures { step_view result ≡ outer around
-        (machine.function_body_by (Some turn.entry.symbol) signature.name signature.params.items) }
+        (machine.function_body_by (Some token.entry.symbol) signature.name signature.params.items) }
 {
-    match turn.symbol {
+    match token.symbol {
         Symbol::Punctuation(Punctuation::Newline) => {
             head_goes(HeadState::BracesNext(signature), around)
         }
-        Symbol::Punctuation(Punctuation::LeftBrace) => around.open_function(turn.alloc, signature),
+        Symbol::Punctuation(Punctuation::LeftBrace) => around.open_function(token.alloc, signature),
         _ => refused((signature, around)),
     }
 }
 
 /// What the token does to the head of a function.
-pub fn advance_head(here: HeadState, around: Around, turn: Turn<'_>) -> Outcome<ScriptStep>
-    ensures { Steps result (outer around (machine.advance_head (head_state_view here)) (seen turn.entry)) }
+pub fn advance_head(here: HeadState, around: Around, token: Seen<'_>) -> Outcome<ScriptStep>
+    ensures { Steps result (outer around (machine.advance_head (head_state_view here)) (seen token.entry)) }
 {
     match here {
-        HeadState::AfterFunction => function_name(around, turn),
-        HeadState::AfterName(name) => Ok(parenthesis(name, around, turn)),
-        HeadState::Opened(name) => Ok(first_parameter(name, around, turn)),
+        HeadState::AfterFunction => function_name(around, token),
+        HeadState::AfterName(name) => Ok(parenthesis(name, around, token)),
+        HeadState::Opened(name) => Ok(first_parameter(name, around, token)),
         HeadState::AfterType(signature, must, word) => {
-            parameter_name(signature, must, word, around, turn)
+            parameter_name(signature, must, word, around, token)
         }
         HeadState::AfterParameter(signature, must) => {
-            Ok(after_parameter(signature, must, around, turn))
+            Ok(after_parameter(signature, must, around, token))
         }
         HeadState::ParameterNext(signature, must) => {
-            Ok(parameter_type(signature, must, around, turn))
+            Ok(parameter_type(signature, must, around, token))
         }
-        HeadState::BracesNext(signature) => Ok(body(signature, around, turn)),
+        HeadState::BracesNext(signature) => Ok(body(signature, around, token)),
     }
 }

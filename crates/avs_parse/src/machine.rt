@@ -13,7 +13,7 @@ use crate::around::{Around, Levels};
 use crate::head::advance_head;
 use crate::state::{ScriptStep, State, StatementState};
 use crate::statement::advance_statement;
-use avs_frames::{Outcome, Turn};
+use avs_frames::{Outcome, Seen};
 use avs_lex::Token;
 use avs_tree::Script;
 use std::alloc::Global;
@@ -46,12 +46,12 @@ fn start(alloc: Global) -> State
 }
 
 // One token.
-fn advance(state: State, turn: Turn<'_>) -> Outcome<ScriptStep>
-    ensures { Steps result (machine.advance (state_view state) (seen turn.entry)) }
+fn advance(state: State, token: Seen<'_>) -> Outcome<ScriptStep>
+    ensures { Steps result (machine.advance (state_view state) (seen token.entry)) }
 {
     match state {
-        State::Statement(here, around) => advance_statement(here, around, turn),
-        State::Head(here, around) => advance_head(here, around, turn),
+        State::Statement(here, around) => advance_statement(here, around, token),
+        State::Head(here, around) => advance_head(here, around, token),
     }
 }
 
@@ -75,7 +75,7 @@ pub fn run(alloc: Global, text: &str, tokens: &[Token]) -> Outcome<Verdict>
     let mut state = start(alloc);
     let mut rest = tokens;
     while let [token, after @ ..] = rest {
-        let step = match advance(state, Turn::new(alloc, text, token)) {
+        let step = match advance(state, Seen::new(alloc, text, token)) {
             Ok(step) => step,
             Err(error) => return Err(error),
         };

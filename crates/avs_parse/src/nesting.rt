@@ -6,7 +6,7 @@ ghost use Rattle.avs_parse.specs.ScriptViews.{levels_view, statement_state_view,
 
 use crate::around::Levels;
 use crate::state::{HeadState, State, StatementState, Use};
-use avs_frames::frames_level;
+use avs_frames::open_level;
 
 impl Levels {
     /// How many braces are open.
@@ -41,8 +41,8 @@ impl StatementState {
         ensures { result ≡ statement_level (statement_state_view self.now) }
     {
         match self {
-            StatementState::InExpression(purpose, state, frames) => {
-                purpose.level() + (state.level() + frames_level(frames))
+            StatementState::InExpression(purpose, state, opened) => {
+                purpose.level() + (state.level() + open_level(opened))
             }
             StatementState::ForOpened | StatementState::AfterForName(_) => 1,
             _ => 0,

@@ -1,6 +1,6 @@
 // What was read of a script: what is open in it, and the parts of its tree so far.
 use crate::around::Around;
-use avs_frames::{ExprState, Frame};
+use avs_frames::{ExprState, Open};
 use avs_tree::{Arm, Expr, Parameter, Script, Statement, TypeWord};
 use fv_io::Text;
 
@@ -88,7 +88,7 @@ pub enum StatementState {
     /// A whole statement or nothing: a statement or newlines come next.
     StatementNext,
     /// A part of an expression.
-    InExpression(Use, ExprState, Vec<Frame>),
+    InExpression(Use, ExprState, Vec<Open>),
     /// `if`, `else if` or `while`: a parenthesis comes next.
     ParenthesisNext(Use),
     /// What braces belong to: newlines and a left brace come next.

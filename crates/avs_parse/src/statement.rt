@@ -5,46 +5,46 @@ ghost use Rattle.avs_tree.specs.declared.symbol.Punctuation.TheVariants.{RightPa
 ghost use Rattle.avs_tree.specs.Next.{is_punctuation};
 ghost use Rattle.avs_tree.specs.ExprMachine as expr;
 ghost use Rattle.avs_tree.specs.Machine as machine;
-ghost use Rattle.avs_frames.specs.ExprViews.{expr_state_view, frames_view};
+ghost use Rattle.avs_frames.specs.ExprViews.{expr_state_view, opened_view};
 ghost use Rattle.avs_parse.specs.ScriptViews.{Steps, ended_view, inner, levels_view, owner_view, statement_state_view, step_view, use_view};
 ghost use Rattle.avs_frames.specs.Seen.{seen};
 
 use crate::around::Around;
 use crate::block::{done, goes, refused};
 use crate::state::{Ended, ForHead, HeadState, Owner, ScriptStep, State, StatementState, Use};
-use avs_frames::{ExprState, ExprStep, Frame, Outcome, Turn, expr_step, operand};
+use avs_frames::{ExprState, ExprStep, Open, Outcome, Seen, expr_step, operand};
 use avs_tree::{Arm, Expr, Keyword, Punctuation, Symbol};
 use fv_io::Text;
 use std::alloc::Global;
 
 // An expression comes next, for this.
-#[tactic(auto, using(avs_frames::proofs::FrameLemmas::of_frames))]
+#[tactic(auto, using(avs_frames::proofs::OpenLemmas::of_opened))]
 fn expression_next(alloc: Global, purpose: Use, around: Around) -> ScriptStep
     ensures { step_view result ≡ machine.goes
         (inner around (machine.at (machine.in_expression (use_view purpose) expr.operand_next []))) }
 {
-    let frames = Vec::new(alloc);
-    let here = StatementState::InExpression(purpose, ExprState::OperandNext, frames);
+    let opened = Vec::new(alloc);
+    let here = StatementState::InExpression(purpose, ExprState::OperandNext, opened);
     goes(here, around)
 }
 
 // The token has to be this punctuation, and then an expression comes next.
-fn expression_after(mark: Punctuation, purpose: Use, around: Around, turn: Turn<'_>) -> ScriptStep
-    ensures { step_view result ≡ (if is_punctuation mark (seen turn.entry) then machine.goes
+fn expression_after(mark: Punctuation, purpose: Use, around: Around, token: Seen<'_>) -> ScriptStep
+    ensures { step_view result ≡ (if is_punctuation mark (seen token.entry) then machine.goes
         (inner around (machine.at (machine.in_expression (use_view purpose) expr.operand_next []))) else machine.stuck) }
 {
-    if !turn.is(mark) {
+    if !token.is(mark) {
         return refused((purpose, around));
     }
-    expression_next(turn.alloc, purpose, around)
+    expression_next(token.alloc, purpose, around)
 }
 
 // The right parenthesis before braces.
-fn braces_after(owner: Owner, around: Around, turn: Turn<'_>) -> ScriptStep
-    ensures { step_view result ≡ (if is_punctuation RightParen (seen turn.entry)
+fn braces_after(owner: Owner, around: Around, token: Seen<'_>) -> ScriptStep
+    ensures { step_view result ≡ (if is_punctuation RightParen (seen token.entry)
         then machine.goes (inner around (machine.at (machine.braces_next (owner_view owner)))) else machine.stuck) }
 {
-    if !turn.is(Punctuation::RightParen) {
+    if !token.is(Punctuation::RightParen) {
         return refused((owner, around));
     }
     goes(StatementState::BracesNext(owner), around)
@@ -64,13 +64,13 @@ fn function(around: Around) -> ScriptStep
 }
 
 // The first token of an expression that is a statement, or of the name before `=`.
-#[tactic(auto, using(avs_frames::proofs::FrameLemmas::frames_none))]
-fn value(around: Around, turn: Turn<'_>) -> Outcome<ScriptStep>
-    ensures { Steps result (inner around (machine.in_statement (expr.operand [] (seen turn.entry)) machine.to_value)) }
+#[tactic(auto, using(avs_frames::proofs::OpenLemmas::opened_none))]
+fn value(around: Around, token: Seen<'_>) -> Outcome<ScriptStep>
+    ensures { Steps result (inner around (machine.in_statement (expr.operand [] (seen token.entry)) machine.to_value)) }
 {
-    match operand(Vec::new(turn.alloc), turn) {
-        Ok(ExprStep::Keeps(state, frames)) => {
-            let here = StatementState::InExpression(Use::Value, state, frames);
+    match operand(Vec::new(token.alloc), token) {
+        Ok(ExprStep::Keeps(state, opened)) => {
+            let here = StatementState::InExpression(Use::Value, state, opened);
             Ok(goes(here, around))
         }
         Ok(ExprStep::Refused) => Ok(refused(around)),
@@ -80,13 +80,13 @@ fn value(around: Around, turn: Turn<'_>) -> Outcome<ScriptStep>
 }
 
 // The first token of a statement.
-fn statement(mut around: Around, turn: Turn<'_>) -> Outcome<ScriptStep>
-    ensures { Steps result (machine.items_by (Some turn.entry.symbol) (expr.operand [] (seen turn.entry))
-        turn.entry.line (map statement_view around.before.items) (levels_view around.levels)) }
+fn statement(mut around: Around, token: Seen<'_>) -> Outcome<ScriptStep>
+    ensures { Steps result (machine.items_by (Some token.entry.symbol) (expr.operand [] (seen token.entry))
+        token.entry.line (map statement_view around.before.items) (levels_view around.levels)) }
 {
-    let alloc = turn.alloc;
-    around.line = turn.line;
-    match turn.symbol {
+    let alloc = token.alloc;
+    around.line = token.line;
+    match token.symbol {
         Symbol::Punctuation(Punctuation::Newline) => Ok(goes(
             StatementState::StatementNext,
             around,
@@ -104,33 +104,33 @@ fn statement(mut around: Around, turn: Turn<'_>) -> Outcome<ScriptStep>
         Symbol::Keyword(Keyword::For) => Ok(goes(StatementState::AfterFor, around)),
         Symbol::Keyword(Keyword::Return) => Ok(expression_next(alloc, Use::Return, around)),
         Symbol::Keyword(Keyword::Global) => Ok(goes(StatementState::AfterGlobal, around)),
-        _ => value(around, turn),
+        _ => value(around, token),
     }
 }
 
 // ---- after an expression
 
 // After the last expression of a statement.
-fn finish(ended: Ended, around: Around, turn: Turn<'_>) -> Outcome<ScriptStep>
-    ensures { Steps result (machine.done_by (Some turn.entry.symbol)
+fn finish(ended: Ended, around: Around, token: Seen<'_>) -> Outcome<ScriptStep>
+    ensures { Steps result (machine.done_by (Some token.entry.symbol)
         (map statement_view around.before.items ++ (ended_view ended, around.line) ∷ [])
         around.line (levels_view around.levels)) }
 {
     match around.after(ended) {
-        Ok(around) => done(around, turn),
+        Ok(around) => done(around, token),
         Err(error) => Err(error),
     }
 }
 
 // After an expression that is a statement, unless it is the name before `=`.
-fn after_value(expr: Box<Expr>, around: Around, turn: Turn<'_>) -> Outcome<ScriptStep>
-    ensures { Steps result (inner around (machine.used machine.to_value (expr_view expr.value)) (seen turn.entry)) }
+fn after_value(expr: Box<Expr>, around: Around, token: Seen<'_>) -> Outcome<ScriptStep>
+    ensures { Steps result (inner around (machine.used machine.to_value (expr_view expr.value)) (seen token.entry)) }
 {
-    if !turn.is(Punctuation::Assign) {
-        return finish(Ended::Value(expr), around, turn);
+    if !token.is(Punctuation::Assign) {
+        return finish(Ended::Value(expr), around, token);
     }
     match Box::into_inner(expr) {
-        Expr::Name { name, line: _ } => Ok(expression_next(turn.alloc, Use::Assign(name), around)),
+        Expr::Name { name, line: _ } => Ok(expression_next(token.alloc, Use::Assign(name), around)),
         other => Ok(refused((other, around))),
     }
 }
@@ -141,13 +141,13 @@ fn after_last(
     first: Box<Expr>,
     last: Box<Expr>,
     around: Around,
-    turn: Turn<'_>,
+    token: Seen<'_>,
 ) -> ScriptStep
     ensures { step_view result
-        ≡ inner around (machine.used (machine.to_last name (expr_view first.value)) (expr_view last.value)) (seen turn.entry) }
+        ≡ inner around (machine.used (machine.to_last name (expr_view first.value)) (expr_view last.value)) (seen token.entry) }
 {
-    if turn.is(Punctuation::Comma) {
-        return expression_next(turn.alloc, Use::Step(name, first, last), around);
+    if token.is(Punctuation::Comma) {
+        return expression_next(token.alloc, Use::Step(name, first, last), around);
     }
     let head = ForHead {
         name,
@@ -155,7 +155,7 @@ fn after_last(
         last,
         step: None,
     };
-    braces_after(Owner::For(head), around, turn)
+    braces_after(Owner::For(head), around, token)
 }
 
 // After a whole expression.
@@ -163,22 +163,22 @@ fn after_expression(
     purpose: Use,
     value: Box<Expr>,
     around: Around,
-    turn: Turn<'_>,
+    token: Seen<'_>,
 ) -> Outcome<ScriptStep>
-    ensures { Steps result (inner around (machine.used (use_view purpose) (expr_view value.value)) (seen turn.entry)) }
+    ensures { Steps result (inner around (machine.used (use_view purpose) (expr_view value.value)) (seen token.entry)) }
 {
     match purpose {
-        Use::Value => after_value(value, around, turn),
-        Use::Global(name) => finish(Ended::Global(name, value), around, turn),
-        Use::Assign(name) => finish(Ended::Assign(name, value), around, turn),
-        Use::Return => finish(Ended::Return(value), around, turn),
-        Use::Arm(arms) => Ok(braces_after(Owner::Arm(arms, value), around, turn)),
-        Use::While => Ok(braces_after(Owner::While(value), around, turn)),
+        Use::Value => after_value(value, around, token),
+        Use::Global(name) => finish(Ended::Global(name, value), around, token),
+        Use::Assign(name) => finish(Ended::Assign(name, value), around, token),
+        Use::Return => finish(Ended::Return(value), around, token),
+        Use::Arm(arms) => Ok(braces_after(Owner::Arm(arms, value), around, token)),
+        Use::While => Ok(braces_after(Owner::While(value), around, token)),
         Use::First(name) => {
             let purpose = Use::Last(name, value);
-            Ok(expression_after(Punctuation::Comma, purpose, around, turn))
+            Ok(expression_after(Punctuation::Comma, purpose, around, token))
         }
-        Use::Last(name, first) => Ok(after_last(name, first, value, around, turn)),
+        Use::Last(name, first) => Ok(after_last(name, first, value, around, token)),
         Use::Step(name, first, last) => {
             let step = Some(value);
             let head = ForHead {
@@ -187,7 +187,7 @@ fn after_expression(
                 last,
                 step,
             };
-            Ok(braces_after(Owner::For(head), around, turn))
+            Ok(braces_after(Owner::For(head), around, token))
         }
     }
 }
@@ -196,20 +196,20 @@ fn after_expression(
 fn in_expression(
     purpose: Use,
     state: ExprState,
-    frames: Vec<Frame>,
+    opened: Vec<Open>,
     around: Around,
-    turn: Turn<'_>,
+    token: Seen<'_>,
 ) -> Outcome<ScriptStep>
     ensures { Steps result (inner around (machine.advance_statement
-        (machine.in_expression (use_view purpose) (expr_state_view state) (frames_view frames.items))) (seen turn.entry)) }
+        (machine.in_expression (use_view purpose) (expr_state_view state) (opened_view opened.items))) (seen token.entry)) }
 {
-    match expr_step(state, frames, turn) {
+    match expr_step(state, opened, token) {
         Ok(ExprStep::Refused) => Ok(refused((purpose, around))),
-        Ok(ExprStep::Keeps(state, frames)) => {
-            let here = StatementState::InExpression(purpose, state, frames);
+        Ok(ExprStep::Keeps(state, opened)) => {
+            let here = StatementState::InExpression(purpose, state, opened);
             Ok(goes(here, around))
         }
-        Ok(ExprStep::Leaves(expr)) => after_expression(purpose, expr, around, turn),
+        Ok(ExprStep::Leaves(expr)) => after_expression(purpose, expr, around, token),
         Err(error) => {
             // Dropped in place, each of its parts would be a step of this proof.
             drop(purpose);
@@ -221,56 +221,56 @@ fn in_expression(
 // ---- braces
 
 // Newlines and the left brace of a statement.
-fn body(owner: Owner, around: Around, turn: Turn<'_>) -> Outcome<ScriptStep>
-    ensures { Steps result (inner around (machine.body_by (Some turn.entry.symbol) (owner_view owner))) }
+fn body(owner: Owner, around: Around, token: Seen<'_>) -> Outcome<ScriptStep>
+    ensures { Steps result (inner around (machine.body_by (Some token.entry.symbol) (owner_view owner))) }
 {
-    match turn.symbol {
+    match token.symbol {
         Symbol::Punctuation(Punctuation::Newline) => {
             Ok(goes(StatementState::BracesNext(owner), around))
         }
-        Symbol::Punctuation(Punctuation::LeftBrace) => around.open(turn.alloc, owner),
+        Symbol::Punctuation(Punctuation::LeftBrace) => around.open(token.alloc, owner),
         _ => Ok(refused((owner, around))),
     }
 }
 
 // After an arm: newlines, `else`, or the next statement.
-fn after_arm(arms: Vec<Arm>, around: Around, turn: Turn<'_>) -> Outcome<ScriptStep>
-    ensures { Steps result (inner around (machine.arms_by (Some turn.entry.symbol)
-        (expr.operand [] (seen turn.entry)) turn.entry.line (map arm_view arms.items))) }
+fn after_arm(arms: Vec<Arm>, around: Around, token: Seen<'_>) -> Outcome<ScriptStep>
+    ensures { Steps result (inner around (machine.arms_by (Some token.entry.symbol)
+        (expr.operand [] (seen token.entry)) token.entry.line (map arm_view arms.items))) }
 {
-    match turn.symbol {
+    match token.symbol {
         Symbol::Punctuation(Punctuation::Newline) => Ok(goes(
             StatementState::AfterArm(arms),
             around,
         )),
         Symbol::Keyword(Keyword::Else) => Ok(goes(StatementState::AfterElse(arms), around)),
         _ => match around.after(Ended::If(arms, None)) {
-            Ok(around) => statement(around, turn),
+            Ok(around) => statement(around, token),
             Err(error) => Err(error),
         },
     }
 }
 
 // After `else`.
-fn after_else(arms: Vec<Arm>, around: Around, turn: Turn<'_>) -> Outcome<ScriptStep>
-    ensures { Steps result (inner around (machine.other_by (Some turn.entry.symbol) (map arm_view arms.items))) }
+fn after_else(arms: Vec<Arm>, around: Around, token: Seen<'_>) -> Outcome<ScriptStep>
+    ensures { Steps result (inner around (machine.other_by (Some token.entry.symbol) (map arm_view arms.items))) }
 {
-    match turn.symbol {
+    match token.symbol {
         Symbol::Keyword(Keyword::If) => {
             Ok(goes(StatementState::ParenthesisNext(Use::Arm(arms)), around))
         }
-        _ => body(Owner::Else(arms), around, turn),
+        _ => body(Owner::Else(arms), around, token),
     }
 }
 
 // ---- one token
 
 // The name after `global`.
-fn global_name(around: Around, turn: Turn<'_>) -> Outcome<ScriptStep>
-    ensures { Steps result (inner around (machine.advance_statement machine.after_global) (seen turn.entry)) }
+fn global_name(around: Around, token: Seen<'_>) -> Outcome<ScriptStep>
+    ensures { Steps result (inner around (machine.advance_statement machine.after_global) (seen token.entry)) }
 {
-    match turn.symbol {
-        Symbol::Name => match turn.text() {
+    match token.symbol {
+        Symbol::Name => match token.text() {
             Ok(name) => Ok(goes(StatementState::AfterGlobalName(name), around)),
             Err(error) => Err(error),
         },
@@ -279,11 +279,11 @@ fn global_name(around: Around, turn: Turn<'_>) -> Outcome<ScriptStep>
 }
 
 // The name after `for (`.
-fn for_name(around: Around, turn: Turn<'_>) -> Outcome<ScriptStep>
-    ensures { Steps result (inner around (machine.advance_statement machine.for_opened) (seen turn.entry)) }
+fn for_name(around: Around, token: Seen<'_>) -> Outcome<ScriptStep>
+    ensures { Steps result (inner around (machine.advance_statement machine.for_opened) (seen token.entry)) }
 {
-    match turn.symbol {
-        Symbol::Name => match turn.text() {
+    match token.symbol {
+        Symbol::Name => match token.text() {
             Ok(name) => Ok(goes(StatementState::AfterForName(name), around)),
             Err(error) => Err(error),
         },
@@ -292,10 +292,10 @@ fn for_name(around: Around, turn: Turn<'_>) -> Outcome<ScriptStep>
 }
 
 // The parenthesis after `for`.
-fn for_parenthesis(around: Around, turn: Turn<'_>) -> ScriptStep
-    ensures { step_view result ≡ inner around (machine.advance_statement machine.after_for) (seen turn.entry) }
+fn for_parenthesis(around: Around, token: Seen<'_>) -> ScriptStep
+    ensures { step_view result ≡ inner around (machine.advance_statement machine.after_for) (seen token.entry) }
 {
-    if !turn.is(Punctuation::LeftParen) {
+    if !token.is(Punctuation::LeftParen) {
         return refused(around);
     }
     goes(StatementState::ForOpened, around)
@@ -305,29 +305,29 @@ fn for_parenthesis(around: Around, turn: Turn<'_>) -> ScriptStep
 pub fn advance_statement(
     here: StatementState,
     around: Around,
-    turn: Turn<'_>,
+    token: Seen<'_>,
 ) -> Outcome<ScriptStep>
-    ensures { Steps result (inner around (machine.advance_statement (statement_state_view here)) (seen turn.entry)) }
+    ensures { Steps result (inner around (machine.advance_statement (statement_state_view here)) (seen token.entry)) }
 {
     match here {
-        StatementState::StatementNext => statement(around, turn),
-        StatementState::InExpression(purpose, state, frames) => {
-            in_expression(purpose, state, frames, around, turn)
+        StatementState::StatementNext => statement(around, token),
+        StatementState::InExpression(purpose, state, opened) => {
+            in_expression(purpose, state, opened, around, token)
         }
         StatementState::ParenthesisNext(purpose) => {
-            Ok(expression_after(Punctuation::LeftParen, purpose, around, turn))
+            Ok(expression_after(Punctuation::LeftParen, purpose, around, token))
         }
-        StatementState::BracesNext(owner) => body(owner, around, turn),
-        StatementState::AfterArm(arms) => after_arm(arms, around, turn),
-        StatementState::AfterElse(arms) => after_else(arms, around, turn),
-        StatementState::AfterGlobal => global_name(around, turn),
+        StatementState::BracesNext(owner) => body(owner, around, token),
+        StatementState::AfterArm(arms) => after_arm(arms, around, token),
+        StatementState::AfterElse(arms) => after_else(arms, around, token),
+        StatementState::AfterGlobal => global_name(around, token),
         StatementState::AfterGlobalName(name) => {
-            Ok(expression_after(Punctuation::Assign, Use::Global(name), around, turn))
+            Ok(expression_after(Punctuation::Assign, Use::Global(name), around, token))
         }
-        StatementState::AfterFor => Ok(for_parenthesis(around, turn)),
-        StatementState::ForOpened => for_name(around, turn),
+        StatementState::AfterFor => Ok(for_parenthesis(around, token)),
+        StatementState::ForOpened => for_name(around, token),
         StatementState::AfterForName(name) => {
-            Ok(expression_after(Punctuation::Assign, Use::First(name), around, turn))
+            Ok(expression_after(Punctuation::Assign, Use::First(name), around, token))
         }
     }
 }

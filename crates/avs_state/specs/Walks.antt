@@ -1,10 +1,12 @@
 -- What the parts of a run ensure, over any host.
-use Rattle.std.specs.Prelude.{◌≡◌, ℕ, ◌+◌, ℤ, pos, ◌-ℤ◌, ◌≤◌, length, Option, Some, None, IfNone, Result, Ok, Err}
+use Rattle.std.specs.Prelude.{◌≡◌, ℕ, ◌+◌, ℤ, pos, ◌-ℤ◌, ◌≤◌, length, Option, Some, None, IfNone, Result, Ok, Err, OnOk}
 use Rattle.fv_io.specs.Faults.{HasRisen}
+use Rattle.avs_meaning.specs.State.{Run}
 use Rattle.avs_meaning.specs.declared.stop.EvalError.{EvalError}
 use Rattle.avs_meaning.specs.declared.stop.EvalError.TheVariants as e
+use Rattle.avs_state.specs.Answers.{Gives}
 use Rattle.avs_state.specs.Sources.{sources_of}
-use Rattle.avs_state.specs.States.{state_of}
+use Rattle.avs_state.specs.States.{state_of, AsksNothing}
 use Rattle.avs_state.specs.declared.host.Host as host
 use Rattle.avs_state.specs.declared.machine.Machine.{Machine}
 
@@ -34,3 +36,12 @@ pub record Keeps {H : Type 0} (h : host.Ghosts H) (old : Machine) (before : H) (
   pub more : h.fetched before ≤ h.fetched now
   pub faults : Counts ended (h.faults before) (h.faults now)
   pub fetched : IfNone ended (unasked h new now ≡ unasked h old before)
+
+-- ---- with nothing asked of the outside
+
+-- A part of a run answers what the definition gives in its state. It asks nothing of the outside and adds no source.
+pub record Runs {X Y : Type 0} (view : X → Y) (run : Run Y) (old : Machine) (result : Result X EvalError) (new : Machine)
+    : Type 0 where
+  pub gives : Gives view (run (state_of old)) result (state_of new)
+  pub asks : AsksNothing old new
+  pub sources : OnOk result (sources_of (state_of new).plan ≡ sources_of (state_of old).plan)

@@ -2,6 +2,7 @@
 ghost use Rattle.avs_meaning.specs.Operators as m;
 ghost use Rattle.avs_state.specs.Answers.{Answers};
 
+use crate::At;
 use crate::fault::fault_at;
 use avs_meaning::{EvalError, ScriptKind};
 use avs_values::Value;
@@ -9,11 +10,11 @@ use fv_io::Text;
 use std::alloc::Global;
 
 /// Whether a condition, or an operand of `&&` or `||`, holds.
-pub fn truth(alloc: Global, value: &Value, script_name: &Text, line: u32) -> Result<bool, EvalError>
-    ensures { Answers (λ holds. holds) (m.truth script_name.now line value.now) result }
+pub fn truth(alloc: Global, value: &Value, at: At<'_>) -> Result<bool, EvalError>
+    ensures { Answers (λ holds. holds) (m.truth at.entry.name.now at.entry.line value.now) result }
 {
     match value {
         Value::Bool(holds) => Ok(*holds),
-        _ => Err(fault_at(alloc, ScriptKind::TypeFault, script_name, line)),
+        _ => Err(fault_at(alloc, ScriptKind::TypeFault, at)),
     }
 }

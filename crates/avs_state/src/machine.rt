@@ -14,10 +14,11 @@ ghost use Rattle.avs_meaning.specs.Settings as w;
 ghost use Rattle.avs_meaning.specs.State as d;
 ghost use Rattle.avs_state.specs.Answers.{Gives};
 ghost use Rattle.avs_state.specs.Sources.{source_of, sources_of, Lists};
+ghost use Rattle.avs_state.specs.Walks.{Runs};
 ghost use Rattle.avs_state.specs.States.{state_of, defined_view, AsksNothing};
 
 use crate::variables::{set_in, value_in};
-use crate::{ByName, Definition, fault_at};
+use crate::{At, ByName, Definition, fault_at};
 use avs_meaning::{Crew, EvalError, ScriptKind, SourceClip, Variable};
 use avs_tree::Function;
 use avs_values::Value;
@@ -108,15 +109,13 @@ impl Machine {
         self.units
     }
 
-    /// Pays a unit for a statement or a turn at a line of the text of this name.
+    /// Pays a unit for a statement or a turn at a line.
     #[tactic(auto, unfolding(crate::specs::States::state_of))]
-    pub fn spend(&mut self, alloc: Global, script_name: &Text, line: u32) -> Result<(), EvalError>
-        ensures gives { Gives (λ u. u) (d.spend script_name.now line (state_of self.old)) result (state_of self.new) }
-        ensures asks { AsksNothing self.old self.new }
-        ensures sources { OnOk result (sources_of (state_of self.new).plan ≡ sources_of (state_of self.old).plan) }
+    pub fn spend(&mut self, alloc: Global, at: At<'_>) -> Result<(), EvalError>
+        ensures { Runs (λ u. u) (d.spend at.entry.name.now at.entry.line) self.old result self.new }
     {
         if self.units == 0 {
-            return Err(fault_at(alloc, ScriptKind::StepLimit, script_name, line));
+            return Err(fault_at(alloc, ScriptKind::StepLimit, at));
         }
         self.units -= 1;
         Ok(())
@@ -168,9 +167,7 @@ impl Machine {
     /// Sets a variable of the function that runs.
     #[tactic(auto, unfolding(crate::specs::States::state_of))]
     pub fn set(&mut self, alloc: Global, name: &Text, value: Value) -> Result<(), EvalError>
-        ensures gives { Gives (λ u. u) (d.set name.now value (state_of self.old)) result (state_of self.new) }
-        ensures asks { AsksNothing self.old self.new }
-        ensures sources { OnOk result (sources_of (state_of self.new).plan ≡ sources_of (state_of self.old).plan) }
+        ensures { Runs (λ u. u) (d.set name.now value) self.old result self.new }
     {
         set_in(alloc, &mut self.env, name, value)?;
         Ok(())
@@ -179,9 +176,7 @@ impl Machine {
     /// Sets a global variable.
     #[tactic(auto, unfolding(crate::specs::States::state_of))]
     pub fn set_global(&mut self, alloc: Global, name: &Text, value: Value) -> Result<(), EvalError>
-        ensures gives { Gives (λ u. u) (d.set_global name.now value (state_of self.old)) result (state_of self.new) }
-        ensures asks { AsksNothing self.old self.new }
-        ensures sources { OnOk result (sources_of (state_of self.new).plan ≡ sources_of (state_of self.old).plan) }
+        ensures { Runs (λ u. u) (d.set_global name.now value) self.old result self.new }
     {
         set_in(alloc, &mut self.globals, name, value)?;
         Ok(())
@@ -216,15 +211,19 @@ impl Machine {
         function: Function,
         script_name: &Text,
     ) -> Result<(), EvalError>
-        ensures gives { Gives (λ u. u) (d.define (function_view function) script_name.now (state_of self.old)) result
-            (state_of self.new) }
-        ensures asks { AsksNothing self.old self.new }
-        ensures sources { OnOk result (sources_of (state_of self.new).plan ≡ sources_of (state_of self.old).plan) }
+        ensures { Runs (λ u. u) (d.define (function_view function) script_name.now) self.old result self.new }
     {
         match self.find(alloc, &function.name)? {
             Some(_) => {
                 let kind = ScriptKind::DuplicateFunction;
-                return Err(fault_at(alloc, kind, script_name, function.line));
+                return Err(fault_at(
+                    alloc,
+                    kind,
+                    At {
+                        name: script_name,
+                        line: function.line,
+                    },
+                ));
             }
             None => {}
         }
@@ -241,10 +240,8 @@ impl Machine {
         functions: Vec<Function>,
         script_name: &Text,
     ) -> Result<(), EvalError>
-        ensures gives { Gives (λ u. u) (d.define_all (map function_view functions.items) script_name.now (state_of
-            self.old)) result (state_of self.new) }
-        ensures asks { AsksNothing self.old self.new }
-        ensures sources { OnOk result (sources_of (state_of self.new).plan ≡ sources_of (state_of self.old).plan) }
+        ensures { Runs (λ u. u) (d.define_all (map function_view functions.items) script_name.now)
+            self.old result self.new }
     {
         for function in functions {
             self.define(alloc, function, script_name)?;
@@ -254,20 +251,14 @@ impl Machine {
 
     /// The info of a clip, by its place.
     #[tactic(auto, unfolding(crate::specs::States::state_of))]
-    pub fn info_of(
-        &self,
-        alloc: Global,
-        i: u32,
-        script_name: &Text,
-        line: u32,
-    ) -> Result<Info, EvalError>
-        ensures gives { Gives (λ info. info) (f.info_of script_name.now i line (state_of self.now)) result (state_of
-            self.now) }
+    pub fn info_of(&self, alloc: Global, i: u32, at: At<'_>) -> Result<Info, EvalError>
+        ensures gives { Gives (λ info. info) (f.info_of at.entry.name.now i at.entry.line (state_of self.now)) result
+            (state_of self.now) }
         ensures lawful { IfOk result IsLawful }
         ensures inside { OnOk result (i < length (state_of self.now).plan) }
     {
         if i >= self.plan.len() {
-            return Err(fault_at(alloc, ScriptKind::TypeFault, script_name, line));
+            return Err(fault_at(alloc, ScriptKind::TypeFault, at));
         }
         Ok(self.plan.node(i).info)
     }
@@ -281,15 +272,14 @@ impl Machine {
         inputs: &[u32],
         info: Info,
         mode: u8,
-        script_name: &Text,
-        line: u32,
+        at: At<'_>,
     ) -> Result<Value, EvalError>
         requires places { All (λ i. i < length (state_of self.old).plan) inputs.now }
         requires sound { IsSound (act_of op) (length inputs.now) }
         requires told { check (act_of op) (infos_among (state_of self.old).plan inputs.now) ≡ Ok info }
         requires mode { IsMode mode }
         requires counted { IsCounted (act_of op) (sources_in (state_of self.old).plan) mode }
-        ensures gives { Gives (λ v. v) (f.add script_name.now (act_of op) inputs.now info mode line (state_of
+        ensures gives { Gives (λ v. v) (f.add at.entry.name.now (act_of op) inputs.now info mode at.entry.line (state_of
             self.old)) result (state_of self.new) }
         ensures asks { AsksNothing self.old self.new }
         ensures sources { OnOk result (sources_of (state_of self.new).plan
@@ -297,23 +287,13 @@ impl Machine {
     {
         match self.plan.add(op, inputs, info, mode) {
             Ok(place) => Ok(Value::Clip(place)),
-            Err(GraphFault::NodeLimit) => Err(fault_at(
-                alloc,
-                ScriptKind::NodeLimit,
-                script_name,
-                line,
-            )),
-            Err(GraphFault::DepthLimit) => Err(fault_at(
-                alloc,
-                ScriptKind::DepthLimit,
-                script_name,
-                line,
-            )),
+            Err(GraphFault::NodeLimit) => Err(fault_at(alloc, ScriptKind::NodeLimit, at)),
+            Err(GraphFault::DepthLimit) => Err(fault_at(alloc, ScriptKind::DepthLimit, at)),
             Err(GraphFault::Memory) => Err(EvalError::Memory),
         }
     }
 
-    /// Applies a filter to clips, at a line of the text of this name.
+    /// Applies a filter to clips, at a line.
     #[tactic(auto, unfolding(crate::specs::States::state_of))]
     pub fn make(
         &mut self,
@@ -321,32 +301,31 @@ impl Machine {
         filter: Filter,
         op: Op,
         inputs: &[u32],
-        script_name: &Text,
-        line: u32,
+        at: At<'_>,
     ) -> Result<Value, EvalError>
         requires sound { IsSound (act_of op) (length inputs.now) }
         requires counted { IsCounted (act_of op) (sources_in (state_of self.old).plan)
             (mode_in (state_of self.old).modes filter) }
-        ensures gives { Gives (λ v. v) (f.made script_name.now filter (act_of op) inputs.now line (state_of self.old))
-            result (state_of self.new) }
+        ensures gives { Gives (λ v. v) (f.made at.entry.name.now filter (act_of op) inputs.now at.entry.line
+            (state_of self.old)) result (state_of self.new) }
         ensures asks { AsksNothing self.old self.new }
         ensures sources { OnOk result (sources_of (state_of self.new).plan
             ≡ sources_of (state_of self.old).plan ++ source_of (act_of op)) }
     {
         if !are_places(&self.plan, inputs) {
-            return Err(fault_at(alloc, ScriptKind::TypeFault, script_name, line));
+            return Err(fault_at(alloc, ScriptKind::TypeFault, at));
         }
         let infos = infos_among(alloc, &self.plan, inputs)?;
         match check(&op, &infos) {
             Ok(info) => {
                 let mode = self.modes.mode_for(filter);
-                self.add(alloc, op, inputs, info, mode, script_name, line)
+                self.add(alloc, op, inputs, info, mode, at)
             }
-            Err(fault) => Err(fault_at(alloc, ScriptKind::Filter(fault), script_name, line)),
+            Err(fault) => Err(fault_at(alloc, ScriptKind::Filter(fault), at)),
         }
     }
 
-    /// `SetFilterMTMode` of a mode for the filter of a name, at a line of the text of this name.
+    /// `SetFilterMTMode` of a mode for the filter of a name, at a line.
     #[tactic(auto, unfolding(crate::specs::States::state_of))]
     pub fn set_mode(
         &mut self,
@@ -354,19 +333,16 @@ impl Machine {
         name: &Text,
         mode: i32,
         force: bool,
-        script_name: &Text,
-        line: u32,
+        at: At<'_>,
     ) -> Result<Value, EvalError>
-        ensures gives { Gives (λ v. v) (w.set_mode_of script_name.now name.now mode force line (state_of self.old))
-            result (state_of self.new) }
+        ensures gives { Gives (λ v. v) (w.set_mode_of at.entry.name.now name.now mode force at.entry.line
+            (state_of self.old)) result (state_of self.new) }
         ensures asks { AsksNothing self.old self.new }
         ensures plan { (state_of self.new).plan ≡ (state_of self.old).plan }
     {
         match self.modes.set(name, mode, force) {
             Ok(()) => Ok(Value::Undefined),
-            Err(ModeFault::ModeRefused) => {
-                Err(fault_at(alloc, ScriptKind::ModeRefused, script_name, line))
-            }
+            Err(ModeFault::ModeRefused) => { Err(fault_at(alloc, ScriptKind::ModeRefused, at)) }
             Err(ModeFault::Memory) => Err(EvalError::Memory),
         }
     }
@@ -398,12 +374,11 @@ impl Machine {
         alloc: Global,
         name: &Text,
         info: Info,
-        script_name: &Text,
-        line: u32,
+        at: At<'_>,
     ) -> Result<Value, EvalError>
         requires lawful { IsLawful info }
-        ensures gives { Gives (λ v. v) (f.open_by script_name.now (Ok info) name.now line (state_of self.old)) result
-            (state_of self.new) }
+        ensures gives { Gives (λ v. v) (f.open_by at.entry.name.now (Ok info) name.now at.entry.line
+            (state_of self.old)) result (state_of self.new) }
         ensures opened { OnOk result ((state_of self.new).opened
             ≡ (state_of self.old).opened ++ record { name = name.now; info = info } ∷ []) }
         ensures imports { (state_of self.new).imports ≡ (state_of self.old).imports }
@@ -413,7 +388,7 @@ impl Machine {
         let number = self.sources();
         let name = Text::from_str(alloc, name.as_str())?;
         let op = Op::Source { name, number, info };
-        self.make(alloc, Filter::Y4MSource, op, &[], script_name, line)
+        self.make(alloc, Filter::Y4MSource, op, &[], at)
     }
 
     // How many sources the graph has.

@@ -3,7 +3,7 @@ ghost use Rattle.avs_meaning.specs.Faults.{Shows, script};
 
 use crate::evaluator::Evaluator;
 use avs_meaning::{EvalError, ScriptKind};
-use avs_state::{Host, fault_at};
+use avs_state::{At, Host, fault_at};
 use std::alloc::Global;
 use std::marker::PhantomData;
 
@@ -21,6 +21,13 @@ impl<'e, H: Host, E: Evaluator<H>> Executor<'e, H, E> {
     pub(crate) fn fault(&self, kind: ScriptKind, line: u32) -> EvalError
         ensures { Shows (script kind (E.here self.now.evaluator.now) line) result }
     {
-        fault_at(self.alloc, kind, self.evaluator.script_name(), line)
+        fault_at(
+            self.alloc,
+            kind,
+            At {
+                name: self.evaluator.script_name(),
+                line,
+            },
+        )
     }
 }

@@ -1,18 +1,17 @@
 // The numbers of `for`, and the conditions of `if` and `while`.
-ghost use Rattle.std.specs.Prelude.{◌≡◌, ℤ, ◌+ℤ◌, OnOk, option_map};
+ghost use Rattle.std.specs.Prelude.{◌≡◌, ℤ, ◌+ℤ◌, option_map};
 ghost use Rattle.avs_tree.specs.View.{expr_view};
 ghost use Rattle.avs_meaning.specs.Loops as l;
 ghost use Rattle.avs_meaning.specs.Statements as s;
 ghost use Rattle.avs_state.specs.Answers.{Answers, Gives};
 ghost use Rattle.avs_state.specs.Hosts.{Told};
-ghost use Rattle.avs_state.specs.Sources.{sources_of};
-ghost use Rattle.avs_state.specs.States.{state_of, AsksNothing};
-ghost use Rattle.avs_state.specs.Walks.{Keeps, stop_in};
+ghost use Rattle.avs_state.specs.States.{state_of};
+ghost use Rattle.avs_state.specs.Walks.{Keeps, Runs, stop_in};
 
 use crate::evaluator::Evaluator;
 use crate::executor::Executor;
 use avs_meaning::{EvalError, ScriptKind};
-use avs_state::{Host, Machine, fault_at, truth};
+use avs_state::{At, Host, Machine, fault_at, truth};
 use avs_tree::Expr;
 use avs_values::Value;
 use fv_io::Text;
@@ -33,33 +32,22 @@ fn next_number(before: i64, step: i64) -> Option<i64>
 }
 
 // The number that the variable of a loop is.
-fn number_by(
-    alloc: Global,
-    value: Option<Value>,
-    script_name: &Text,
-    line: u32,
-) -> Result<i64, EvalError>
-    ensures { Answers (λ n. n) (l.number_by script_name.now value line) result }
+fn number_by(alloc: Global, value: Option<Value>, at: At<'_>) -> Result<i64, EvalError>
+    ensures { Answers (λ n. n) (l.number_by at.entry.name.now value at.entry.line) result }
 {
     match value {
         Some(Value::Int(n)) => Ok(n),
-        _ => Err(fault_at(alloc, ScriptKind::TypeFault, script_name, line)),
+        _ => Err(fault_at(alloc, ScriptKind::TypeFault, at)),
     }
 }
 
 // The variable of a loop, read again after a turn.
-fn read_number(
-    alloc: Global,
-    machine: &Machine,
-    name: &Text,
-    script_name: &Text,
-    line: u32,
-) -> Result<i64, EvalError>
-    ensures { Gives (λ n. n) (l.read_number script_name.now name.now line (state_of machine.now)) result
+fn read_number(alloc: Global, machine: &Machine, name: &Text, at: At<'_>) -> Result<i64, EvalError>
+    ensures { Gives (λ n. n) (l.read_number at.entry.name.now name.now at.entry.line (state_of machine.now)) result
         (state_of machine.now) }
 {
     let value = machine.variable(alloc, name)?;
-    number_by(alloc, value, script_name, line)
+    number_by(alloc, value, at)
 }
 
 /// Sets the variable of a loop to the next number. There is none past 64 bits.
@@ -68,15 +56,11 @@ pub(crate) fn advance(
     machine: &mut Machine,
     name: &Text,
     step: i64,
-    script_name: &Text,
-    line: u32,
+    at: At<'_>,
 ) -> Result<Option<i64>, EvalError>
-    ensures gives { Gives (λ n. n) (l.advance script_name.now name.now step line (state_of machine.old)) result
-        (state_of machine.new) }
-    ensures asks { AsksNothing machine.old machine.new }
-    ensures sources { OnOk result (sources_of (state_of machine.new).plan ≡ sources_of (state_of machine.old).plan) }
+    ensures { Runs (λ n. n) (l.advance at.entry.name.now name.now step at.entry.line) machine.old result machine.new }
 {
-    let before = read_number(alloc, machine, name, script_name, line)?;
+    let before = read_number(alloc, machine, name, at)?;
     let Some(next) = next_number(before, step) else {
         return Ok(None);
     };
@@ -90,19 +74,18 @@ fn numbers(
     first: &Value,
     last: &Value,
     step: &Value,
-    script_name: &Text,
-    line: u32,
+    at: At<'_>,
 ) -> Result<(i64, i64, i64), EvalError>
-    ensures { Answers (λ n. n) (l.numbers script_name.now line first.now last.now step.now) result }
+    ensures { Answers (λ n. n) (l.numbers at.entry.name.now at.entry.line first.now last.now step.now) result }
 {
     match (first, last, step) {
         (Value::Int(first), Value::Int(last), Value::Int(step)) => {
             if *step == 0 {
-                return Err(fault_at(alloc, ScriptKind::BadRange, script_name, line));
+                return Err(fault_at(alloc, ScriptKind::BadRange, at));
             }
             Ok((*first, *last, *step))
         }
-        _ => Err(fault_at(alloc, ScriptKind::TypeFault, script_name, line)),
+        _ => Err(fault_at(alloc, ScriptKind::TypeFault, at)),
     }
 }
 
@@ -122,7 +105,14 @@ impl<'e, H: Host, E: Evaluator<H>> Executor<'e, H, E> {
         ensures kept { Keeps H.Host machine.old host.old (stop_in result) machine.new host.new }
     {
         let value = self.evaluator.value_of(machine, host, e)?;
-        truth(self.alloc, &value, self.evaluator.script_name(), line)
+        truth(
+            self.alloc,
+            &value,
+            At {
+                name: self.evaluator.script_name(),
+                line,
+            },
+        )
     }
 
     // The step of a loop, which is 1 where none is written.
@@ -167,8 +157,10 @@ impl<'e, H: Host, E: Evaluator<H>> Executor<'e, H, E> {
             &first,
             &last,
             &step,
-            self.evaluator.script_name(),
-            line,
+            At {
+                name: self.evaluator.script_name(),
+                line,
+            },
         )
     }
 }

@@ -1,22 +1,21 @@
 // The execution of statements and blocks: assignments, `return`, `if`, `while` and `for`.
-ghost use Rattle.std.specs.Prelude.{◌≡◌, OnOk, map, option_map};
+ghost use Rattle.std.specs.Prelude.{map, option_map};
 ghost use Rattle.avs_tree.specs.Tree as t;
 ghost use Rattle.avs_tree.specs.View.{expr_view, arm_view, statement_view, kind_view, block_view, arms_of};
 ghost use Rattle.avs_meaning.specs.Statements as m;
 ghost use Rattle.avs_state.specs.Answers.{Gives};
 ghost use Rattle.avs_state.specs.Hosts.{Told};
-ghost use Rattle.avs_state.specs.Sources.{sources_of};
-ghost use Rattle.avs_state.specs.States.{state_of, AsksNothing};
+ghost use Rattle.avs_state.specs.States.{state_of};
 ghost use Rattle.avs_statements.specs.Flows.{flow_view, turn_view};
 ghost use Rattle.avs_statements.specs.Turns as r;
-ghost use Rattle.avs_state.specs.Walks.{Keeps, stop_in};
+ghost use Rattle.avs_state.specs.Walks.{Keeps, Runs, stop_in};
 
 use crate::evaluator::Evaluator;
 use crate::executor::Executor;
 use crate::flow::{Counter, Flow, Turn};
 use crate::loops::{advance, is_past};
 use avs_meaning::{EvalError, ScriptKind};
-use avs_state::{Host, Machine};
+use avs_state::{At, Host, Machine};
 use avs_tree::{Arm, Expr, Statement, StatementKind};
 use avs_values::Value;
 use fv_io::Text;
@@ -25,9 +24,7 @@ use std::marker::PhantomData;
 
 // A clip becomes `last`.
 fn sets_last(alloc: Global, machine: &mut Machine, value: Value) -> Result<Flow, EvalError>
-    ensures gives { Gives flow_view (m.sets_last value (state_of machine.old)) result (state_of machine.new) }
-    ensures asks { AsksNothing machine.old machine.new }
-    ensures sources { OnOk result (sources_of (state_of machine.new).plan ≡ sources_of (state_of machine.old).plan) }
+    ensures { Runs flow_view (m.sets_last value) machine.old result machine.new }
 {
     if let Value::Clip(i) = value {
         let name = Text::from_str(alloc, "last")?;
@@ -150,7 +147,13 @@ impl<'e, H: Host, E: Evaluator<H>> Executor<'e, H, E> {
             if !self.condition(machine, host, test, line)? {
                 return Ok(Flow::On(Value::Undefined));
             }
-            machine.spend(self.alloc, self.evaluator.script_name(), line)?;
+            machine.spend(
+                self.alloc,
+                At {
+                    name: self.evaluator.script_name(),
+                    line,
+                },
+            )?;
             match self.block_of(machine, host, body)? {
                 Flow::On(_) => continue,
                 Flow::Back(value) => return Ok(Flow::Back(value)),
@@ -246,7 +249,13 @@ impl<'e, H: Host, E: Evaluator<H>> Executor<'e, H, E> {
         if is_past(counter.last, counter.step, counter.at) {
             return Ok(Turn::Done(Flow::On(Value::Undefined)));
         }
-        machine.spend(self.alloc, self.evaluator.script_name(), line)?;
+        machine.spend(
+            self.alloc,
+            At {
+                name: self.evaluator.script_name(),
+                line,
+            },
+        )?;
         match self.block_of(machine, host, body)? {
             Flow::On(_) => {
                 match advance(
@@ -254,8 +263,10 @@ impl<'e, H: Host, E: Evaluator<H>> Executor<'e, H, E> {
                     machine,
                     name,
                     counter.step,
-                    self.evaluator.script_name(),
-                    line,
+                    At {
+                        name: self.evaluator.script_name(),
+                        line,
+                    },
                 )? {
                     Some(next) => Ok(Turn::Next(next)),
                     None => Ok(Turn::Done(Flow::On(Value::Undefined))),
@@ -278,7 +289,13 @@ impl<'e, H: Host, E: Evaluator<H>> Executor<'e, H, E> {
             (statement_view statement.now)) machine.old result machine.new }
         ensures kept { Keeps H.Host machine.old host.old (stop_in result) machine.new host.new }
     {
-        machine.spend(self.alloc, self.evaluator.script_name(), statement.line)?;
+        machine.spend(
+            self.alloc,
+            At {
+                name: self.evaluator.script_name(),
+                line: statement.line,
+            },
+        )?;
         self.effect_of(machine, host, &statement.kind, statement.line)
     }
 

@@ -9,7 +9,7 @@ use Rattle.avs_tree.specs.declared.symbol.Symbol.TheVariants as s
 use Rattle.avs_tree.specs.declared.words.TypeWord.{TypeWord}
 use Rattle.avs_tree.specs.declared.symbol.Punctuation.TheVariants as m
 use Rattle.avs_tree.specs.declared.tree.Parameter.{Parameter}
-use Rattle.avs_tree.specs.ExprMachine.{operand_next, ExprState, Frame}
+use Rattle.avs_tree.specs.ExprMachine.{operand_next, ExprState, Open}
 use Rattle.avs_tree.specs.Machine.{Use, to_value, to_global, to_assign, to_return, to_arm, to_while, to_first, to_last, to_step, Owner, arm_of, else_of, while_of, for_of, Levels, top, in_function, level, StatementState, statement_next, in_expression, parenthesis_next, braces_next, after_arm, after_else, after_global, after_global_name, after_for, for_opened, after_for_name, HeadState, after_function, after_function_name, head_opened, after_type, after_parameter, parameter_next, function_braces_next, State, at, at_head}
 use Rattle.avs_tree.proofs.ScriptMeaning.{all_block, all_arms, function_with, ArmsIn, OwnedIn, Closed, Next, Done, Bodied, ForBodied, Stepped, Used, Conditioned, Equals, ForNamed, Statement, FunctionBodied, HeadEnds, ParametersEnd, Typed, ParameterNext, HeadNamed, Head, Completion}
 use Rattle.std.specs.Prelude.{codes}
@@ -101,7 +101,7 @@ some_used ls ss line (to_first y) e =
 some_used ls ss line (to_last y a) e = some_stepped ls ss line y a e
 some_used ls ss line (to_step y a b) e = some_for ls ss line y a b (Some e)
 
-some_expression : (ls : Levels) (ss : List StatementIs) (line : ℕ) (use_ : Use) (now : ExprState) (fs : List Frame) → (tree : Script) × (ts : Lexemes) × Meaning (Used tree ls ss line use_) now fs ts
+some_expression : (ls : Levels) (ss : List StatementIs) (line : ℕ) (use_ : Use) (now : ExprState) (fs : List Open) → (tree : Script) × (ts : Lexemes) × Meaning (Used tree ls ss line use_) now fs ts
 some_expression ls ss line use_ = some_meaning Script (λ tree. Used tree ls ss line use_) (some_used ls ss line use_)
 
 some_conditioned : (ls : Levels) (ss : List StatementIs) (line : ℕ) (use_ : Use) → (tree : Script) × (ts : Lexemes) × Conditioned tree ls ss line use_ ts

@@ -9,11 +9,11 @@ use Rattle.avs_tree.specs.Grammar.{nesting}
 use Rattle.avs_tree.specs.Script.{step_nesting, kind_nesting, arms_nesting, block_nesting, functions_nesting, script_nesting}
 use Rattle.avs_tree.specs.declared.words.TypeWord.{TypeWord}
 use Rattle.avs_tree.specs.declared.tree.Parameter.{Parameter}
-use Rattle.avs_tree.specs.ExprMachine.{operand_next, ExprState, Frame}
+use Rattle.avs_tree.specs.ExprMachine.{operand_next, ExprState, Open}
 use Rattle.avs_tree.specs.Machine.{Use, to_value, to_global, to_assign, to_return, to_arm, to_while, to_first, to_last, to_step, Owner, arm_of, else_of, while_of, for_of, Levels, top, in_function, level, depth, StatementState, statement_next, in_expression, parenthesis_next, braces_next, after_arm, after_else, after_global, after_global_name, after_for, for_opened, after_for_name, HeadState, after_function, after_function_name, head_opened, after_type, after_parameter, parameter_next, function_braces_next, State, at, at_head}
 use Rattle.avs_tree.proofs.ScriptMeaning.{all_block, all_arms, function_with, ArmsIn, OwnedIn, Rest, Next, Done, Bodied, ForBodied, Used, Equals, ForNamed, Statement, FunctionBodied, HeadEnds, Typed, HeadOpened, Head, Completion}
 use Rattle.avs_tree.specs.Script.{functions_of, statements_of}
-use Rattle.avs_tree.specs.Nesting.{frames_level, expr_level, use_level, level_of}
+use Rattle.avs_tree.specs.Nesting.{open_level, expr_level, use_level, level_of}
 use Rattle.avs_tree.proofs.ExprMeaning.{Meaning}
 use Rattle.avs_tree.proofs.DeepExpr.{meaning_deep}
 
@@ -84,8 +84,8 @@ module _ (tree : Script) where
   used_deep ls ss line (to_last y a) e ts (c, ws, step, h) = omega (arith, for_deep ls ss line y a e c ws h)
   used_deep ls ss line (to_step y a b) e ts h = omega (arith, for_deep ls ss line y a b (Some e) ts h)
 
-  operand_next_level : (ls : Levels) (ss : List StatementIs) (line : ℕ) (use_ : Use) (now : ExprState) (fs : List Frame) (ts : Lexemes) → Meaning (Used tree ls ss line use_) now fs ts
-      → (depth ls + use_level use_) + (expr_level now + frames_level fs) ≤ script_nesting tree
+  operand_next_level : (ls : Levels) (ss : List StatementIs) (line : ℕ) (use_ : Use) (now : ExprState) (fs : List Open) (ts : Lexemes) → Meaning (Used tree ls ss line use_) now fs ts
+      → (depth ls + use_level use_) + (expr_level now + open_level fs) ≤ script_nesting tree
   operand_next_level ls ss line use_ now fs ts h = meaning_deep (Used tree ls ss line use_) (depth ls + use_level use_) (script_nesting tree) (used_deep ls ss line use_) now fs ts h
 
   equals_level : (ls : Levels) (ss : List StatementIs) (line : ℕ) (use_ : Use) (ts : Lexemes) → Equals tree ls ss line use_ ts → depth ls + use_level use_ ≤ script_nesting tree

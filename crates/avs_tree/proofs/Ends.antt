@@ -8,7 +8,7 @@ use Rattle.avs_tree.specs.View.{StatementIs, arms_of}
 use Rattle.avs_tree.specs.declared.symbol.Symbol.TheVariants as s
 use Rattle.avs_tree.specs.declared.symbol.Punctuation.TheVariants as m
 use Rattle.avs_tree.specs.Next.{is_punctuation}
-use Rattle.avs_tree.specs.ExprMachine.{operand_next, keeps, leaves, refused, ExprStep, ExprState, Frame, operand, expr_step}
+use Rattle.avs_tree.specs.ExprMachine.{operand_next, keeps, leaves, refused, ExprStep, ExprState, Open, operand, expr_step}
 use Rattle.avs_tree.specs.Machine.{start, Use, to_value, to_global, to_assign, to_return, to_arm, to_while, to_first, to_last, to_step, Levels, top, statement_next, in_expression, parenthesis_next, braces_next, after_arm, after_else, after_global, after_global_name, after_for, for_opened, after_for_name, after_function, after_function_name, head_opened, after_type, after_parameter, parameter_next, function_braces_next, State, at, at_head, Step, stuck, goes, whole, end_by, used, expression_by, advance}
 use Rattle.avs_tree.specs.Lexeme.{precedence_of}
 use Rattle.avs_tree.specs.Tree.{method_calls, minus, not_, chain, compare, conditional}
@@ -30,7 +30,7 @@ NotGoes (whole b) = Unit {0}
 module _ (x : Text) (l : ℕ) (ts : Lexemes) where
   -- ---- no expression goes on with the end
 
-  quiet_close : (fs : List Frame) (e : Expr) → NotOn (close e fs ((s.Punctuation m.End, x, l) ∷ ts))
+  quiet_close : (fs : List Open) (e : Expr) → NotOn (close e fs ((s.Punctuation m.End, x, l) ∷ ts))
   unfolding is_punctuation operator_at closing_argument grow
   quiet_close [] e = tt
   quiet_close (paren ∷ fs) e = tt
@@ -46,11 +46,11 @@ module _ (x : Text) (l : ℕ) (ts : Lexemes) where
   quiet_close (no_of f yes_ line ∷ fs) e =
       in_if NotOn (grows 8 fs ((s.Punctuation m.End, x, l) ∷ ts)) (grow (conditional f yes_ e line) fs ((s.Punctuation m.End, x, l) ∷ ts)) (close (conditional f yes_ e line) fs ((s.Punctuation m.End, x, l) ∷ ts)) (λ _. tt) (λ _. quiet_close fs (conditional f yes_ e line))
 
-  quiet_after : (n : ℕ) (e : Expr) (fs : List Frame) → NotOn (after n e fs ((s.Punctuation m.End, x, l) ∷ ts))
+  quiet_after : (n : ℕ) (e : Expr) (fs : List Open) → NotOn (after n e fs ((s.Punctuation m.End, x, l) ∷ ts))
   unfolding grow
   quiet_after n e fs = in_if NotOn (grows n fs ((s.Punctuation m.End, x, l) ∷ ts)) (grow e fs ((s.Punctuation m.End, x, l) ∷ ts)) (close e fs ((s.Punctuation m.End, x, l) ∷ ts)) (λ _. tt) (λ _. quiet_close fs e)
 
-  quiet_expr_step : (now : ExprState) (fs : List Frame) → NotOn (expr_step now fs ((s.Punctuation m.End, x, l) ∷ ts))
+  quiet_expr_step : (now : ExprState) (fs : List Open) → NotOn (expr_step now fs ((s.Punctuation m.End, x, l) ∷ ts))
   unfolding is_punctuation operand
   quiet_expr_step operand_next fs = tt
   quiet_expr_step (value_read n e) fs = quiet_after n e fs

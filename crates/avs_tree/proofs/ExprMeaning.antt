@@ -7,7 +7,7 @@ use Rattle.avs_tree.specs.Tree as t
 use Rattle.avs_tree.specs.View.{ArgIs, MethodCallIs, StepIs, method_call_of}
 use Rattle.avs_tree.specs.Grammar.{IsPunctuation, IsNameAt, Derives, DerivesSteps, DerivesMethodCalls, DerivesArgs, DerivesMoreArgs}
 use Rattle.avs_tree.specs.Next.{tail}
-use Rattle.avs_tree.specs.ExprMachine.{Callee, call_of, method_of, Frame, paren, argument, minus_of, not_of, chain_of, compare_of, yes_of, no_of, ExprState, operand_next, value_read, name_read, args_opened, dot_read, method_read, calls_read, ExprStep, refused, keeps, leaves, hole}
+use Rattle.avs_tree.specs.ExprMachine.{Callee, call_of, method_of, Open, paren, argument, minus_of, not_of, chain_of, compare_of, yes_of, no_of, ExprState, operand_next, value_read, name_read, args_opened, dot_read, method_read, calls_read, ExprStep, refused, keeps, leaves, hole}
 use Rattle.avs_tree.specs.declared.symbol.Punctuation.TheVariants as m
 use Rattle.avs_tree.proofs.Left.{Grows}
 
@@ -44,8 +44,8 @@ module _ (r : ℕ) (C : Expr → Lexemes → Type 0) where
   LabelIn c found _ ts = ⊥
 
 module _ (K : Expr → Lexemes → Type 0) where
-  -- What may come after an expression in these frames, where K says what may come after the whole.
-  abbrev pub Continuation : List Frame → Expr → Lexemes → Type 0
+  -- What may come after an expression in all that is open, where K says what may come after the whole.
+  abbrev pub Continuation : List Open → Expr → Lexemes → Type 0
   Continuation [] e ts = K e ts
   Continuation (paren ∷ fs) e ts = (us : Lexemes) × IsPunctuation m.RightParen ts us × GrownIn (hole fs) (λ x vs. Continuation fs x vs) 0 (group e) us
   Continuation (argument c found None ∷ fs) e ts = ArgumentIn (hole fs) (λ x vs. Continuation fs x vs) c found None e ts ⊎ LabelIn (hole fs) (λ x vs. Continuation fs x vs) c found e ts
@@ -59,22 +59,22 @@ module _ (K : Expr → Lexemes → Type 0) where
       (us vs : Lexemes) × (b : Expr) × IsPunctuation m.Colon ts us × Derives 8 b us vs × GrownIn (hole fs) (λ x vs. Continuation fs x vs) 8 (conditional c e b line) vs
   Continuation (no_of c yes_ line ∷ fs) e ts = GrownIn (hole fs) (λ x vs. Continuation fs x vs) 8 (conditional c yes_ e line) ts
 
-  abbrev pub Grown : List Frame → ℕ → Expr → Lexemes → Type 0
+  abbrev pub Grown : List Open → ℕ → Expr → Lexemes → Type 0
   Grown fs k e ts = GrownIn (hole fs) (Continuation fs) k e ts
 
-  abbrev pub Called : List Frame → Callee → Args → Lexemes → Type 0
+  abbrev pub Called : List Open → Callee → Args → Lexemes → Type 0
   Called fs c es ts = CalledIn (hole fs) (Continuation fs) c es ts
 
-  abbrev pub Opened : List Frame → Callee → Lexemes → Type 0
+  abbrev pub Opened : List Open → Callee → Lexemes → Type 0
   Opened fs c ts = (es : Args) × (us : Lexemes) × DerivesArgs es ts us × Called fs c es us
 
-  abbrev pub WithCalls : List Frame → Expr → List MethodCallIs → Lexemes → Type 0
+  abbrev pub WithCalls : List Open → Expr → List MethodCallIs → Lexemes → Type 0
   WithCalls fs e ds ts = (rest : MethodCalls) × (us : Lexemes) × DerivesMethodCalls rest ts us × Grown fs 1 (method_calls e (all_calls ds rest)) us
 
-  abbrev pub MethodNamed : List Frame → Expr → List MethodCallIs → Text → ℕ → Lexemes → Type 0
+  abbrev pub MethodNamed : List Open → Expr → List MethodCallIs → Text → ℕ → Lexemes → Type 0
   MethodNamed fs e ds x line ts = WithCalls fs e (ds ++ (x, (None, line)) ∷ []) ts ⊎ ((us : Lexemes) × IsPunctuation m.LeftParen ts us × Opened fs (method_of e ds x line) us)
 
-  abbrev pub Meaning : ExprState → List Frame → Lexemes → Type 0
+  abbrev pub Meaning : ExprState → List Open → Lexemes → Type 0
   Meaning operand_next fs ts = (e : Expr) × (us : Lexemes) × Derives (hole fs) e ts us × Continuation fs e us
   Meaning (value_read k e) fs ts = Grown fs k e ts
   Meaning (name_read x line) fs ts = Grown fs 0 (t.name x line) ts ⊎ ((us : Lexemes) × IsPunctuation m.LeftParen ts us × Opened fs (call_of x line) us)
@@ -90,7 +90,7 @@ module _ (K : Expr → Lexemes → Type 0) where
   After (leaves e) ts = K e ts
 
 -- Operators stand at their precedences.
-abbrev pub Formed : List Frame → Type 0
+abbrev pub Formed : List Open → Type 0
 Formed [] = Unit {0}
 Formed (chain_of first ss op line ∷ fs) = (precedence_of op ≤ hole fs) × (precedence_of op ≡ 5 → ⊥) × Formed fs
 Formed (compare_of op first line ∷ fs) = (precedence_of op ≡ 5) × (5 ≤ hole fs) × Formed fs

@@ -18,7 +18,7 @@ use Rattle.avs_tree.specs.Next.{peek, content_at, is_punctuation}
 use Rattle.avs_tree.specs.ExprMachine.{operand_next, keeps, leaves, refused, ExprStep, operand, expr_step}
 use Rattle.avs_tree.specs.Machine.{Use, to_value, to_global, to_assign, to_return, to_arm, to_while, to_first, to_last, to_step, Owner, arm_of, else_of, while_of, for_of, Levels, top, in_function, level, depth, StatementState, statement_next, in_expression, parenthesis_next, braces_next, after_arm, after_else, after_global, after_global_name, after_for, for_opened, after_for_name, HeadState, after_function, after_function_name, head_opened, after_type, after_parameter, parameter_next, function_braces_next, State, at, at_head, Step, stuck, goes, whole, function_of, close_by, end_by, in_statement, function_by, items_by, done_by, assigned, used, expression_by, body_by, arms_by, other_by, global_by, for_by, advance_statement, function_name_by, type_by, with_parameter, parameter_by, function_body_by, advance_head, advance}
 use Rattle.avs_tree.proofs.ScriptMeaning.{all_block, all_arms}
-use Rattle.avs_tree.specs.Nesting.{frames_level, use_level, level_of}
+use Rattle.avs_tree.specs.Nesting.{open_level, use_level, level_of}
 use Rattle.avs_tree.proofs.Tokens.{in_if}
 use Rattle.avs_tree.proofs.Fits.{Fits, FitsNow, FitsExprStep, fits_operand, fits_expr_step}
 
@@ -68,7 +68,7 @@ module _ (most : ℕ) (some : 0 < most) where
 
   abbrev pub FitsHere : ℕ → StatementState → Type 0
   FitsHere n statement_next = Unit {0}
-  FitsHere n (in_expression use_ now fs) = FitsUse n use_ × FitsNow most (n + use_level use_) ((n + use_level use_) + frames_level fs) now × Fits most (n + use_level use_) fs
+  FitsHere n (in_expression use_ now fs) = FitsUse n use_ × FitsNow most (n + use_level use_) ((n + use_level use_) + open_level fs) now × Fits most (n + use_level use_) fs
   FitsHere n (parenthesis_next use_) = FitsUse n use_
   FitsHere n (braces_next o) = (n < most) × FitsOwner n o
   FitsHere n (after_arm arms) = (n < most) × (n + arms_nest arms ≤ most)

@@ -8,7 +8,7 @@ use Rattle.avs_tree.specs.Tree as t
 use Rattle.avs_tree.specs.View.{ArgIs, MethodCallIs, StepIs, args_of, method_calls_of, method_call_of, steps_of}
 use Rattle.avs_tree.specs.Grammar.{IsAt, Labels, Derives, DerivesSteps}
 use Rattle.avs_tree.specs.Next.{peek, content_at, punctuation_by, is_punctuation, operator_at, operator_by}
-use Rattle.avs_tree.specs.ExprMachine.{Callee, call_of, method_of, Frame, paren, argument, minus_of, not_of, chain_of, compare_of, yes_of, no_of, ExprState, operand_next, value_read, name_read, args_opened, dot_read, method_read, calls_read, ExprStep, keeps, hole, reach, operand_by, operand, grow_by, continues, grows, grow, called, Closing, reopened, closed, closing_argument, more_of, by_closing, close, after, after_calls, expr_step}
+use Rattle.avs_tree.specs.ExprMachine.{Callee, call_of, method_of, Open, paren, argument, minus_of, not_of, chain_of, compare_of, yes_of, no_of, ExprState, operand_next, value_read, name_read, args_opened, dot_read, method_read, calls_read, ExprStep, keeps, hole, reach, operand_by, operand, grow_by, continues, grows, grow, called, Closing, reopened, closed, closing_argument, more_of, by_closing, close, after, after_calls, expr_step}
 use Rattle.avs_tree.specs.declared.symbol.Symbol.{Symbol}
 use Rattle.avs_tree.specs.declared.symbol.Symbol.TheVariants as s
 use Rattle.avs_tree.specs.declared.symbol.Punctuation.TheVariants as m
@@ -61,7 +61,7 @@ grows_no k r n lt = grind (arith, nat_tests)
 pub reach_is : (symbol : Symbol) (line : ℕ) (ts us : Lexemes) → IsAt symbol line ts us → reach (peek ts) ≡ reach (Some symbol)
 reach_is symbol line ts us (x, is) = ap (λ z. reach (peek z)) is
 
-pub hole_two : (fs : List Frame) → 2 ≤ hole fs
+pub hole_two : (fs : List Open) → 2 ≤ hole fs
 hole_two [] = omega arith
 hole_two (paren ∷ fs) = omega arith
 hole_two (argument c es x ∷ fs) = omega arith
@@ -114,7 +114,7 @@ more_some P x op op' e ss line is h = subst (λ z. P (more_of z op e ss line)) (
 -- ---- what follows an expression
 
 module _ (K : Expr → Lexemes → Type 0) (ends : (e : Expr) (ts : Lexemes) → K e ts → 8 < reach (peek ts)) where
-  grows_past : (fs : List Frame) (ok : (e : Expr) (ts : Lexemes) → Continuation K fs e ts → hole fs < reach (peek ts)) (k : ℕ) (e : Expr) (ts : Lexemes) → k ≤ hole fs
+  grows_past : (fs : List Open) (ok : (e : Expr) (ts : Lexemes) → Continuation K fs e ts → hole fs < reach (peek ts)) (k : ℕ) (e : Expr) (ts : Lexemes) → k ≤ hole fs
       → Grown K fs k e ts → k < reach (peek ts)
   unfolding reach
   grows_past fs ok k e ts le (e', us, grown, h) = omega (arith, ok e ts h)
@@ -136,7 +136,7 @@ module _ (K : Expr → Lexemes → Type 0) (ends : (e : Expr) (ts : Lexemes) →
   label_past r C c found (t.name y line) ts (us, vs, e, (l, is), one, h) = omega (arith, reach_is (s.Punctuation m.Assign) l ts us is)
   label_past r C c found _ ts h = absurd h
 
-  pub past : (fs : List Frame) → Formed fs → (e : Expr) (ts : Lexemes) → Continuation K fs e ts → hole fs < reach (peek ts)
+  pub past : (fs : List Open) → Formed fs → (e : Expr) (ts : Lexemes) → Continuation K fs e ts → hole fs < reach (peek ts)
   unfolding reach
   past [] formed e ts h = ends e ts h
   past (paren ∷ fs) formed e ts (us, (l, is), h) = omega (arith, reach_is (s.Punctuation m.RightParen) l ts us is)
@@ -155,7 +155,7 @@ module _ (K : Expr → Lexemes → Type 0) (ends : (e : Expr) (ts : Lexemes) →
   past (yes_of c line ∷ fs) formed e ts (us, vs, b, (l, is), one, h) = omega (arith, reach_is (s.Punctuation m.Colon) l ts us is)
   past (no_of c yes_ line ∷ fs) (low, formed) e ts h = grows_past fs (past fs formed) 8 (conditional c yes_ e line) ts low h
 
-  past_token : (fs : List Frame) → Formed fs → (k : ℕ) (e : Expr) → Grown K fs k e [] → ⊥
+  past_token : (fs : List Open) → Formed fs → (k : ℕ) (e : Expr) → Grown K fs k e [] → ⊥
   unfolding reach
   past_token fs formed k e (e', us, grown, h) = absurd (omega (arith, past fs formed e [] h))
   past_token fs formed k e (e', us, by_methods no_method_calls vs a b c d g, h) = absurd c
@@ -168,14 +168,14 @@ module _ (K : Expr → Lexemes → Type 0) (ends : (e : Expr) (ts : Lexemes) →
 
   -- ---- a token that continues an expression
 
-  grown_at : (fs : List Frame) (k : ℕ) (e : Expr) (symbol : Symbol) (line : ℕ) (ts us : Lexemes) → IsAt symbol line ts us → k < reach (Some symbol) → reach (Some symbol) ≤ hole fs
+  grown_at : (fs : List Open) (k : ℕ) (e : Expr) (symbol : Symbol) (line : ℕ) (ts us : Lexemes) → IsAt symbol line ts us → k < reach (Some symbol) → reach (Some symbol) ≤ hole fs
       → ((x : Text) → After K (grow_by (Some symbol) e fs line) ((symbol, x, line) ∷ us)) → After K (after k e fs ts) ts
   unfolding continues grow
   grown_at fs k e symbol line ts us (x, is) lt le h =
       subst (λ z. After K (after k e fs z) z) (sym is)
       (if_true (λ z. After K z ((symbol, x, line) ∷ us)) (nat_lt k (reach (Some symbol)) && nat_le (reach (Some symbol)) (hole fs)) _ _ (grows_yes k (hole fs) (reach (Some symbol)) lt le) (h x))
 
-  on_grown : (fs : List Frame) → ((e : Expr) (ts : Lexemes) → Continuation K fs e ts → After K (close e fs ts) ts) → ((e : Expr) (ts : Lexemes) → Continuation K fs e ts → hole fs < reach (peek ts))
+  on_grown : (fs : List Open) → ((e : Expr) (ts : Lexemes) → Continuation K fs e ts → After K (close e fs ts) ts) → ((e : Expr) (ts : Lexemes) → Continuation K fs e ts → hole fs < reach (peek ts))
       → (k : ℕ) (e : Expr) (ts : Lexemes) → Grown K fs k e ts → After K (after k e fs ts) ts
   unfolding reach continues
   on_grown fs closes ok k e ts (e', us, grown, h) = if_false (λ z. After K z ts) (grows k fs ts) (grow e fs ts) (close e fs ts) (grows_no k (hole fs) (reach (peek ts)) (ok e ts h)) (closes e ts h)
@@ -196,17 +196,17 @@ module _ (K : Expr → Lexemes → Type 0) (ends : (e : Expr) (ts : Lexemes) →
 
   -- ---- arguments
 
-  label_in : (fs : List Frame) (c : Callee) (found : List ArgIs) (y : Option Text) (f : Expr) (ts us vs : Lexemes) → Labels y ts us → Derives 8 f us vs
+  label_in : (fs : List Open) (c : Callee) (found : List ArgIs) (y : Option Text) (f : Expr) (ts us vs : Lexemes) → Labels y ts us → Derives 8 f us vs
       → ArgumentIn (hole fs) (Continuation K fs) c found y f vs → Meaning K operand_next (argument c found None ∷ fs) ts
   label_in fs c found None f ts us vs same d h = (f, vs, subst (λ z. Derives 8 f z vs) (sym same) d, inl h)
   label_in fs c found (Some y) f ts us vs (t1, (l, is), assign) d h = (t.name y l, t1, is, inr (us, vs, f, assign, d, h))
 
-  called_in : (fs : List Frame) (c : Callee) (found : List ArgIs) (es : Args) (ts : Lexemes) → args_of found ≡ es → Called K fs c es ts → Meaning K (called c found) fs ts
+  called_in : (fs : List Open) (c : Callee) (found : List ArgIs) (es : Args) (ts : Lexemes) → args_of found ≡ es → Called K fs c es ts → Meaning K (called c found) fs ts
   called_in fs (call_of x line) found es ts same h = subst (λ z. Grown K fs 0 (call x z line) ts) (sym same) h
   called_in fs (method_of e ds x line) found es ts same (rest, us, d, h) =
       (rest, us, d, subst (λ z. Grown K fs 1 (method_calls e z) us) (ap (λ z. all_calls ds (method_call x z line rest)) (sym same) ∙ sym (calls_then ds (x, (Some (args_of found), line)) rest)) h)
 
-  on_argument : (go : Lexemes → ℕ → Expr → ExprStep) (fs : List Frame) (c : Callee) (found : List ArgIs) (x : Option Text) (e : Expr) (ts : Lexemes) → ArgumentIn (hole fs) (Continuation K fs) c found x e ts
+  on_argument : (go : Lexemes → ℕ → Expr → ExprStep) (fs : List Open) (c : Callee) (found : List ArgIs) (x : Option Text) (e : Expr) (ts : Lexemes) → ArgumentIn (hole fs) (Continuation K fs) c found x e ts
       → After K (by_closing (closing_argument c found x e ts) fs (go ts)) ts
   unfolding closing_argument is_punctuation
   on_argument go fs c found x e ts (no_args, us, (l, (z, is)), h) =
@@ -215,14 +215,14 @@ module _ (K : Expr → Lexemes → Type 0) (ends : (e : Expr) (ts : Lexemes) →
       subst (λ y. After K (by_closing (closing_argument c found x e y) fs (go y)) y) (sym is)
       (label_in fs c (found ++ (x, e) ∷ []) y f t1 t2 t3 label one (es, us, d, subst (λ w. Called K fs c w us) (sym (args_then found x e (arg y f es))) h))
 
-  on_label : (go : Lexemes → ℕ → Expr → ExprStep) (fs : List Frame) (c : Callee) (found : List ArgIs) (e : Expr) (ts : Lexemes) → LabelIn (hole fs) (Continuation K fs) c found e ts → After K (by_closing (closing_argument c found None e ts) fs (go ts)) ts
+  on_label : (go : Lexemes → ℕ → Expr → ExprStep) (fs : List Open) (c : Callee) (found : List ArgIs) (e : Expr) (ts : Lexemes) → LabelIn (hole fs) (Continuation K fs) c found e ts → After K (by_closing (closing_argument c found None e ts) fs (go ts)) ts
   unfolding closing_argument is_punctuation
   on_label go fs c found (t.name y line) ts (us, vs, f, (l, (z, is)), d, h) = subst (λ w. After K (by_closing (closing_argument c found None (t.name y line) w) fs (go w)) w) (sym is) (f, vs, d, h)
   on_label go fs c found _ ts h = absurd h
 
-  -- ---- the innermost frames are closed
+  -- ---- what is open innermost is closed
 
-  pub on_close : (fs : List Frame) → Formed fs → (e : Expr) (ts : Lexemes) → Continuation K fs e ts → After K (close e fs ts) ts
+  pub on_close : (fs : List Open) → Formed fs → (e : Expr) (ts : Lexemes) → Continuation K fs e ts → After K (close e fs ts) ts
   unfolding is_punctuation operator_at
   on_close [] formed e ts h = h
   on_close (paren ∷ fs) formed e ts (us, (l, (z, is)), h) = subst (λ w. After K (close e (paren ∷ fs) w) w) (sym is) h
@@ -258,7 +258,7 @@ module _ (K : Expr → Lexemes → Type 0) (ends : (e : Expr) (ts : Lexemes) →
 
   -- ---- an operand comes next
 
-  on_primary : (fs : List Frame) (e : Expr) (ts us : Lexemes) → Derives 0 e ts us → Grown K fs 0 e us → After K (operand fs ts) ts
+  on_primary : (fs : List Open) (e : Expr) (ts us : Lexemes) → Derives 0 e ts us → Grown K fs 0 e us → After K (operand fs ts) ts
   unfolding operand
   on_primary fs (int n) ts us (l, (x, is)) h = subst (λ z. After K (operand fs z) z) (sym is) h
   on_primary fs (bool true) ts us (l, (x, is)) h = subst (λ z. After K (operand fs z) z) (sym is) h
@@ -274,18 +274,18 @@ module _ (K : Expr → Lexemes → Type 0) (ends : (e : Expr) (ts : Lexemes) →
   on_primary fs (compare op a b line) ts us (low, is, vs, ws, x, y, z) h = absurd (omega arith)
   on_primary fs (conditional a b c line) ts us (low, vs, ws, xs, ys, x, y, z, v, w) h = absurd (omega arith)
 
-  on_front : (fs : List Frame) (e : Expr) (ts us : Lexemes) → Front (hole fs) ts us e → Continuation K fs e us → After K (operand fs ts) ts
+  on_front : (fs : List Open) (e : Expr) (ts us : Lexemes) → Front (hole fs) ts us e → Continuation K fs e us → After K (operand fs ts) ts
   unfolding operand
   on_front fs e ts us (primary f vs d g) h = on_primary fs f ts vs d (e, us, g, h)
   on_front fs e ts us (by_minus f line vs ws two (x, is) d g) h = subst (λ z. After K (operand fs z) z) (sym is) (f, ws, d, (e, us, g, h))
   on_front fs e ts us (by_not f line vs ws two (x, is) d g) h = subst (λ z. After K (operand fs z) z) (sym is) (f, ws, d, (e, us, g, h))
 
-  pub on_operand_next : (fs : List Frame) (ts : Lexemes) → Meaning K operand_next fs ts → After K (operand fs ts) ts
+  pub on_operand_next : (fs : List Open) (ts : Lexemes) → Meaning K operand_next fs ts → After K (operand fs ts) ts
   on_operand_next fs ts (e, us, d, h) = on_front fs e ts us (front (hole fs) e ts us d) h
 
   -- ---- one token
 
-  on_calls : (fs : List Frame) → Formed fs → (e : Expr) (ds : List MethodCallIs) (ts : Lexemes) → WithCalls K fs e ds ts → After K (after_calls e ds fs ts) ts
+  on_calls : (fs : List Open) → Formed fs → (e : Expr) (ds : List MethodCallIs) (ts : Lexemes) → WithCalls K fs e ds ts → After K (after_calls e ds fs ts) ts
   unfolding is_punctuation
   on_calls fs formed e ds ts (no_method_calls, us, same, h) =
       let h' = subst (λ z. Grown K fs 1 (method_calls e (all_calls ds no_method_calls)) z) (sym same) h in
@@ -299,7 +299,7 @@ module _ (K : Expr → Lexemes → Type 0) (ends : (e : Expr) (ts : Lexemes) →
   on_calls fs formed e ds ts (method_call x es line rest, us, (t1, t2, t3, t4, (l, (z, is)), nm, left, listed, d), h) =
       subst (λ w. After K (after_calls e ds fs w) w) (sym is) (x, line, t2, nm, inr (t3, left, (es, t4, listed, (rest, us, d, h))))
 
-  calls_past : (fs : List Frame) → Formed fs → (e : Expr) (ds : List MethodCallIs) (ts : Lexemes) → WithCalls K fs e ds ts → 0 < reach (peek ts)
+  calls_past : (fs : List Open) → Formed fs → (e : Expr) (ds : List MethodCallIs) (ts : Lexemes) → WithCalls K fs e ds ts → 0 < reach (peek ts)
   unfolding reach
   calls_past fs formed e ds ts (no_method_calls, us, same, h) =
       let low = hole_two fs in
@@ -308,7 +308,7 @@ module _ (K : Expr → Lexemes → Type 0) (ends : (e : Expr) (ts : Lexemes) →
   calls_past fs formed e ds ts (method x line rest, us, (t1, t2, (l, is), nm, d), h) = omega (arith, reach_is (s.Punctuation m.Dot) l ts t1 is)
   calls_past fs formed e ds ts (method_call x es line rest, us, (t1, t2, t3, t4, (l, is), nm, left, listed, d), h) = omega (arith, reach_is (s.Punctuation m.Dot) l ts t1 is)
 
-  no_operand : (fs : List Frame) (c : Callee) (x : Option Symbol) (y : Text) (line : ℕ) (ts : Lexemes) → After K (operand_by x (argument c [] None ∷ fs) y line) ts
+  no_operand : (fs : List Open) (c : Callee) (x : Option Symbol) (y : Text) (line : ℕ) (ts : Lexemes) → After K (operand_by x (argument c [] None ∷ fs) y line) ts
       → After K (if punctuation_by m.RightParen x then keeps (called c []) fs else operand_by x (argument c [] None ∷ fs) y line) ts
   no_operand fs c (Some (s.Punctuation m.RightParen)) y line ts h = absurd h
   no_operand fs c (Some (s.Punctuation m.LeftParen)) y line ts h = h
@@ -321,14 +321,14 @@ module _ (K : Expr → Lexemes → Type 0) (ends : (e : Expr) (ts : Lexemes) →
   no_operand fs c (Some (s.Keyword k)) y line ts h = h
   no_operand fs c (Some (s.Operator op)) y line ts h = h
 
-  on_opened : (fs : List Frame) (c : Callee) (ts : Lexemes) → Opened K fs c ts → After K (expr_step (args_opened c) fs ts) ts
+  on_opened : (fs : List Open) (c : Callee) (ts : Lexemes) → Opened K fs c ts → After K (expr_step (args_opened c) fs ts) ts
   unfolding is_punctuation operand
   on_opened fs c ts (no_args, us, (l, (z, is)), h) = subst (λ w. After K (expr_step (args_opened c) fs w) w) (sym is) (called_in fs c [] no_args us refl h)
   on_opened fs c ts (arg y f es, us, (t1, t2, label, d, more), h) =
       no_operand fs c (peek ts) (content_at ts) (line_of ts) ts (on_operand_next (argument c [] None ∷ fs) ts (label_in fs c [] y f ts t1 t2 label d (es, us, more, h)))
 
   -- What may come still may come after the token is taken, and where the token is refused nothing may come.
-  pub on_expr_step : (now : ExprState) (fs : List Frame) → Formed fs → (ts : Lexemes) → Meaning K now fs ts → After K (expr_step now fs ts) ts
+  pub on_expr_step : (now : ExprState) (fs : List Open) → Formed fs → (ts : Lexemes) → Meaning K now fs ts → After K (expr_step now fs ts) ts
   unfolding is_punctuation
   on_expr_step operand_next fs formed ts h = on_operand_next fs ts h
   on_expr_step (value_read k e) fs formed ts h = on_grown fs (on_close fs formed) (past fs formed) k e ts h
@@ -345,7 +345,7 @@ module _ (K : Expr → Lexemes → Type 0) (ends : (e : Expr) (ts : Lexemes) →
   on_expr_step (calls_read e ds) fs formed ts h = on_calls fs formed e ds ts h
 
   -- Some token has to come.
-  pub some_token : (now : ExprState) (fs : List Frame) → Formed fs → Meaning K now fs [] → ⊥
+  pub some_token : (now : ExprState) (fs : List Open) → Formed fs → Meaning K now fs [] → ⊥
   unfolding reach operand is_punctuation
   some_token operand_next fs formed h = on_operand_next fs [] h
   some_token (value_read k e) fs formed h = past_token fs formed k e h

@@ -7,7 +7,7 @@ use Rattle.avs_tree.specs.Tree.{Function}
 use Rattle.avs_tree.specs.Tree as t
 use Rattle.avs_tree.specs.View.{StatementIs, method_calls_of, steps_of}
 use Rattle.avs_tree.specs.Next.{is_punctuation, operator_at}
-use Rattle.avs_tree.specs.ExprMachine.{Frame, paren, argument, minus_of, not_of, chain_of, compare_of, yes_of, no_of, ExprState, operand_next, value_read, name_read, args_opened, dot_read, method_read, calls_read, ExprStep, refused, keeps, leaves, operand_by, operand, grow, grows, closing_argument, close, after, expr_step}
+use Rattle.avs_tree.specs.ExprMachine.{Open, paren, argument, minus_of, not_of, chain_of, compare_of, yes_of, no_of, ExprState, operand_next, value_read, name_read, args_opened, dot_read, method_read, calls_read, ExprStep, refused, keeps, leaves, operand_by, operand, grow, grows, closing_argument, close, after, expr_step}
 use Rattle.avs_tree.specs.Machine.{Use, to_value, to_global, to_assign, to_return, to_arm, to_while, to_first, to_last, to_step, Levels, depth, after_for, for_opened, after_for_name, HeadState, after_function, after_function_name, head_opened, after_type, after_parameter, parameter_next, function_braces_next, State, at, at_head, advance_statement, advance_head, StatementState, statement_next, in_expression, parenthesis_next, braces_next, after_arm, after_else, after_global, after_global_name, Step, stuck, goes, whole, expression_by, advance}
 use Rattle.avs_tree.specs.Nesting.{level_of}
 use Rattle.avs_tree.specs.Place.{IsWord}
@@ -26,8 +26,8 @@ LowStep most stuck = Unit {0}
 LowStep most (goes state) = level_of state ≤ most
 LowStep most (whole b) = Unit {0}
 
-module _ (k : Keyword) (x : Text) (l : ℕ) (ts : Lexemes) (plain : (fs : List Frame) → NotOn (operand_by (Some (s.Keyword k)) fs x l)) where
-  quiet_close : (fs : List Frame) (e : Expr) → NotOn (close e fs ((s.Keyword k, x, l) ∷ ts))
+module _ (k : Keyword) (x : Text) (l : ℕ) (ts : Lexemes) (plain : (fs : List Open) → NotOn (operand_by (Some (s.Keyword k)) fs x l)) where
+  quiet_close : (fs : List Open) (e : Expr) → NotOn (close e fs ((s.Keyword k, x, l) ∷ ts))
   unfolding is_punctuation operator_at closing_argument grow
   quiet_close [] e = tt
   quiet_close (paren ∷ fs) e = tt
@@ -43,11 +43,11 @@ module _ (k : Keyword) (x : Text) (l : ℕ) (ts : Lexemes) (plain : (fs : List F
   quiet_close (no_of f yes_ line ∷ fs) e =
       in_if NotOn (grows 8 fs ((s.Keyword k, x, l) ∷ ts)) (grow (conditional f yes_ e line) fs ((s.Keyword k, x, l) ∷ ts)) (close (conditional f yes_ e line) fs ((s.Keyword k, x, l) ∷ ts)) (λ _. tt) (λ _. quiet_close fs (conditional f yes_ e line))
 
-  quiet_after : (n : ℕ) (e : Expr) (fs : List Frame) → NotOn (after n e fs ((s.Keyword k, x, l) ∷ ts))
+  quiet_after : (n : ℕ) (e : Expr) (fs : List Open) → NotOn (after n e fs ((s.Keyword k, x, l) ∷ ts))
   unfolding grow
   quiet_after n e fs = in_if NotOn (grows n fs ((s.Keyword k, x, l) ∷ ts)) (grow e fs ((s.Keyword k, x, l) ∷ ts)) (close e fs ((s.Keyword k, x, l) ∷ ts)) (λ _. tt) (λ _. quiet_close fs e)
 
-  quiet_expr_step : (now : ExprState) (fs : List Frame) → NotOn (expr_step now fs ((s.Keyword k, x, l) ∷ ts))
+  quiet_expr_step : (now : ExprState) (fs : List Open) → NotOn (expr_step now fs ((s.Keyword k, x, l) ∷ ts))
   unfolding is_punctuation operand
   quiet_expr_step operand_next fs = plain fs
   quiet_expr_step (value_read n e) fs = quiet_after n e fs

@@ -6,18 +6,18 @@ use Rattle.avs_tree.specs.Tree.{Function}
 use Rattle.avs_tree.specs.Tree as t
 use Rattle.avs_tree.specs.View.{StatementIs, MethodCallIs, method_calls_of}
 use Rattle.avs_tree.specs.Next.{is_punctuation, operator_at}
-use Rattle.avs_tree.specs.ExprMachine.{Frame, paren, argument, minus_of, not_of, chain_of, compare_of, yes_of, no_of, ExprState, operand_next, value_read, name_read, args_opened, dot_read, method_read, calls_read, call_of, method_of, ExprStep, refused, leaves, keeps, operand, grow, continues, grows, Closing, no_closing, taken, reopened, closed, closing_argument, closing, by_closing, close, after, after_calls, expr_step}
+use Rattle.avs_tree.specs.ExprMachine.{Open, paren, argument, minus_of, not_of, chain_of, compare_of, yes_of, no_of, ExprState, operand_next, value_read, name_read, args_opened, dot_read, method_read, calls_read, call_of, method_of, ExprStep, refused, leaves, keeps, operand, grow, continues, grows, Closing, no_closing, taken, reopened, closed, closing_argument, closing, by_closing, close, after, after_calls, expr_step}
 use Rattle.avs_tree.specs.Machine.{StatementState, statement_next, in_expression, parenthesis_next, braces_next, after_arm, after_else, after_global, after_global_name, after_for, for_opened, after_for_name, HeadState, after_function, after_function_name, head_opened, after_type, after_parameter, parameter_next, function_braces_next, State, at, at_head, Levels, used, expression_by, Use, to_value, to_global, to_assign, to_return, to_arm, to_while, to_first, to_last, to_step, advance_statement, advance_head, advance}
 use Rattle.avs_tree.specs.declared.symbol.Punctuation.TheVariants as m
 
-same_by_closing : (c : Closing) (fs : List Frame) (go other : ℕ → Expr → ExprStep) → ((k : ℕ) (e : Expr) → go k e ≡ other k e) → by_closing c fs go ≡ by_closing c fs other
+same_by_closing : (c : Closing) (fs : List Open) (go other : ℕ → Expr → ExprStep) → ((k : ℕ) (e : Expr) → go k e ≡ other k e) → by_closing c fs go ≡ by_closing c fs other
 same_by_closing no_closing fs go other same = refl
 same_by_closing (taken now) fs go other same = refl
 same_by_closing (reopened f) fs go other same = refl
 same_by_closing (closed k e) fs go other same = same k e
 
 module _ (x : Lexeme) (ts us : Lexemes) where
-  same_closing : (f : Frame) (e : Expr) → closing e f (x ∷ ts) ≡ closing e f (x ∷ us)
+  same_closing : (f : Open) (e : Expr) → closing e f (x ∷ ts) ≡ closing e f (x ∷ us)
   unfolding is_punctuation operator_at closing_argument
   same_closing paren e = refl
   same_closing (argument c found y) e = refl
@@ -28,22 +28,22 @@ module _ (x : Lexeme) (ts us : Lexemes) where
   same_closing (yes_of f line) e = refl
   same_closing (no_of f yes_ line) e = refl
 
-  same_close : (fs : List Frame) (e : Expr) → close e fs (x ∷ ts) ≡ close e fs (x ∷ us)
+  same_close : (fs : List Open) (e : Expr) → close e fs (x ∷ ts) ≡ close e fs (x ∷ us)
   unfolding continues grow
   same_close [] e = refl
   same_close (f ∷ fs) e =
       ap (λ c. by_closing c fs (λ k whole. after k whole fs (x ∷ ts))) (same_closing f e)
       ∙ same_by_closing (closing e f (x ∷ us)) fs (λ k whole. after k whole fs (x ∷ ts)) (λ k whole. after k whole fs (x ∷ us)) (λ k whole. ap (λ z. if grows k fs (x ∷ ts) then grow whole fs (x ∷ ts) else z) (same_close fs whole))
 
-  same_after : (k : ℕ) (e : Expr) (fs : List Frame) → after k e fs (x ∷ ts) ≡ after k e fs (x ∷ us)
+  same_after : (k : ℕ) (e : Expr) (fs : List Open) → after k e fs (x ∷ ts) ≡ after k e fs (x ∷ us)
   unfolding continues grow
   same_after k e fs = ap (λ z. if grows k fs (x ∷ ts) then grow e fs (x ∷ ts) else z) (same_close fs e)
 
-  same_calls : (e : Expr) (ds : List MethodCallIs) (fs : List Frame) → after_calls e ds fs (x ∷ ts) ≡ after_calls e ds fs (x ∷ us)
+  same_calls : (e : Expr) (ds : List MethodCallIs) (fs : List Open) → after_calls e ds fs (x ∷ ts) ≡ after_calls e ds fs (x ∷ us)
   unfolding is_punctuation
   same_calls e ds fs = ap (λ z. if is_punctuation m.Dot (x ∷ ts) then keeps (dot_read e ds) fs else z) (same_after 1 (method_calls e (method_calls_of ds)) fs)
 
-  same_expr_step : (now : ExprState) (fs : List Frame) → expr_step now fs (x ∷ ts) ≡ expr_step now fs (x ∷ us)
+  same_expr_step : (now : ExprState) (fs : List Open) → expr_step now fs (x ∷ ts) ≡ expr_step now fs (x ∷ us)
   unfolding is_punctuation operand
   same_expr_step operand_next fs = refl
   same_expr_step (value_read k e) fs = same_after k e fs

@@ -10,7 +10,7 @@ use Rattle.avs_tree.specs.declared.symbol.Symbol.TheVariants as s
 use Rattle.avs_tree.specs.declared.words.TypeWord.{TypeWord}
 use Rattle.avs_tree.specs.declared.symbol.Punctuation.TheVariants as m
 use Rattle.avs_tree.specs.declared.tree.Parameter.{Parameter}
-use Rattle.avs_tree.specs.ExprMachine.{operand_next, ExprState, Frame}
+use Rattle.avs_tree.specs.ExprMachine.{operand_next, ExprState, Open}
 use Rattle.avs_tree.specs.Machine.{Use, to_value, to_global, to_assign, to_return, to_arm, to_while, to_first, to_last, to_step, Owner, arm_of, else_of, while_of, for_of, Levels, top, in_function, level, depth, StatementState, statement_next, in_expression, parenthesis_next, braces_next, after_arm, after_else, after_global, after_global_name, after_for, for_opened, after_for_name, HeadState, after_function, after_function_name, head_opened, after_type, after_parameter, parameter_next, function_braces_next, State, at, at_head}
 use Rattle.avs_tree.proofs.ScriptMeaning.{all_block, all_arms, function_with, ArmsIn, OwnedIn, Closed, Next, Done, Bodied, ForBodied, Stepped, Used, OperandNext, Conditioned, Equals, ForNamed, Statement, FunctionBodied, HeadEnds, ParametersEnd, Typed, ParameterNext, HeadNamed, Head, Completion}
 use Rattle.std.specs.Prelude.{codes}
@@ -113,7 +113,7 @@ module _ (most : ℕ) (some : 0 < most) where
   some_used ls ss line (to_last y a) u h b e le = some_stepped ls ss line y a e h b (omega arith) u (omega arith)
   some_used ls ss line (to_step y a b') (u, v) h b e le = some_for ls ss line y a b' (Some e) h b (omega arith) (u, v, omega arith)
 
-  some_expression : (ls : Levels) (ss : List StatementIs) (line : ℕ) (use_ : Use) (now : ExprState) (fs : List Frame) → FitsHere most some (depth ls) (in_expression use_ now fs) → FitsLevels most some ls → depth ls + block_nest ss ≤ most
+  some_expression : (ls : Levels) (ss : List StatementIs) (line : ℕ) (use_ : Use) (now : ExprState) (fs : List Open) → FitsHere most some (depth ls) (in_expression use_ now fs) → FitsLevels most some ls → depth ls + block_nest ss ≤ most
       → (w : Within) × (ts : Lexemes) × Meaning (Used w.0 ls ss line use_) now fs ts
   some_expression ls ss line use_ now fs (u, n, f) h b =
       shallow_meaning most (depth ls + use_level use_) Within (λ w. Used w.0 ls ss line use_) (some_used ls ss line use_ u h b) now fs n f

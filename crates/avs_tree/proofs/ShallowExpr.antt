@@ -6,8 +6,8 @@ use Rattle.avs_tree.specs.Tree.{Expr, int, call, method_calls, minus, not_, chai
 use Rattle.avs_tree.specs.Tree as t
 use Rattle.avs_tree.specs.View.{ArgIs, MethodCallIs, StepIs, method_call_of}
 use Rattle.avs_tree.specs.Grammar.{nesting, args_nesting, method_calls_nesting, steps_nesting}
-use Rattle.avs_tree.specs.ExprMachine.{Callee, call_of, method_of, Frame, paren, argument, minus_of, not_of, chain_of, compare_of, yes_of, no_of, ExprState, operand_next, value_read, name_read, args_opened, dot_read, method_read, calls_read}
-use Rattle.avs_tree.specs.Nesting.{frames_level}
+use Rattle.avs_tree.specs.ExprMachine.{Callee, call_of, method_of, Open, paren, argument, minus_of, not_of, chain_of, compare_of, yes_of, no_of, ExprState, operand_next, value_read, name_read, args_opened, dot_read, method_read, calls_read}
+use Rattle.avs_tree.specs.Nesting.{open_level}
 use Rattle.avs_tree.specs.declared.symbol.Symbol.TheVariants as s
 use Rattle.avs_tree.specs.declared.symbol.Punctuation.TheVariants as m
 use Rattle.avs_tree.specs.declared.tree.Operator.{Operator}
@@ -34,16 +34,16 @@ steps_last [] op e line = omega arith
 steps_last (x ∷ ss) op e line = omega (arith, steps_last ss op e line)
 
 module _ (most base : ℕ) (X : Type 0) (K : X → Expr → Lexemes → Type 0) (some : (e : Expr) → base + nesting e ≤ most → (a : X) × (ts : Lexemes) × K a e ts) where
-  abbrev SomeCont : List Frame → Expr → Type 0
+  abbrev SomeCont : List Open → Expr → Type 0
   SomeCont fs e = (a : X) × (ts : Lexemes) × Continuation (K a) fs e ts
 
-  abbrev Completes : List Frame → Type 0
-  Completes fs = (e : Expr) → base + frames_level fs + nesting e ≤ most → SomeCont fs e
+  abbrev Completes : List Open → Type 0
+  Completes fs = (e : Expr) → base + open_level fs + nesting e ≤ most → SomeCont fs e
 
-  some_grown : (fs : List Frame) (k : ℕ) (e : Expr) → SomeCont fs e → (a : X) × (ts : Lexemes) × Grown (K a) fs k e ts
+  some_grown : (fs : List Open) (k : ℕ) (e : Expr) → SomeCont fs e → (a : X) × (ts : Lexemes) × Grown (K a) fs k e ts
   some_grown fs k e (a, us, c) = (a, us, (e, us, grown, c))
 
-  some_called : (fs : List Frame) → Completes fs → (c : Callee) (es : Args) → FitsCallee most base (base + frames_level fs) c → base + frames_level fs + suc (args_nesting es) ≤ most
+  some_called : (fs : List Open) → Completes fs → (c : Callee) (es : Args) → FitsCallee most base (base + open_level fs) c → base + open_level fs + suc (args_nesting es) ≤ most
       → (a : X) × (ts : Lexemes) × Called (K a) fs c es ts
   some_called fs go (call_of x line) es f le = some_grown fs 0 (call x es line) (go (call x es line) le)
   some_called fs go (method_of e ds x line) es (f, f') le =
@@ -51,11 +51,11 @@ module _ (most base : ℕ) (X : Type 0) (K : X → Expr → Lexemes → Type 0) 
       let last = calls_last ds x es line in
       let one = some_grown fs 1 whole (go whole (omega arith)) in (one.0, one.1, (no_method_calls, one.1, refl {a = one.1}, one.2))
 
-  some_argument : (fs : List Frame) (c : Callee) (found : List ArgIs) (x : Option Text) (e : Expr) → ((a : X) × (ts : Lexemes) × Called (K a) fs c (all_args found (arg x e no_args)) ts) → SomeCont (argument c found x ∷ fs) e
+  some_argument : (fs : List Open) (c : Callee) (found : List ArgIs) (x : Option Text) (e : Expr) → ((a : X) × (ts : Lexemes) × Called (K a) fs c (all_args found (arg x e no_args)) ts) → SomeCont (argument c found x ∷ fs) e
   some_argument fs c found None e (a, us, h) = (a, (s.Punctuation m.RightParen, [], 0) ∷ us, inl (no_args, us, (0, ([], refl)), h))
   some_argument fs c found (Some y) e (a, us, h) = (a, (s.Punctuation m.RightParen, [], 0) ∷ us, (no_args, us, (0, ([], refl)), h))
 
-  some_cont : (fs : List Frame) → Fits most base fs → Completes fs
+  some_cont : (fs : List Open) → Fits most base fs → Completes fs
   some_cont [] h e le = some e (omega arith)
   some_cont (paren ∷ fs) (a, h) e le = let one = some_grown fs 0 (group e) (some_cont fs h (group e) (omega arith)) in (one.0, (s.Punctuation m.RightParen, [], 0) ∷ one.1, (one.1, (0, ([], refl)), one.2))
   some_cont (argument c found x ∷ fs) (a, b, h) e le =
@@ -73,12 +73,12 @@ module _ (most base : ℕ) (X : Type 0) (K : X → Expr → Lexemes → Type 0) 
       (one.0, (s.Punctuation m.Colon, [], 0) ∷ (s.Int (pos 0), [], 0) ∷ one.1, ((s.Int (pos 0), [], 0) ∷ one.1, one.1, int (pos 0), (0, ([], refl {a = (s.Punctuation m.Colon, [], 0) ∷ (s.Int (pos 0), [], 0) ∷ one.1})), (0, ([], refl {a = (s.Int (pos 0), [], 0) ∷ one.1})), one.2))
   some_cont (no_of f yes_ line ∷ fs) (a, b, h) e le = some_grown fs 8 (conditional f yes_ e line) (some_cont fs h (conditional f yes_ e line) (omega arith))
 
-  some_calls : (fs : List Frame) → Fits most base fs → (e : Expr) (ds : List MethodCallIs) → base + frames_level fs + nesting e ≤ most → base + frames_level fs + calls_nest ds ≤ most → (a : X) × (ts : Lexemes) × WithCalls (K a) fs e ds ts
+  some_calls : (fs : List Open) → Fits most base fs → (e : Expr) (ds : List MethodCallIs) → base + open_level fs + nesting e ≤ most → base + open_level fs + calls_nest ds ≤ most → (a : X) × (ts : Lexemes) × WithCalls (K a) fs e ds ts
   some_calls fs h e ds a b =
       let whole = method_calls e (all_calls ds no_method_calls) in
       let one = some_grown fs 1 whole (some_cont fs h whole (omega arith)) in (one.0, one.1, (no_method_calls, one.1, refl {a = one.1}, one.2))
 
-  pub shallow_meaning : (now : ExprState) (fs : List Frame) → FitsNow most base (base + frames_level fs) now → Fits most base fs → (a : X) × (ts : Lexemes) × Meaning (K a) now fs ts
+  pub shallow_meaning : (now : ExprState) (fs : List Open) → FitsNow most base (base + open_level fs) now → Fits most base fs → (a : X) × (ts : Lexemes) × Meaning (K a) now fs ts
   shallow_meaning operand_next fs f h =
       let low = fits_level most base fs h in
       let one = some_cont fs h (int (pos 0)) (omega arith) in (one.0, (s.Int (pos 0), [], 0) ∷ one.1, (int (pos 0), one.1, (0, ([], refl)), one.2))

@@ -19,15 +19,15 @@ pub data Callee : Type 0 where
   method_of : Expr → List MethodCallIs → Text → ℕ → Callee
 
 -- What is open, with what was read of it. An expression comes next in it.
-pub data Frame : Type 0 where
-  paren : Frame
-  argument : Callee → List ArgIs → Option Text → Frame
-  minus_of : ℕ → Frame
-  not_of : ℕ → Frame
-  chain_of : Expr → List StepIs → Operator → ℕ → Frame
-  compare_of : Operator → Expr → ℕ → Frame
-  yes_of : Expr → ℕ → Frame
-  no_of : Expr → Expr → ℕ → Frame
+pub data Open : Type 0 where
+  paren : Open
+  argument : Callee → List ArgIs → Option Text → Open
+  minus_of : ℕ → Open
+  not_of : ℕ → Open
+  chain_of : Expr → List StepIs → Operator → ℕ → Open
+  compare_of : Operator → Expr → ℕ → Open
+  yes_of : Expr → ℕ → Open
+  no_of : Expr → Expr → ℕ → Open
 
 -- what was read last
 pub data ExprState : Type 0 where
@@ -49,18 +49,18 @@ pub data ExprState : Type 0 where
 -- What a token does: it cannot stand there, it is taken, or the whole expression ends before it.
 pub data ExprStep : Type 0 where
   refused : ExprStep
-  keeps : ExprState → List Frame → ExprStep
+  keeps : ExprState → List Open → ExprStep
   leaves : Expr → ExprStep
 
--- the highest precedence of what comes next in this frame
-abbrev pub hole_of : Frame → ℕ
+-- the highest precedence of what comes next in it
+abbrev pub hole_of : Open → ℕ
 hole_of (minus_of line) = 2
 hole_of (not_of line) = 2
 hole_of (chain_of e ss op line) = precedence_of op - 1
 hole_of (compare_of op e line) = 4
 hole_of _ = 8
 
-abbrev pub hole : List Frame → ℕ
+abbrev pub hole : List Open → ℕ
 hole [] = 8
 hole (f ∷ fs) = hole_of f
 
@@ -75,7 +75,7 @@ reach (Some _) = 9
 
 -- ---- an operand comes next
 
-abbrev pub operand_by : Option Symbol → List Frame → Text → ℕ → ExprStep
+abbrev pub operand_by : Option Symbol → List Open → Text → ℕ → ExprStep
 operand_by (Some (s.Int n)) fs x line = keeps (value_read 0 (int n)) fs
 operand_by (Some s.Str) fs x line = keeps (value_read 0 (str x)) fs
 operand_by (Some (s.Keyword w.True)) fs x line = keeps (value_read 0 (bool true)) fs
@@ -86,15 +86,15 @@ operand_by (Some (s.Operator o.Minus)) fs x line = keeps operand_next (minus_of 
 operand_by (Some (s.Punctuation m.Not)) fs x line = keeps operand_next (not_of line ∷ fs)
 operand_by _ fs x line = refused
 
-unfoldable pub operand : List Frame → Lexemes → ExprStep
+unfoldable pub operand : List Open → Lexemes → ExprStep
 operand fs ts = operand_by (peek ts) fs (content_at ts) (line_of ts)
 
 -- ---- after an expression
 
-abbrev pub operand_of : Operator → Expr → ℕ → Frame
+abbrev pub operand_of : Operator → Expr → ℕ → Open
 operand_of op e line = if nat_eq (precedence_of op) 5 then compare_of op e line else chain_of e [] op line
 
-abbrev pub grow_by : Option Symbol → Expr → List Frame → ℕ → ExprStep
+abbrev pub grow_by : Option Symbol → Expr → List Open → ℕ → ExprStep
 grow_by (Some (s.Punctuation m.Dot)) e fs line = keeps (dot_read e []) fs
 grow_by (Some (s.Punctuation m.Question)) e fs line = keeps operand_next (yes_of e line ∷ fs)
 grow_by (Some (s.Operator op)) e fs line = keeps operand_next (operand_of op e line ∷ fs)
@@ -104,24 +104,24 @@ grow_by _ e fs line = refused
 unfoldable pub continues : ℕ → ℕ → Lexemes → Bool
 continues k highest ts = nat_lt k (reach (peek ts)) && nat_le (reach (peek ts)) highest
 
-abbrev pub grows : ℕ → List Frame → Lexemes → Bool
+abbrev pub grows : ℕ → List Open → Lexemes → Bool
 grows k fs ts = continues k (hole fs) ts
 
-unfoldable pub grow : Expr → List Frame → Lexemes → ExprStep
+unfoldable pub grow : Expr → List Open → Lexemes → ExprStep
 grow e fs ts = grow_by (peek ts) e fs (line_of ts)
 
 abbrev pub called : Callee → List ArgIs → ExprState
 called (call_of x line) es = value_read 0 (call x (args_of es) line)
 called (method_of e ds x line) es = calls_read e (ds ++ (x, (Some (args_of es), line)) ∷ [])
 
--- ---- the innermost frame, where the expression in it ends
+-- ---- what is open innermost, where the expression in it ends
 
--- What a token does to it: it cannot stand there, it is taken, another frame stands in the place of this one, or it stands after
--- the expression of this precedence that the frame is now.
+-- What a token does to it: it cannot stand there, it is taken, something else is open in its place, or it stands after
+-- the expression of this precedence that it is now.
 pub data Closing : Type 0 where
   no_closing : Closing
   taken : ExprState → Closing
-  reopened : Frame → Closing
+  reopened : Open → Closing
   closed : ℕ → Expr → Closing
 
 -- after `=`, where the argument is a name so far
@@ -141,7 +141,7 @@ abbrev pub more_of : Option Operator → Operator → Expr → List StepIs → �
 more_of (Some op) before first ss line = reopened (chain_of first ss op line)
 more_of None before first ss line = closed (precedence_of before) (chain first (steps_of ss))
 
-abbrev pub closing : Expr → Frame → Lexemes → Closing
+abbrev pub closing : Expr → Open → Lexemes → Closing
 closing e paren ts = if is_punctuation m.RightParen ts then taken (value_read 0 (group e)) else no_closing
 closing e (argument c es x) ts = closing_argument c es x e ts
 closing e (minus_of line) ts = closed 2 (minus e line)
@@ -151,31 +151,31 @@ closing e (compare_of op first line) ts = closed 5 (compare op first e line)
 closing e (yes_of c line) ts = if is_punctuation m.Colon ts then reopened (no_of c e line) else no_closing
 closing e (no_of c yes_ line) ts = closed 8 (conditional c yes_ e line)
 
-abbrev pub by_closing : Closing → List Frame → (ℕ → Expr → ExprStep) → ExprStep
+abbrev pub by_closing : Closing → List Open → (ℕ → Expr → ExprStep) → ExprStep
 by_closing no_closing fs go = refused
 by_closing (taken now) fs go = keeps now fs
 by_closing (reopened f) fs go = keeps operand_next (f ∷ fs)
 by_closing (closed k e) fs go = go k e
 
--- The next token closes the innermost frames. The expression stands in them.
-abbrev pub close : Expr → List Frame → Lexemes → ExprStep
+-- The next token closes what is open innermost. The expression stands in it.
+abbrev pub close : Expr → List Open → Lexemes → ExprStep
 close e [] ts = leaves e
 close e (f ∷ fs) ts = by_closing (closing e f ts) fs (λ k whole. if grows k fs ts then grow whole fs ts else close whole fs ts)
 
 -- after an expression of this precedence
-abbrev pub after : ℕ → Expr → List Frame → Lexemes → ExprStep
+abbrev pub after : ℕ → Expr → List Open → Lexemes → ExprStep
 after k e fs ts = if grows k fs ts then grow e fs ts else close e fs ts
 
 -- ---- one token
 
-abbrev pub after_calls : Expr → List MethodCallIs → List Frame → Lexemes → ExprStep
+abbrev pub after_calls : Expr → List MethodCallIs → List Open → Lexemes → ExprStep
 after_calls e ds fs ts = if is_punctuation m.Dot ts then keeps (dot_read e ds) fs else after 1 (method_calls e (method_calls_of ds)) fs ts
 
-abbrev pub method_by : Option Symbol → Expr → List MethodCallIs → List Frame → Text → ℕ → ExprStep
+abbrev pub method_by : Option Symbol → Expr → List MethodCallIs → List Open → Text → ℕ → ExprStep
 method_by (Some s.Name) e ds fs x line = keeps (method_read e ds x line) fs
 method_by _ e ds fs x line = refused
 
-abbrev pub expr_step : ExprState → List Frame → Lexemes → ExprStep
+abbrev pub expr_step : ExprState → List Open → Lexemes → ExprStep
 expr_step operand_next fs ts = operand fs ts
 expr_step (value_read k e) fs ts = after k e fs ts
 expr_step (name_read x line) fs ts = if is_punctuation m.LeftParen ts then keeps (args_opened (call_of x line)) fs else after 0 (name x line) fs ts

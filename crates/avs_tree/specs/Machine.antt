@@ -15,7 +15,7 @@ use Rattle.avs_tree.specs.declared.symbol.Punctuation.TheVariants as m
 use Rattle.avs_tree.specs.declared.tree.Parameter.{Parameter}
 use Rattle.avs_tree.specs.Next.{peek, content_at, is_punctuation}
 use Rattle.avs_tree.specs.ExprMachine as x
-use Rattle.avs_tree.specs.ExprMachine.{Frame, ExprState, ExprStep}
+use Rattle.avs_tree.specs.ExprMachine.{Open, ExprState, ExprStep}
 
 -- ---- states
 
@@ -56,7 +56,7 @@ depth (level o line before ls) = suc (depth ls)
 pub data StatementState : Type 0 where
   -- a statement or newlines come next
   statement_next : StatementState
-  in_expression : Use → ExprState → List Frame → StatementState
+  in_expression : Use → ExprState → List Open → StatementState
   -- a parenthesis comes next
   parenthesis_next : Use → StatementState
   -- newlines and a left brace come next

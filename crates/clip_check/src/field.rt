@@ -21,19 +21,14 @@ fn has_fields(shape: Shape) -> bool
     shape.height % (2 * shape.kind.sub_h()) == 0
 }
 
-// What the row refuses.
 fn field_fault(op: FieldOp, shape: Shape) -> Option<FilterFault>
     ensures { result ≡ first_fault (f.field_refusals op shape) }
 {
-    let whole = match op {
-        FieldOp::SeparateFields | FieldOp::SwapFields => has_fields(shape),
-        FieldOp::Weave | FieldOp::AssumeTFF | FieldOp::AssumeBFF | FieldOp::ComplementParity =>
-            true,
-    };
-    if whole {
-        None
-    } else {
-        Some(FilterFault::NotWholeChroma)
+    match op {
+        FieldOp::SeparateFields | FieldOp::SwapFields if !has_fields(shape) => {
+            Some(FilterFault::NotWholeChroma)
+        }
+        _ => None,
     }
 }
 

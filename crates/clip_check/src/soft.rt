@@ -11,10 +11,9 @@ ghost use Rattle.clip_check.specs.Summaries.{TellsAll};
 use crate::limits::{limits, rate_of, sides_of};
 use crate::shared::{bad_range, beyond};
 use crate::summary::Summary;
-use clip_term::{FilterFault, SoftOp, is_no_bias};
+use clip_term::{FilterFault, SoftOp, is_bias};
 use fv_plane::Info;
 
-// What the row refuses.
 fn soft_fault(op: &SoftOp) -> Option<FilterFault>
     ensures { result ≡ first_fault (soft_refusals op.now) }
 {
@@ -24,7 +23,7 @@ fn soft_fault(op: &SoftOp) -> Option<FilterFault>
             luma,
             chroma,
         } => bad_range(beyond(*radius, 7) || beyond(*luma, 255) || beyond(*chroma, 255)),
-        SoftOp::GeneralConvolution { bias, .. } => bad_range(is_no_bias(*bias)),
+        SoftOp::GeneralConvolution { bias, .. } => bad_range(!is_bias(*bias)),
     }
 }
 

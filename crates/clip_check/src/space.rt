@@ -1,29 +1,33 @@
 // The checks of the group Space.
-ghost use Rattle.std.specs.Prelude.{◌≡◌, ◌-ℤ◌, pos, List, length, IfOk, None, ◌∷◌, [], ◌||◌, ◌==◌, not};
+ghost use Rattle.std.specs.Prelude.{◌≡◌, ◌-ℤ◌, pos, List, length, IfOk, ◌∷◌, [], ◌||◌, ◌==◌, not};
+ghost use Rattle.std.specs.Result.{result_err};
 ghost use Rattle.fv_plane.specs.declared.format.Info.{Info};
 ghost use Rattle.fv_plane.specs.Info.{IsLawful};
-ghost use Rattle.fv_plane.specs.Format.{has_depth};
 ghost use Rattle.fv_plane.specs.Refusals.{first_fault};
 ghost use Rattle.fv_plane.specs.declared.format.PixelType.TheVariants.{Y8, YV16, YV411};
-ghost use Rattle.clip_term.specs.declared.fault.FilterFault.TheVariants.{BadRange, TurnFormat, NeedsChroma, DepthRefused};
+ghost use Rattle.clip_term.specs.declared.fault.FilterFault.TheVariants.{BadRange, NotWholeChroma, TurnFormat, NeedsChroma, DepthRefused};
 ghost use Rattle.clip_term.specs.declared.op.SpaceOp.TheVariants as op;
-ghost use Rattle.clip_term.specs.Refusals.{nat_of, beyond, is_whole, are_whole, same_kind, sized};
-ghost use Rattle.clip_term.specs.Space.{size_from, cut_refusals, bad_bounds, is_no_part, is_outside, cover_more, bad_borders, no_depth, luma_of, space_refusals, space_shape, check_space};
+ghost use Rattle.clip_term.specs.Refusals.{beyond, is_whole, are_whole, same_kind, sized};
+ghost use Rattle.clip_term.specs.Space.{size_from, cut_refusals, bad_bounds, is_no_part, is_outside, cover_more, bad_borders, names_depth, luma_of, space_refusals, space_shape, check_space};
 ghost use Rattle.clip_term.specs.ClipTerm.{space};
 ghost use Rattle.clip_term.specs.Terms.{IsSound, AreLawful};
 ghost use Rattle.clip_check.specs.Numbers.{shape_in};
 ghost use Rattle.clip_check.specs.Summaries.{TellsAll};
 
 use crate::limits::{Sides, limits, rate_of, sides_of};
-use crate::shared::{beyond, is_whole};
+use crate::shared::{bad_range, beyond, is_whole};
 use crate::summary::Summary;
-use clip_term::{FilterFault, SpaceOp, depth_of, no_colour, no_depth};
+use clip_term::{FilterFault, SpaceOp, depth_of, is_colour, names_depth};
 use fv_plane::{Info, PixelType, Shape};
 
-fn are_whole(shape: Shape, left: u64, top: u64, right: u64, bottom: u64) -> bool
-    ensures { result ≡ are_whole shape left top right bottom }
+fn whole_fault(shape: Shape, left: u64, top: u64, right: u64, bottom: u64) -> Option<FilterFault>
+    ensures { result ≡ first_fault ((NotWholeChroma, not (are_whole shape left top right bottom)) ∷ []) }
 {
-    is_whole(shape, left, top) && is_whole(shape, right, bottom)
+    if is_whole(shape, left, top) && is_whole(shape, right, bottom) {
+        None
+    } else {
+        Some(FilterFault::NotWholeChroma)
+    }
 }
 
 // A size that is 0 or less counts from the far edge.
@@ -55,17 +59,13 @@ fn cut_fault(shape: Shape, left: i32, top: i32, width: i64, height: i64) -> Opti
     if is_outside(shape, left, top, width, height) {
         return Some(FilterFault::OutOfPicture);
     }
-    if are_whole(
+    whole_fault(
         shape,
         left.unsigned_abs() as u64,
         top.unsigned_abs() as u64,
         width.unsigned_abs(),
         height.unsigned_abs(),
-    ) {
-        None
-    } else {
-        Some(FilterFault::NotWholeChroma)
-    }
+    )
 }
 
 fn crop_fault(shape: Shape, left: i32, top: i32, width: i32, height: i32) -> Option<FilterFault>
@@ -95,19 +95,14 @@ fn bottom_fault(shape: Shape, n: i32) -> Option<FilterFault>
     if n < 0 {
         return Some(FilterFault::BadRange);
     }
-    cut_fault(
-        shape,
-        0,
-        0,
-        shape.width as i64,
-        height_above(shape.height, n),
-    )
+    let height = height_above(shape.height, n);
+    cut_fault(shape, 0, 0, shape.width as i64, height)
 }
 
 fn bad_borders(left: i32, top: i32, right: i32, bottom: i32, color: i32) -> bool
     ensures { result ≡ bad_borders left top right bottom color }
 {
-    left < 0 || top < 0 || right < 0 || bottom < 0 || no_colour(color)
+    left < 0 || top < 0 || right < 0 || bottom < 0 || !is_colour(color)
 }
 
 fn borders_fault(
@@ -123,17 +118,13 @@ fn borders_fault(
     if bad_borders(left, top, right, bottom, color_yuv) {
         return Some(FilterFault::BadRange);
     }
-    if are_whole(
+    whole_fault(
         shape,
         left.unsigned_abs() as u64,
         top.unsigned_abs() as u64,
         right.unsigned_abs() as u64,
         bottom.unsigned_abs() as u64,
-    ) {
-        None
-    } else {
-        Some(FilterFault::NotWholeChroma)
-    }
+    )
 }
 
 fn cover_more(shape: Shape, left: u32, top: u32, right: u32, bottom: u32) -> bool
@@ -161,11 +152,7 @@ fn letter_box_fault(
     if cover_more(shape, left, top, right, bottom) {
         return Some(FilterFault::OutOfPicture);
     }
-    if are_whole(shape, left as u64, top as u64, right as u64, bottom as u64) {
-        None
-    } else {
-        Some(FilterFault::NotWholeChroma)
-    }
+    whole_fault(shape, left as u64, top as u64, right as u64, bottom as u64)
 }
 
 fn turn_fault(kind: PixelType) -> Option<FilterFault>
@@ -211,69 +198,7 @@ fn limiter_fault(
 ) -> Option<FilterFault>
     ensures { result ≡ first_fault ((BadRange, bad_bounds min_luma max_luma || bad_bounds min_chroma max_chroma) ∷ []) }
 {
-    if bad_bounds(min_luma, max_luma) || bad_bounds(min_chroma, max_chroma) {
-        Some(FilterFault::BadRange)
-    } else {
-        None
-    }
-}
-
-fn bits_fault(kind: PixelType, bits: i32) -> Option<FilterFault>
-    ensures { result
-        ≡ first_fault ((BadRange, no_depth bits) ∷ (DepthRefused, not (has_depth kind (nat_of bits))) ∷ []) }
-{
-    if no_depth(bits) {
-        Some(FilterFault::BadRange)
-    } else if kind.has_depth(depth_of(bits)) {
-        None
-    } else {
-        Some(FilterFault::DepthRefused)
-    }
-}
-
-// What the row refuses.
-fn space_fault(op: &SpaceOp, shape: Shape) -> Option<FilterFault>
-    ensures { result ≡ first_fault (space_refusals op.now shape) }
-{
-    match op {
-        SpaceOp::Crop {
-            left,
-            top,
-            width,
-            height,
-        } => crop_fault(shape, *left, *top, *width, *height),
-        SpaceOp::CropBottom { n } => bottom_fault(shape, *n),
-        SpaceOp::AddBorders {
-            left,
-            top,
-            right,
-            bottom,
-            color_yuv,
-        } => borders_fault(shape, *left, *top, *right, *bottom, *color_yuv),
-        SpaceOp::LetterBox {
-            top,
-            bottom,
-            x1,
-            x2,
-            color_yuv,
-        } => letter_box_fault(shape, *top, *bottom, *x1, *x2, *color_yuv),
-        SpaceOp::TurnLeft | SpaceOp::TurnRight => turn_fault(shape.kind),
-        SpaceOp::Limiter {
-            min_luma,
-            max_luma,
-            min_chroma,
-            max_chroma,
-        } => limiter_fault(*min_luma, *max_luma, *min_chroma, *max_chroma),
-        SpaceOp::UToY8 | SpaceOp::VToY8 => chroma_fault(shape),
-        SpaceOp::ConvertToY8 => depth_fault(shape),
-        SpaceOp::ConvertBits { bits } => bits_fault(shape.kind, *bits),
-        SpaceOp::FlipHorizontal
-        | SpaceOp::FlipVertical
-        | SpaceOp::Turn180
-        | SpaceOp::Greyscale
-        | SpaceOp::Invert { .. }
-        | SpaceOp::SwapUV => None,
-    }
+    bad_range(bad_bounds(min_luma, max_luma) || bad_bounds(min_chroma, max_chroma))
 }
 
 fn of_size(shape: Shape, width: u64, height: u64) -> Sides
@@ -284,6 +209,12 @@ fn of_size(shape: Shape, width: u64, height: u64) -> Sides
         height: height as u128,
         ..sides_of(shape)
     }
+}
+
+fn turned(shape: Shape) -> Sides
+    ensures { shape_in result ≡ sized shape shape.height shape.width }
+{
+    of_size(shape, shape.height as u64, shape.width as u64)
 }
 
 // Luma alone, of the size of a plane.
@@ -300,49 +231,124 @@ fn luma_of(shape: Shape, plane: u32) -> Sides
     }
 }
 
-// The size of the row, and the bits of its samples.
-fn space_sides(op: &SpaceOp, shape: Shape) -> Sides
-    requires { first_fault (space_refusals op.now shape) ≡ None }
-    ensures { shape_in result ≡ space_shape op.now shape }
+// The sides that are made where nothing is refused.
+fn unless(fault: Option<FilterFault>, sides: Sides) -> Result<Sides, FilterFault>
+    ensures refused { result_err result ≡ fault }
+    ensures sides { IfOk result (λ made. shape_in made ≡ shape_in sides) }
 {
-    let whole_width = shape.width as u64;
-    let whole_height = shape.height as u64;
+    match fault {
+        Some(fault) => Err(fault),
+        None => Ok(sides),
+    }
+}
+
+fn cropped(shape: Shape, left: i32, top: i32, width: i32, height: i32) -> Result<Sides, FilterFault>
+    ensures refused { result_err result ≡ first_fault (space_refusals (op.Crop left top width height) shape) }
+    ensures sides { IfOk result (λ sides. shape_in sides ≡ space_shape (op.Crop left top width height) shape) }
+{
+    let sides = of_size(
+        shape,
+        size_from(left, width, shape.width).unsigned_abs(),
+        size_from(top, height, shape.height).unsigned_abs(),
+    );
+    unless(crop_fault(shape, left, top, width, height), sides)
+}
+
+fn cropped_bottom(shape: Shape, n: i32) -> Result<Sides, FilterFault>
+    ensures refused { result_err result ≡ first_fault (space_refusals (op.CropBottom n) shape) }
+    ensures sides { IfOk result (λ sides. shape_in sides ≡ space_shape (op.CropBottom n) shape) }
+{
+    let height = (shape.height as u64).saturating_sub(n.unsigned_abs() as u64);
+    unless(
+        bottom_fault(shape, n),
+        of_size(shape, shape.width as u64, height),
+    )
+}
+
+fn bordered(
+    shape: Shape,
+    left: i32,
+    top: i32,
+    right: i32,
+    bottom: i32,
+    color_yuv: i32,
+) -> Result<Sides, FilterFault>
+    ensures refused { result_err result ≡
+        first_fault (space_refusals (op.AddBorders left top right bottom color_yuv) shape) }
+    ensures sides { IfOk result (λ sides.
+        shape_in sides ≡ space_shape (op.AddBorders left top right bottom color_yuv) shape) }
+{
+    let width = shape.width as u64 + left.unsigned_abs() as u64 + right.unsigned_abs() as u64;
+    let height = shape.height as u64 + top.unsigned_abs() as u64 + bottom.unsigned_abs() as u64;
+    unless(
+        borders_fault(shape, left, top, right, bottom, color_yuv),
+        of_size(shape, width, height),
+    )
+}
+
+fn in_bits(shape: Shape, bits: i32) -> Result<Sides, FilterFault>
+    ensures refused { result_err result ≡ first_fault (space_refusals (op.ConvertBits bits) shape) }
+    ensures sides { IfOk result (λ sides. shape_in sides ≡ space_shape (op.ConvertBits bits) shape) }
+{
+    if !names_depth(bits) {
+        return Err(FilterFault::BadRange);
+    }
+    let bits = depth_of(bits);
+    if shape.kind.has_depth(bits) {
+        Ok(Sides {
+            bits,
+            ..sides_of(shape)
+        })
+    } else {
+        Err(FilterFault::DepthRefused)
+    }
+}
+
+// What the row refuses, or its size and the bits of its samples.
+fn space_sides(op: &SpaceOp, shape: Shape) -> Result<Sides, FilterFault>
+    ensures refused { result_err result ≡ first_fault (space_refusals op.now shape) }
+    ensures sides { IfOk result (λ sides. shape_in sides ≡ space_shape op.now shape) }
+{
     match op {
         SpaceOp::Crop {
             left,
             top,
             width,
             height,
-        } => of_size(
-            shape,
-            size_from(*left, *width, shape.width).unsigned_abs(),
-            size_from(*top, *height, shape.height).unsigned_abs(),
-        ),
-        SpaceOp::CropBottom { n } => of_size(
-            shape,
-            whole_width,
-            whole_height.saturating_sub(n.unsigned_abs() as u64),
-        ),
+        } => cropped(shape, *left, *top, *width, *height),
+        SpaceOp::CropBottom { n } => cropped_bottom(shape, *n),
         SpaceOp::AddBorders {
             left,
             top,
             right,
             bottom,
-            ..
-        } => of_size(
-            shape,
-            whole_width + left.unsigned_abs() as u64 + right.unsigned_abs() as u64,
-            whole_height + top.unsigned_abs() as u64 + bottom.unsigned_abs() as u64,
+            color_yuv,
+        } => bordered(shape, *left, *top, *right, *bottom, *color_yuv),
+        SpaceOp::LetterBox {
+            top,
+            bottom,
+            x1,
+            x2,
+            color_yuv,
+        } => unless(
+            letter_box_fault(shape, *top, *bottom, *x1, *x2, *color_yuv),
+            sides_of(shape),
         ),
-        SpaceOp::TurnLeft | SpaceOp::TurnRight => of_size(shape, whole_height, whole_width),
-        SpaceOp::UToY8 => luma_of(shape, 1),
-        SpaceOp::VToY8 => luma_of(shape, 2),
-        SpaceOp::ConvertToY8 => luma_of(shape, 0),
-        SpaceOp::ConvertBits { bits } => Sides {
-            bits: depth_of(*bits),
-            ..sides_of(shape)
-        },
-        _ => sides_of(shape),
+        SpaceOp::TurnLeft | SpaceOp::TurnRight => unless(turn_fault(shape.kind), turned(shape)),
+        SpaceOp::Limiter {
+            min_luma,
+            max_luma,
+            min_chroma,
+            max_chroma,
+        } => unless(
+            limiter_fault(*min_luma, *max_luma, *min_chroma, *max_chroma),
+            sides_of(shape),
+        ),
+        SpaceOp::UToY8 => unless(chroma_fault(shape), luma_of(shape, 1)),
+        SpaceOp::VToY8 => unless(chroma_fault(shape), luma_of(shape, 2)),
+        SpaceOp::ConvertToY8 => unless(depth_fault(shape), luma_of(shape, 0)),
+        SpaceOp::ConvertBits { bits } => in_bits(shape, *bits),
+        _ => Ok(sides_of(shape)),
     }
 }
 
@@ -351,9 +357,9 @@ pub fn space_info(op: &SpaceOp, summary: &Summary) -> Result<Info, FilterFault>
     ensures { (infos : List Info) → TellsAll summary.now infos → result ≡ check_space op.now infos }
 {
     let c = summary.first;
-    match space_fault(op, c.shape) {
-        Some(fault) => Err(fault),
-        None => limits(c, c.frames as u128, rate_of(c), space_sides(op, c.shape)),
+    match space_sides(op, c.shape) {
+        Ok(sides) => limits(c, c.frames as u128, rate_of(c), sides),
+        Err(fault) => Err(fault),
     }
 }
 

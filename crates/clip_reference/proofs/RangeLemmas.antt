@@ -1,34 +1,30 @@
 -- No sample that a filter makes of the frames that it asks is over the largest one.
-use Rattle.std.proofs.Common.{◌≡◌, ℕ, zero, suc, ◌+◌, ◌-◌, ◌*◌, ◌^◌, ◌<◌, ◌≤◌, List, [], ◌∷◌, length, map, get_or, refl, ap, ◌∙◌, arith, subst, Ok, All}
-use Rattle.std.specs.Prelude.{slice_index_or, ◌==◌}
-use Rattle.std.specs.List.{list_all}
+use Rattle.std.proofs.Common.{◌≡◌, ℕ, zero, suc, ◌-◌, ◌^◌, ◌<◌, ◌≤◌, List, [], ◌∷◌, length, map, get_or, refl, ap, ◌∙◌, arith, subst, Ok, All}
+use Rattle.std.specs.Prelude.{slice_index_or}
 use Rattle.std.proofs.lemmas.List.{length-map}
 use Rattle.std.proofs.lemmas.List.Elements.{All-nil, All-cons, All-head, All-tail}
-use Rattle.std.proofs.lemmas.List.FromFn.{length-map-range_with_len}
-use Rattle.std.proofs.lemmas.List.Sums.{AllPass-from_list_all}
 use Rattle.fv_plane.specs.declared.format.Info.{Info}
 use Rattle.fv_plane.specs.declared.format.Shape.{Shape}
 use Rattle.fv_plane.specs.Format.{largest_sample}
 use Rattle.fv_plane.specs.Picture.{Picture, IsPicture}
 use Rattle.fv_plane.specs.Look.{Look, look_at, look_in, picture_from}
 use Rattle.clip_term.specs.declared.op.Origin.{Origin}
-use Rattle.clip_term.specs.declared.field.FieldOp.{FieldOp}
-use Rattle.clip_term.specs.declared.field.FieldOp.TheVariants as field_op
-use Rattle.clip_term.specs.declared.op.JoinOp.{JoinOp}
-use Rattle.clip_term.specs.declared.op.JoinOp.TheVariants as join_op
-use Rattle.clip_term.specs.declared.op.SoftOp.TheVariants as soft_op
-use Rattle.clip_term.specs.Refusals.{info_at, no_info, rate_of, nat_of, limits, same_format}
+use Rattle.clip_term.specs.Refusals.{info_at, no_info, rate_of, limits}
 use Rattle.clip_term.specs.Time.{source_number, from_input, in_range, time_refusals, time_length, time_rate}
 use Rattle.clip_term.specs.Space.{space_refusals, space_shape, space_at}
 use Rattle.clip_term.specs.Join.{join_refusals, join_length, join_shape}
 use Rattle.clip_term.specs.Soft.{soft_refusals, soft_at}
-use Rattle.clip_term.specs.Field.{field_refusals, field_length, field_rate, field_shape, field_order, field_at, woven_from}
+use Rattle.clip_term.specs.Field.{field_refusals, field_length, field_rate, field_shape, field_order, field_at}
 use Rattle.clip_term.specs.ClipTerm.{Act, source, plain, time, space, joined, soft, fields, choice, ClipTerms, no_terms, and_term}
 use Rattle.clip_term.specs.Terms.{IsSound, AreLawful, IsAsked, check, asked, info_of, infos_of, ok_or, term_pictures, asked_picture, no_picture}
 use Rattle.clip_term.proofs.AskedLemmas.{asks_in_range}
-use Rattle.clip_term.proofs.BoundedLemmas as bounds
-use Rattle.clip_term.proofs.PassedLemmas.{Passed, passed, limits_shape, both_ok, agreed, not_false, same_format_is, same_number}
-use Rattle.clip_term.proofs.TimeLocal.{time_local}
+use Rattle.clip_term.proofs.BoundLemmas as bounds
+use Rattle.clip_term.proofs.TimeFacts.{time_facts}
+use Rattle.clip_term.proofs.SpaceFacts.{space_facts}
+use Rattle.clip_term.proofs.JoinFacts.{join_facts}
+use Rattle.clip_term.proofs.SoftFacts.{soft_facts}
+use Rattle.clip_term.proofs.FieldFacts.{field_facts}
+use Rattle.clip_term.proofs.PassedLemmas.{passed, limits_shape, both_ok}
 use Rattle.clip_reference.specs.Ready.{IsMade, IsInRange}
 
 -- the frame that shows what is asked has the shape of the input
@@ -71,52 +67,6 @@ all_bounded infos shown shows shape (o ∷ os) bits are =
     bounds.more (record { at = λ p x y. subst (λ n. look_in (shown o) p x y ≤ 2 ^ n - 1) same (is.bounded p x y) })
     (all_bounded infos shown shows shape os (All-tail P o os bits) (All-tail IsPicture (shown o) (map shown os) are))
 
--- GROUP JOIN
-
--- clips that are joined have samples of the bits of the first one's
-joined_bits : (inner : JoinOp) (infos : List Info) → Passed (join_refusals inner (info_at infos 0) infos) → (i : ℕ) → i < length infos → (info_at infos i).shape.bits ≡ (info_at infos 0).shape.bits
-joined_bits join_op.StackHorizontal infos told i h =
-    let c = info_at infos 0 in
-    let test = λ (d : Info). same_format d.shape c.shape in
-    (same_format_is (info_at infos i).shape c.shape (AllPass-from_list_all test infos (not_false (list_all test infos) told.0) i no_info h)).1
-joined_bits join_op.StackVertical infos told i h =
-    let c = info_at infos 0 in
-    let test = λ (d : Info). same_format d.shape c.shape in
-    (same_format_is (info_at infos i).shape c.shape (AllPass-from_list_all test infos (not_false (list_all test infos) told.0) i no_info h)).1
-joined_bits join_op.YToUV infos told i h =
-    let c = info_at infos 0 in
-    let test = λ (d : Info). d.shape.bits == c.shape.bits in
-    same_number (info_at infos i).shape.bits c.shape.bits (AllPass-from_list_all test infos (not_false (list_all test infos) told.0) i no_info h)
-joined_bits join_op.Merge infos told i h = ap (λ (s : Shape). s.bits) (agreed infos told i h)
-joined_bits join_op.MergeLuma infos told i h = ap (λ (s : Shape). s.bits) (agreed infos told i h)
-joined_bits join_op.MergeChroma infos told i h = ap (λ (s : Shape). s.bits) (agreed infos told i h)
-
--- and so has what they are joined to
-join_bits : (inner : JoinOp) (c : Info) (infos : List Info) → c.shape.bits ≡ (join_shape inner c infos).bits
-join_bits join_op.StackHorizontal c infos = refl
-join_bits join_op.StackVertical c infos = refl
-join_bits join_op.YToUV c infos = refl
-join_bits _ c infos = refl
-
--- FIELDS
-
-same_bits : (inner : FieldOp) (shape : Shape) → shape.bits ≡ (field_shape inner shape).bits
-same_bits field_op.SeparateFields shape = refl
-same_bits field_op.Weave shape = refl
-same_bits field_op.SwapFields shape = refl
-same_bits field_op.AssumeTFF shape = refl
-same_bits field_op.AssumeBFF shape = refl
-same_bits field_op.ComplementParity shape = refl
-
--- each sample is one of a frame
-field_bounded : (inner : FieldOp) (c : Info) (n : ℕ) (looks : List Look) → bounds.AllBounded c.shape looks → (p x y : ℕ) → field_at inner c n looks p x y ≤ largest_sample c.shape
-field_bounded field_op.SeparateFields c n looks few p x y = (bounds.bounded_at few 0).at p x _
-field_bounded field_op.Weave c n looks few p x y = (bounds.bounded_at few (woven_from c.field y)).at p x _
-field_bounded field_op.SwapFields c n looks few p x y = (bounds.bounded_at few 0).at p x _
-field_bounded field_op.AssumeTFF c n looks few p x y = (bounds.bounded_at few 0).at p x y
-field_bounded field_op.AssumeBFF c n looks few p x y = (bounds.bounded_at few 0).at p x y
-field_bounded field_op.ComplementParity c n looks few p x y = (bounds.bounded_at few 0).at p x y
-
 -- ANY FILTER
 
 in_range_made : (op : Act) (infos : List Info) (info : Info) (n : ℕ) (shown : Origin → Picture) → ShowsInputs infos shown → IsMade op → IsSound op (length infos) → AreLawful infos → check op infos ≡ Ok info
@@ -129,7 +79,7 @@ in_range_made (time inner) infos info n shown shows filter sound lawful e are =
     let rest = limits c (time_length inner c infos) (time_rate inner c infos) c.shape in
     let told = passed (time_refusals inner c infos) rest info e in
     let within = All-head (IsAsked infos) o [] (asks_in_range (time inner) infos n sound lawful) in
-    let same = time_local inner infos n told.0 within.input ∙ limits_shape c (time_length inner c infos) (time_rate inner c infos) c.shape info told.1 in
+    let same = (time_facts inner).local infos n told.0 within.input ∙ limits_shape c (time_length inner c infos) (time_rate inner c infos) c.shape info told.1 in
     let all = all_bounded infos shown shows info.shape (o ∷ []) (one_has infos info.shape.bits o (ap (λ (s : Shape). s.bits) same)) are in
     λ p x y. (bounds.bounded_at all 0).at p x y
 in_range_made (space inner) infos info n shown shows filter sound lawful e are =
@@ -139,7 +89,7 @@ in_range_made (space inner) infos info n shown shows filter sound lawful e are =
     let o = in_range infos (from_input 0 n) in
     let from : Look = look_at (map look_in (map shown (o ∷ []))) 0 in
     let all = all_bounded infos shown shows c.shape (o ∷ []) (one_has infos c.shape.bits o refl) are in
-    let few = bounds.space_bounded inner c.shape from (lawful 0 (omega arith)).shape told.0 (bounds.bounded_at all 0) in
+    let few = (space_facts inner).bounded c.shape from told.0 (lawful 0 (omega arith)).shape (bounds.bounded_at all 0) in
     λ p x y. subst (λ (s : Shape). space_at inner c.shape from p x y ≤ largest_sample s) (limits_shape c c.frames (rate_of c) shape info told.1) (few.at p x y)
 in_range_made (joined inner) infos info n shown shows filter sound lawful e are =
     let c = info_at infos 0 in
@@ -148,28 +98,19 @@ in_range_made (joined inner) infos info n shown shows filter sound lawful e are 
     let made = limits_shape c (join_length inner c infos) (rate_of c) shape info told.1 in
     let os = asked (joined inner) infos n in
     let bits = all_have infos info.shape.bits os (asks_in_range (joined inner) infos n sound lawful)
-    (λ i h. joined_bits inner infos told.0 i h ∙ join_bits inner c infos ∙ ap (λ (s : Shape). s.bits) made) in
-    let few = bounds.join_bounded inner info.shape infos (map look_in (map shown os)) (all_bounded infos shown shows info.shape os bits are) in
+    (λ i h. (join_facts inner).bits infos told.0 i h ∙ ap (λ (s : Shape). s.bits) made) in
+    let few = (join_facts inner).bounded info.shape infos (map look_in (map shown os)) (all_bounded infos shown shows info.shape os bits are) in
     λ p x y. few.at p x y
-in_range_made (soft (soft_op.TemporalSoften radius luma chroma)) infos info n shown shows filter sound lawful e are =
+in_range_made (soft inner) infos info n shown shows filter sound lawful e are =
     let c = info_at infos 0 in
-    let inner = soft_op.TemporalSoften radius luma chroma in
     let told = passed (soft_refusals inner) (limits c c.frames (rate_of c) c.shape) info e in
     let os = asked (soft inner) infos n in
     let looks : List Look = map look_in (map shown os) in
     let one = sound.0 in
     let bits = all_have infos c.shape.bits os (asks_in_range (soft inner) infos n sound lawful)
     (λ i h. let first : i ≡ 0 = omega arith in ap (λ k. (info_at infos k).shape.bits) first) in
-    let long : length looks ≡ 2 * nat_of radius + 1
-    = length-map (map shown os) look_in ∙ length-map os shown ∙ length-map-range_with_len (λ k. in_range infos (from_input 0 (n + k - nat_of radius))) 0 (2 * nat_of radius + 1) in
-    let few = bounds.soften_bounded c.shape radius luma chroma looks long (all_bounded infos shown shows c.shape os bits are) in
-    λ p x y. subst (λ (s : Shape). soft_at inner c.shape looks p x y ≤ largest_sample s) (limits_shape c c.frames (rate_of c) c.shape info told.1) (few.at p x y)
-in_range_made (soft (soft_op.GeneralConvolution bias matrix)) infos info n shown shows filter sound lawful e are =
-    let c = info_at infos 0 in
-    let inner = soft_op.GeneralConvolution bias matrix in
-    let told = passed (soft_refusals inner) (limits c c.frames (rate_of c) c.shape) info e in
-    let looks : List Look = map look_in (map shown (asked (soft inner) infos n)) in
-    let few = bounds.convolve_bounded c.shape bias matrix looks in
+    let long = length-map (map shown os) look_in ∙ length-map os shown ∙ (soft_facts inner).count infos n in
+    let few = (soft_facts inner).bounded c.shape looks long (all_bounded infos shown shows c.shape os bits are) in
     λ p x y. subst (λ (s : Shape). soft_at inner c.shape looks p x y ≤ largest_sample s) (limits_shape c c.frames (rate_of c) c.shape info told.1) (few.at p x y)
 in_range_made (fields inner) infos info n shown shows filter sound lawful e are =
     let c = info_at infos 0 in
@@ -179,9 +120,9 @@ in_range_made (fields inner) infos info n shown shows filter sound lawful e are 
     let os = asked (fields inner) infos n in
     let bits = all_have infos c.shape.bits os (asks_in_range (fields inner) infos n sound lawful)
     (λ i h. let first : i ≡ 0 = omega arith in ap (λ k. (info_at infos k).shape.bits) first) in
-    let few = all_bounded infos shown shows c.shape os bits are in
-    let same = same_bits inner c.shape ∙ ap (λ (s : Shape). s.bits) (limits_shape to (field_length inner c.frames) (field_rate inner c) shape info told.1) in
-    λ p x y. subst (λ (b : ℕ). field_at inner c n (map look_in (map shown os)) p x y ≤ 2 ^ b - 1) same (field_bounded inner c n (map look_in (map shown os)) few p x y)
+    let few = (field_facts inner).bounded c.shape c n (map look_in (map shown os)) (all_bounded infos shown shows c.shape os bits are) in
+    let same = (field_facts inner).bits c.shape ∙ ap (λ (s : Shape). s.bits) (limits_shape to (field_length inner c.frames) (field_rate inner c) shape info told.1) in
+    λ p x y. subst (λ (b : ℕ). field_at inner c n (map look_in (map shown os)) p x y ≤ 2 ^ b - 1) same (few.at p x y)
 in_range_made (choice inner) infos info n shown shows filter sound lawful e are = absurd filter
 
 -- so what a term's filter makes of its inputs' frames is in range

@@ -9,55 +9,7 @@ use Rattle.clip_term.specs.Filters.{all_filters, filter_named, name_of, number_o
 
 by_number : (one : Filter) → slice_get all_filters (number_of one) ≡ Some one
 by_number filter.Y4MSource = refl
-by_number filter.BlankClip = refl
-by_number filter.Trim = refl
-by_number filter.Reverse = refl
-by_number filter.FreezeFrame = refl
-by_number filter.SelectEven = refl
-by_number filter.SelectOdd = refl
-by_number filter.SelectEvery = refl
-by_number filter.Interleave = refl
-by_number filter.UnalignedSplice = refl
-by_number filter.AlignedSplice = refl
-by_number filter.Loop = refl
-by_number filter.DuplicateFrame = refl
-by_number filter.DeleteFrame = refl
-by_number filter.AssumeFPS = refl
-by_number filter.ChangeFPS = refl
-by_number filter.ApplyRange = refl
-by_number filter.Crop = refl
-by_number filter.CropBottom = refl
-by_number filter.AddBorders = refl
-by_number filter.LetterBox = refl
-by_number filter.FlipHorizontal = refl
-by_number filter.FlipVertical = refl
-by_number filter.Turn180 = refl
-by_number filter.TurnLeft = refl
-by_number filter.TurnRight = refl
-by_number filter.Greyscale = refl
-by_number filter.Invert = refl
-by_number filter.Limiter = refl
-by_number filter.SwapUV = refl
-by_number filter.UToY8 = refl
-by_number filter.VToY8 = refl
-by_number filter.ConvertToY8 = refl
-by_number filter.StackHorizontal = refl
-by_number filter.StackVertical = refl
-by_number filter.Merge = refl
-by_number filter.MergeLuma = refl
-by_number filter.MergeChroma = refl
-by_number filter.YToUV = refl
-by_number filter.TemporalSoften = refl
-by_number filter.GeneralConvolution = refl
-by_number filter.ConvertBits = refl
-by_number filter.SeparateFields = refl
-by_number filter.Weave = refl
-by_number filter.SwapFields = refl
-by_number filter.AssumeTFF = refl
-by_number filter.AssumeBFF = refl
-by_number filter.ComplementParity = refl
-by_number filter.ConditionalSelect = refl
-by_number filter.ConditionalFilter = refl
+by_number _ = refl
 
 some_same : {A : Type 0} (a b : A) → Some a ≡ Some b → a ≡ b
 some_same a b e = cc

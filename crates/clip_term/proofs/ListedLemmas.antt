@@ -6,7 +6,7 @@ use Rattle.std.proofs.lemmas.List.FromFn.{fill_by_all}
 use Rattle.fv_plane.specs.Format.{planes, scale, plane_width, plane_height}
 use Rattle.fv_plane.specs.declared.format.Colour.{Colour}
 use Rattle.fv_plane.specs.declared.format.PixelType.{PixelType}
-use Rattle.fv_plane.specs.declared.format.PixelType.TheVariants.{Y8, YV12, YV16, YV24, YV411}
+use Rattle.fv_plane.specs.declared.format.PixelType.TheVariants.{Y8}
 use Rattle.fv_plane.specs.declared.format.Shape.{Shape}
 use Rattle.fv_plane.specs.Picture.{Picture, IsPicture, row_of, blank, plain_plane}
 use Rattle.clip_term.specs.Blank.{colour_at}
@@ -46,10 +46,7 @@ blank_planes : (colour : Colour) (kind : PixelType) (shape : Shape)
     → map (λ p. plane_from (colour_at colour shape) p (plane_width shape p) (plane_height shape p)) (range_with_len 0 (planes kind))
     ≡ plain_plane shape 0 colour.y ∷ (if planes kind == 1 then [] else plain_plane shape 1 colour.u ∷ plain_plane shape 2 colour.v ∷ [])
 blank_planes colour Y8 shape = ap (λ l. l ∷ []) (luma colour shape)
-blank_planes colour YV12 shape = three colour shape
-blank_planes colour YV16 shape = three colour shape
-blank_planes colour YV24 shape = three colour shape
-blank_planes colour YV411 shape = three colour shape
+blank_planes colour _ shape = three colour shape
 
 -- a frame of one colour is the listing of the colour
 pub blank_listed : (shape : Shape) (colour : Colour) → blank shape colour ≡ picture_from shape (colour_at colour shape)

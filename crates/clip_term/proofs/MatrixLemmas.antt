@@ -27,21 +27,17 @@ not_empty c cs = grind (arith, nat_tests)
 word_alone : (c : ℕ) (cs : List ℕ) → words ((c ∷ cs) ∷ []) ≡ (c ∷ cs) ∷ []
 word_alone c cs = ap (λ b. cond (not b) ((c ∷ cs) ∷ []) []) (not_empty c cs)
 
-one_entry : (word : List ℕ) (entry : ℤ) → entry_of word ≡ Some entry → entries_in (word ∷ []) ≡ entry ∷ []
-one_entry [] entry e = cc
-one_entry (c ∷ cs) entry e = ap (filter_map entry_of) (word_alone c cs) ∙ ap (λ o. cons_option o []) e
+and_or : (b : Bool) → (b && true) ≡ (b || false)
+and_or true = refl
+and_or false = refl
 
-one_is : (word : List ℕ) (entry : ℤ) → entry_of word ≡ Some entry → are_entries (word ∷ []) ≡ true
-one_is [] entry e = refl
-one_is (c ∷ cs) entry e = ap are_all (word_alone c cs) ∙ ap (λ (o : Option ℤ). is_some o && true) e
+entries_of : (word : List ℕ) → entries_in (word ∷ []) ≡ cons_option (entry_of word) []
+entries_of [] = refl
+entries_of (c ∷ cs) = ap (filter_map entry_of) (word_alone c cs)
 
-no_entry : (word : List ℕ) → entry_of word ≡ None → entries_in (word ∷ []) ≡ []
-no_entry [] e = refl
-no_entry (c ∷ cs) e = ap (filter_map entry_of) (word_alone c cs) ∙ ap (λ o. cons_option o []) e
-
-none_is : (word : List ℕ) → entry_of word ≡ None → are_entries (word ∷ []) ≡ (length word == 0)
-none_is [] e = refl
-none_is (c ∷ cs) e = ap are_all (word_alone c cs) ∙ ap (λ (o : Option ℤ). is_some o && true) e ∙ sym (not_empty c cs)
+are_of : (word : List ℕ) → are_entries (word ∷ []) ≡ (is_some (entry_of word) || length word == 0)
+are_of [] = refl
+are_of (c ∷ cs) = ap are_all (word_alone c cs) ∙ and_or (is_some (entry_of (c ∷ cs))) ∙ ap (λ b. is_some (entry_of (c ∷ cs)) || b) (sym (not_empty c cs))
 
 words_more : (parts : List (List ℕ)) (word : List ℕ) → words (parts ++ word ∷ []) ≡ words parts ++ words (word ∷ [])
 words_more parts word = filter-append (λ (w : List ℕ). not (length w == 0)) parts (word ∷ [])
@@ -56,23 +52,19 @@ and_true : (b : Bool) → (b && true) ≡ b
 and_true true = refl
 and_true false = refl
 
-and_false : (b : Bool) → (b && false) ≡ false
-and_false true = refl
-and_false false = refl
-
 -- a word that is an entry
 pub entries_more : (parts : List (List ℕ)) (word : List ℕ) (entry : ℤ) → entry_of word ≡ Some entry → entries_in (parts ++ word ∷ []) ≡ entries_in parts ++ entry ∷ []
-entries_more parts word entry e = entries_by parts word ∙ ap (λ es. entries_in parts ++ es) (one_entry word entry e)
+entries_more parts word entry e = entries_by parts word ∙ ap (λ es. entries_in parts ++ es) (entries_of word ∙ ap (λ o. cons_option o []) e)
 
 pub are_more : (parts : List (List ℕ)) (word : List ℕ) (entry : ℤ) → entry_of word ≡ Some entry → are_entries (parts ++ word ∷ []) ≡ are_entries parts
-are_more parts word entry e = are_by parts word ∙ ap (λ b. are_entries parts && b) (one_is word entry e) ∙ and_true (are_entries parts)
+are_more parts word entry e = are_by parts word ∙ ap (λ b. are_entries parts && b) (are_of word ∙ ap (λ (o : Option ℤ). is_some o || length word == 0) e) ∙ and_true (are_entries parts)
 
 -- and one that is none
 pub entries_less : (parts : List (List ℕ)) (word : List ℕ) → entry_of word ≡ None → entries_in (parts ++ word ∷ []) ≡ entries_in parts
-entries_less parts word e = entries_by parts word ∙ ap (λ es. entries_in parts ++ es) (no_entry word e) ∙ append-nil (entries_in parts)
+entries_less parts word e = entries_by parts word ∙ ap (λ es. entries_in parts ++ es) (entries_of word ∙ ap (λ o. cons_option o []) e) ∙ append-nil (entries_in parts)
 
 pub are_less : (parts : List (List ℕ)) (word : List ℕ) → entry_of word ≡ None → are_entries (parts ++ word ∷ []) ≡ (are_entries parts && (length word == 0))
-are_less parts word e = are_by parts word ∙ ap (λ b. are_entries parts && b) (none_is word e)
+are_less parts word e = are_by parts word ∙ ap (λ b. are_entries parts && b) (are_of word ∙ ap (λ (o : Option ℤ). is_some o || length word == 0) e)
 
 some_more : (o : Option ℤ) (es : List ℤ) → is_some o ≡ true → length (cons_option o es) ≡ suc (length es)
 some_more (Some entry) es e = refl
@@ -91,22 +83,23 @@ is_count n = n == 9 || n == 25
 abbrev matrix_of : List (List ℕ) → Option (List ℤ)
 matrix_of parts = if is_count (length (words parts)) && are_entries parts then Some (entries_in parts) else None
 
-read_by : (count are : Bool) (n : ℕ) (entries : List ℤ) → are && count ≡ true → (are ≡ true → count ≡ is_count n) → (if is_count n && are then Some entries else None) ≡ Some entries
-read_by count true n entries both same = ap (λ b. if b && true then Some entries else None) (sym (same refl) ∙ both)
-read_by count false n entries both same = cc
-
-refused_by : (count are : Bool) (n : ℕ) (entries : List ℤ) → are && count ≡ false → (are ≡ true → count ≡ is_count n) → (if is_count n && are then Some entries else None) ≡ None
-refused_by count true n entries both same = ap (λ b. if b && true then Some entries else None) (sym (same refl) ∙ both)
-refused_by count false n entries both same = ap (λ (b : Bool). if b then Some entries else None) (and_false (is_count n))
+by_count : (are count all : Bool) (entries : List ℤ) → (are ≡ true → count ≡ all) → (if all && are then Some entries else None) ≡ (if are && count then Some entries else None)
+by_count true count all entries same = ap (λ b. if b && true then Some entries else None) (sym (same refl)) ∙ ap (λ (b : Bool). if b then Some entries else None) (and_true count)
+by_count false count true entries same = refl
+by_count false count false entries same = refl
 
 counts : (parts : List (List ℕ)) → are_entries parts ≡ true → is_count (length (entries_in parts)) ≡ is_count (length (words parts))
 counts parts e = ap is_count (count_same (words parts) e)
 
--- all parts of a text are read
-pub matrix_read : (parts : List (List ℕ)) (text : List ℕ) → parts ≡ slice_split is_gap text → (are_entries parts && is_count (length (entries_in parts))) ≡ true → matrix_named text ≡ Some (entries_in parts)
-matrix_read parts text whole both =
-    ap matrix_of (sym whole) ∙ read_by (is_count (length (entries_in parts))) (are_entries parts) (length (words parts)) (entries_in parts) both (counts parts)
+-- the matrix of a text, by the parts that were read
+pub matrix_is : (parts : List (List ℕ)) (text : List ℕ) → parts ≡ slice_split is_gap text
+    → matrix_named text ≡ (if are_entries parts && is_count (length (entries_in parts)) then Some (entries_in parts) else None)
+matrix_is parts text whole =
+    ap matrix_of (sym whole) ∙ by_count (are_entries parts) (is_count (length (entries_in parts))) (is_count (length (words parts))) (entries_in parts) (counts parts)
 
-pub matrix_refused : (parts : List (List ℕ)) (text : List ℕ) → parts ≡ slice_split is_gap text → (are_entries parts && is_count (length (entries_in parts))) ≡ false → matrix_named text ≡ None
-matrix_refused parts text whole both =
-    ap matrix_of (sym whole) ∙ refused_by (is_count (length (entries_in parts))) (are_entries parts) (length (words parts)) (entries_in parts) both (counts parts)
+-- what stands where all of a text was read
+pub read_all : (parts : List (List ℕ)) (text bytes : List ℕ) (entries : List ℤ) (are square : Bool) → parts ≡ slice_split is_gap bytes → bytes ≡ text
+    → entries ≡ entries_in parts → are ≡ are_entries parts → square ≡ (are && is_count (length entries)) → matrix_named text ≡ (if square then Some entries else None)
+read_all parts text bytes entries are square split same told all test =
+    matrix_is parts text (split ∙ ap (slice_split is_gap) same)
+    ∙ rw (test, told, all) refl

@@ -1,8 +1,10 @@
 -- What follows where a row refuses nothing.
-use Rattle.std.proofs.Common.{◌≡◌, ℕ, zero, suc, ◌<◌, List, [], ◌∷◌, length, refl, ap, ◌∙◌, arith, Result, Ok, Bool, true, false, Err}
-use Rattle.std.specs.Prelude.{◌&&◌, ◌||◌, not, ◌==◌, if◌then◌else◌}
+use Rattle.std.proofs.Common.{◌≡◌, ℕ, suc, ◌*◌, ◌<◌, List, [], ◌∷◌, length, refl, ap, arith, Result, Ok, Bool, true, false, Err}
+use Rattle.std.specs.Prelude.{not, ◌==◌, nat_lt, nat_le, if◌then◌else◌}
 use Rattle.std.specs.List.{list_all}
+pub use Rattle.std.proofs.lemmas.Bool.{and_parts as both, or_parts as or_false}
 use Rattle.std.proofs.lemmas.Bool.Decides.{nat_tests}
+use Rattle.std.proofs.lemmas.List.Sums.{AllPass-from_list_all}
 use Rattle.fv_plane.specs.declared.format.Info.{Info}
 use Rattle.fv_plane.specs.declared.format.Shape.{Shape}
 use Rattle.fv_plane.specs.declared.format.PixelType.{PixelType}
@@ -11,7 +13,7 @@ use Rattle.clip_term.specs.declared.fault.FilterFault.{FilterFault}
 use Rattle.clip_term.specs.Terms.{with_first}
 use Rattle.fv_plane.specs.Refusals.{Refusals, first_fault}
 use Rattle.fv_plane.specs.Rate.{Rate, lowest}
-use Rattle.clip_term.specs.Refusals.{limit_refusals, unless, limits, disagreements, info_at, same_kind, same_format, same_size}
+use Rattle.clip_term.specs.Refusals.{limit_refusals, unless, limits, disagreements, info_at, no_info, same_kind, same_format, same_size}
 
 -- no test is true
 abbrev pub Passed : Refusals FilterFault → Type 0
@@ -23,22 +25,17 @@ passed [] rest info e = (tt, e)
 passed ((fault, true) ∷ more) rest info e = cc
 passed ((fault, false) ∷ more) rest info e = let later = passed more rest info e in ((refl, later.0), later.1)
 
+pub limits_told : (c : Info) (frames : ℕ) (rate : Rate) (shape : Shape) (info : Info) → limits c frames rate shape ≡ Ok info
+    → record c { frames = frames; num = (lowest rate).num; den = (lowest rate).den; shape = shape } ≡ info
+limits_told c frames rate shape info e =
+    let made = lowest rate in
+    let told = (passed (limit_refusals frames made shape) (Ok (record c { frames = frames; num = made.num; den = made.den; shape = shape })) info e).1 in
+    cc
+
 pub limits_shape : (c : Info) (frames : ℕ) (rate : Rate) (shape : Shape) (info : Info) → limits c frames rate shape ≡ Ok info → shape ≡ info.shape
-limits_shape c frames rate shape info e =
-    let low = lowest rate in
-    let made : Info = record c { frames = frames; num = low.num; den = low.den; shape = shape } in
-    let same : made ≡ info = (let f = (passed (limit_refusals frames low shape) (Ok made) info e).1 in cc) in
-    ap (λ (i : Info). i.shape) same
+limits_shape c frames rate shape info e = ap (λ (i : Info). i.shape) (limits_told c frames rate shape info e)
 
 -- TESTS
-
-pub or_false : (a b : Bool) → a || b ≡ false → (a ≡ false) × (b ≡ false)
-or_false true b e = cc
-or_false false b e = (refl, e)
-
-pub both : (a b : Bool) → a && b ≡ true → (a ≡ true) × (b ≡ true)
-both true b e = (refl, e)
-both false b e = cc
 
 pub not_false : (a : Bool) → not a ≡ false → a ≡ true
 not_false true e = refl
@@ -50,6 +47,22 @@ if_same false u v w z e f = f
 
 pub all_at : {X : Type 0} (test : X → Bool) (x : X) (xs : List X) → list_all test (x ∷ xs) ≡ true → (test x ≡ true) × (list_all test xs ≡ true)
 all_at test x xs e = both (test x) (list_all test xs) e
+
+-- what all clips pass, each does
+pub each : (test : Info → Bool) (infos : List Info) → not (list_all test infos) ≡ false → (i : ℕ) → i < length infos → test (info_at infos i) ≡ true
+each test infos told i h = AllPass-from_list_all test infos (not_false (list_all test infos) told) i no_info h
+
+pub below_of : (a b : ℕ) → nat_lt a b ≡ true → a < b
+below_of a b e = grind (arith, nat_tests)
+
+pub first_of : (k n : ℕ) → k == suc n ≡ true → 0 < k
+first_of k n e = grind (arith, nat_tests)
+
+pub first_of_many : (n k : ℕ) → nat_le (suc n) k ≡ true → 0 < k
+first_of_many n k e = grind (arith, nat_tests)
+
+pub product : (a b : ℕ) → 0 < a → 0 < b → 0 < a * b
+product a b h g = grind arith
 
 -- SHAPES
 
@@ -71,31 +84,15 @@ same_format_is a b e =
     (same_kind_is a.kind b.kind two.0, same_number a.bits b.bits two.1)
 
 pub same_shape : (a b : Shape) → a.kind ≡ b.kind → a.bits ≡ b.bits → a.width ≡ b.width → a.height ≡ b.height → a ≡ b
-same_shape a b e d f g =
-    let one : PixelType → Shape = λ k. record { kind = k; bits = a.bits; width = a.width; height = a.height } in
-    let two : ℕ → Shape = λ n. record { kind = b.kind; bits = n; width = a.width; height = a.height } in
-    let three : ℕ → Shape = λ w. record { kind = b.kind; bits = b.bits; width = w; height = a.height } in
-    let four : ℕ → Shape = λ h. record { kind = b.kind; bits = b.bits; width = b.width; height = h } in
-    ap one e ∙ ap two d ∙ ap three f ∙ ap four g
-
-all_shapes : (shape : Shape) (ds : List Info) → list_all (λ (d : Info). same_format d.shape shape) ds ≡ true → list_all (λ (d : Info). same_size d.shape shape) ds ≡ true
-    → (i : ℕ) → i < length ds → (info_at ds i).shape ≡ shape
-all_shapes shape [] e f i h = absurd (omega arith)
-all_shapes shape (d ∷ ds) e f zero h =
-    let k = all_at (λ (o : Info). same_format o.shape shape) d ds e in
-    let s = all_at (λ (o : Info). same_size o.shape shape) d ds f in
-    let t = both (d.shape.width == shape.width) (d.shape.height == shape.height) s.0 in
-    let q = same_format_is d.shape shape k.0 in
-    same_shape d.shape shape q.0 q.1 (same_number d.shape.width shape.width t.0) (same_number d.shape.height shape.height t.1)
-all_shapes shape (d ∷ ds) e f (suc i) h =
-    all_shapes shape ds (all_at (λ (o : Info). same_format o.shape shape) d ds e).1 (all_at (λ (o : Info). same_size o.shape shape) d ds f).1 i (omega arith)
+same_shape a b e d f g = let same : record { kind = a.kind; bits = a.bits; width = a.width; height = a.height } ≡ b = rw (e, d, f, g) refl in same
 
 -- clips that agree have the shape of the first
 pub agreed : (infos : List Info) → Passed (disagreements infos) → (i : ℕ) → i < length infos → (info_at infos i).shape ≡ (info_at infos 0).shape
-agreed infos p i h =
+agreed infos told i h =
     let shape = (info_at infos 0).shape in
-    all_shapes shape infos (not_false (list_all (λ (d : Info). same_format d.shape shape) infos) p.0)
-    (not_false (list_all (λ (d : Info). same_size d.shape shape) infos) p.1.0) i h
+    let format = same_format_is (info_at infos i).shape shape (each (λ (d : Info). same_format d.shape shape) infos told.0 i h) in
+    let sides = both ((info_at infos i).shape.width == shape.width) ((info_at infos i).shape.height == shape.height) (each (λ (d : Info). same_size d.shape shape) infos told.1.0 i h) in
+    same_shape (info_at infos i).shape shape format.0 format.1 (same_number _ _ sides.0) (same_number _ _ sides.1)
 
 -- INPUTS
 

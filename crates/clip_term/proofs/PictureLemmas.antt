@@ -1,38 +1,43 @@
 -- What a filter makes of its inputs' pictures is the clip's picture.
-use Rattle.std.proofs.Common.{length, ◌≡◌, ℕ, zero, suc, ◌+◌, ◌-◌, ◌*◌, List, [], ◌∷◌, map, refl, ◌∙◌, arith, Result, Ok, subst}
+use Rattle.std.proofs.Common.{length, ◌≡◌, ℕ, zero, suc, List, [], ◌∷◌, map, refl, ap, ◌∙◌, arith, Result, Ok, subst}
 use Rattle.std.specs.Prelude.{slice_index_or}
-use Rattle.std.specs.List.{range_with_len}
 use Rattle.fv_plane.specs.declared.format.Info.{Info}
 use Rattle.fv_plane.specs.declared.format.Shape.{Shape}
 use Rattle.fv_plane.specs.Picture.{Picture}
 use Rattle.clip_term.specs.declared.fault.FilterFault.{FilterFault}
 use Rattle.clip_term.specs.declared.op.Origin.{Origin}
-use Rattle.clip_term.specs.declared.op.SoftOp.TheVariants as soft_op
+use Rattle.fv_plane.specs.Rate.{Rate}
+use Rattle.fv_plane.specs.Refusals.{Refusals, first_fault}
 use Rattle.fv_plane.specs.Look.{Look, nothing, look_at, look_in}
-use Rattle.clip_term.specs.Refusals.{info_at, rate_of, nat_of, limits}
+use Rattle.clip_term.specs.Refusals.{info_at, rate_of, limits, unless}
 use Rattle.clip_term.specs.Time.{time_refusals, time_length, time_rate}
 use Rattle.clip_term.specs.Space.{space_refusals, space_shape, space_at}
 use Rattle.clip_term.specs.Join.{join_refusals, join_length, join_shape, join_at}
 use Rattle.clip_term.specs.Soft.{soft_refusals, soft_at}
 use Rattle.clip_term.specs.Field.{field_refusals, field_length, field_rate, field_shape, field_order, field_at}
 use Rattle.clip_term.specs.Choice.{run_refusals, run_base, run_at}
-use Rattle.clip_term.proofs.ChoiceLocal.{run_local}
-use Rattle.clip_term.proofs.FieldLocal.{field_local}
+use Rattle.clip_term.proofs.ChoiceFacts.{run_facts}
+use Rattle.clip_term.proofs.FieldFacts.{field_facts}
 use Rattle.clip_term.proofs.SoundLemmas.{counted, sounds_lawful}
 use Rattle.clip_term.specs.ClipTerm.{Act, source, plain, time, space, joined, soft, fields, choice, ClipTerm, applied, ClipTerms, no_terms, and_term}
 use Rattle.clip_term.specs.Terms.{IsSound, IsSoundTerm, AreSoundTerms, inputs_of, AreLawful, check, asked, sample, then_check, info_of, infos_of, term_sample, term_samples, looks_of, term_picture, term_pictures, asked_picture, no_picture, MakesPictures}
 use Rattle.fv_plane.proofs.LookLemmas.{Agree, picture_same, agree_look}
-use Rattle.clip_term.proofs.PassedLemmas.{passed, limits_shape, both_ok}
-use Rattle.clip_term.proofs.SeenLemmas.{Alike, Seen, none_seen, one_seen, first_seen, seen_again, seen_each}
-use Rattle.clip_term.proofs.TimeLocal.{time_local}
-use Rattle.clip_term.proofs.SpaceLocal.{space_local}
-use Rattle.clip_term.proofs.JoinLocal.{join_local}
-use Rattle.clip_term.proofs.SoftLocal.{soften_local, convolve_local}
+use Rattle.clip_term.proofs.PassedLemmas.{Passed, passed, limits_shape, both_ok}
+use Rattle.clip_term.proofs.SeenLemmas.{Alike, Seen, none_seen, one_seen, first_seen, seen_each, each_at}
+use Rattle.clip_term.proofs.LimitLemmas.{sized_of}
+use Rattle.clip_term.proofs.TimeFacts.{time_facts}
+use Rattle.clip_term.proofs.SpaceFacts.{space_facts}
+use Rattle.clip_term.proofs.JoinFacts.{join_facts}
+use Rattle.clip_term.proofs.SoftFacts.{soft_facts}
 
 -- ONE OP: what it makes inside its picture needs its inputs only inside theirs
 
-on_shape : (a b : Shape) (u v : Look) → a ≡ b → Agree a u v → Agree b u v
-on_shape a b u v e agree = subst (λ (s : Shape). Agree s u v) e agree
+-- any row that ends by its limits
+made_local : (refusals : Refusals FilterFault) (c : Info) (frames : ℕ) (rate : Rate) (shape : Shape) (info : Info) (u v : Look) → (Passed refusals → Agree shape u v)
+    → unless (first_fault refusals) (limits c frames rate shape) ≡ Ok info → Agree info.shape u v
+made_local refusals c frames rate shape info u v agree e =
+    let told = passed refusals (limits c frames rate shape) info e in
+    subst (λ (s : Shape). Agree s u v) (limits_shape c frames rate shape info told.1) (agree told.0)
 
 pub local : (book : List (List Picture)) (op : Act) (infos : List Info) (info : Info) (n : ℕ) → IsSound op (length infos) → AreLawful infos → check op infos ≡ Ok info
     → (ls ms : List Look) → Seen infos (asked op infos n) ls ms → Agree info.shape (sample book op infos n ls) (sample book op infos n ms)
@@ -40,49 +45,33 @@ local book (source name number told) infos info n fit lawful e ls ms seen = reco
 local book (plain told colour) infos info n fit lawful e ls ms seen = record { same = λ p x y i. refl }
 local book (time op) infos info n fit lawful e ls ms seen =
     let c = info_at infos 0 in
-    let rest = limits c (time_length op c infos) (time_rate op c infos) c.shape in
-    let told = passed (time_refusals op c infos) rest info e in
-    let made = limits_shape c (time_length op c infos) (time_rate op c infos) c.shape info told.1 in
-    (first_seen seen).on info.shape (λ h. time_local op infos n told.0 h ∙ made)
+    made_local (time_refusals op c infos) c (time_length op c infos) (time_rate op c infos) c.shape info (look_at ls 0) (look_at ms 0)
+    (λ told. (first_seen seen).on c.shape (λ h. (time_facts op).local infos n told h)) e
 local book (space op) infos info n fit lawful e ls ms seen =
     let c = info_at infos 0 in
-    let shape = space_shape op c.shape in
-    let told = passed (space_refusals op c.shape) (limits c c.frames (rate_of c) shape) info e in
-    on_shape shape info.shape (space_at op c.shape (look_at ls 0)) (space_at op c.shape (look_at ms 0))
-    (limits_shape c c.frames (rate_of c) shape info told.1)
-    (space_local op c.shape (look_at ls 0) (look_at ms 0) told.0 ((first_seen seen).on c.shape (λ h. refl)))
+    made_local (space_refusals op c.shape) c c.frames (rate_of c) (space_shape op c.shape) info (space_at op c.shape (look_at ls 0)) (space_at op c.shape (look_at ms 0))
+    (λ told. (space_facts op).local c.shape (look_at ls 0) (look_at ms 0) told ((first_seen seen).on c.shape (λ h. refl))) e
 local book (joined op) infos info n fit lawful e ls ms seen =
     let c = info_at infos 0 in
-    let shape = join_shape op c infos in
-    let told = passed (join_refusals op c infos) (limits c (join_length op c infos) (rate_of c) shape) info e in
-    on_shape shape info.shape (join_at op infos ls) (join_at op infos ms)
-    (limits_shape c (join_length op c infos) (rate_of c) shape info told.1)
-    (join_local op infos told.0 (seen_each infos n seen))
-local book (soft (soft_op.TemporalSoften radius luma chroma)) infos info n fit lawful e ls ms seen =
+    made_local (join_refusals op c infos) c (join_length op c infos) (rate_of c) (join_shape op c infos) info (join_at op infos ls) (join_at op infos ms)
+    (λ told. (join_facts op).local infos ls ms told (seen_each infos n seen)) e
+local book (soft op) infos info n fit lawful e ls ms seen =
     let c = info_at infos 0 in
-    let op = soft_op.TemporalSoften radius luma chroma in
-    let told = passed (soft_refusals op) (limits c c.frames (rate_of c) c.shape) info e in
-    on_shape c.shape info.shape (soft_at op c.shape ls) (soft_at op c.shape ms) (limits_shape c c.frames (rate_of c) c.shape info told.1)
-    (soften_local c.shape radius luma chroma ls ms (seen_again infos (λ k. n + k - nat_of radius) (range_with_len 0 (2 * nat_of radius + 1)) seen))
-local book (soft (soft_op.GeneralConvolution bias matrix)) infos info n fit lawful e ls ms seen =
-    let c = info_at infos 0 in
-    let op = soft_op.GeneralConvolution bias matrix in
-    let told = passed (soft_refusals op) (limits c c.frames (rate_of c) c.shape) info e in
-    on_shape c.shape info.shape (soft_at op c.shape ls) (soft_at op c.shape ms) (limits_shape c c.frames (rate_of c) c.shape info told.1)
-    (record { same = λ p x y i. convolve_local bias matrix.entries c.shape (look_at ls 0) (look_at ms 0) ((first_seen seen).on c.shape (λ h. refl)) p x y i })
+    made_local (soft_refusals op) c c.frames (rate_of c) c.shape info (soft_at op c.shape ls) (soft_at op c.shape ms) (λ told. (soft_facts op).local infos n ls ms seen) e
 local book (fields op) infos info n fit lawful e ls ms seen =
     let c = info_at infos 0 in
-    let shape = field_shape op c.shape in
-    let base : Info = record c { field = field_order op c.field } in
-    let told = passed (field_refusals op c.shape) (limits base (field_length op c.frames) (field_rate op c) shape) info e in
-    let first = (lawful 0 (omega arith)).shape in
-    on_shape shape info.shape (field_at op c n ls) (field_at op c n ms) (limits_shape base (field_length op c.frames) (field_rate op c) shape info told.1)
-    (field_local op infos n ls ms told.0 first.whole_height seen)
+    let first = sized_of c.shape (lawful 0 (omega arith)).shape in
+    made_local (field_refusals op c.shape) (record c { field = field_order op c.field }) (field_length op c.frames) (field_rate op c) (field_shape op c.shape) info (field_at op c n ls) (field_at op c n ms)
+    (λ told. (field_facts op).local infos n ls ms told first seen) e
 local book (choice op) infos info n fit lawful e ls ms seen =
     let c = run_base op infos in
-    let told = passed (run_refusals op infos) (limits c c.frames (rate_of c) c.shape) info e in
-    on_shape c.shape info.shape (run_at op infos n ls) (run_at op infos n ms) (limits_shape c c.frames (rate_of c) c.shape info told.1)
-    (run_local op infos n told.0 fit (seen_each infos n seen))
+    let each = seen_each infos n seen in
+    made_local (run_refusals op infos) c c.frames (rate_of c) c.shape info (run_at op infos n ls) (run_at op infos n ms)
+    (λ told. record {
+      same = λ p x y i.
+          ap (λ k. look_at ls k p x y) ((run_facts op).chosen infos n (look_at ls 0) (look_at ms 0) (each_at each 0))
+          ∙ ((run_facts op).shown infos n (look_at ms 0) ls ms told each).same p x y i;
+    }) e
 
 -- THE TREE: each input's picture looks as its samples, inside
 
@@ -96,7 +85,7 @@ input_seen book no_terms infos e i n = record { on = λ s h. record { same = λ 
 input_seen book (and_term term rest) infos e zero n =
     let both = both_ok (info_of term) (infos_of rest) infos e in
     rw (← both.whole) (record {
-      on = λ s h. on_shape both.first.shape s (look_in (term_picture book term n)) (term_sample book term n) (h (omega arith)) (picture_seen book term both.first n both.first_is);
+      on = λ s h. subst (λ (r : Shape). Agree r (look_in (term_picture book term n)) (term_sample book term n)) (h (omega arith)) (picture_seen book term both.first n both.first_is);
     })
 input_seen book (and_term term rest) infos e (suc i) n =
     let both = both_ok (info_of term) (infos_of rest) infos e in

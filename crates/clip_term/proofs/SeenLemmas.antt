@@ -1,13 +1,37 @@
--- Two ways to see what was asked, alike inside each input's picture.
+-- Frames that are asked, and two ways to see them, alike inside each input's picture.
 use Rattle.std.proofs.Common.{◌≡◌, ℕ, zero, suc, ◌+◌, ◌<◌, List, [], ◌∷◌, length, map, refl, ap, arith, subst}
-use Rattle.std.specs.List.{range_with_len}
+use Rattle.std.specs.List.{range_with_len, All}
+use Rattle.std.proofs.lemmas.List.Elements.{All-nil, All-cons}
 use Rattle.fv_plane.specs.declared.format.Info.{Info}
 use Rattle.fv_plane.specs.declared.format.Shape.{Shape}
 use Rattle.clip_term.specs.declared.op.Origin.{Origin}
 use Rattle.fv_plane.specs.Look.{Look, look_at}
 use Rattle.clip_term.specs.Refusals.{info_at}
 use Rattle.clip_term.specs.Time.{from_input, in_range}
+use Rattle.clip_term.specs.Terms.{AreLawful, IsAsked}
 use Rattle.fv_plane.proofs.LookLemmas.{Agree}
+
+-- FRAMES OF INPUTS
+
+pub ranged : (infos : List Info) → AreLawful infos → (o : Origin) → o.input < length infos → IsAsked infos (in_range infos o)
+ranged infos lawful o h = record { input = h; number = (let some = (lawful o.input h).some in omega arith) }
+
+pub one_asked : (infos : List Info) → AreLawful infos → (o : Origin) → o.input < length infos → All (IsAsked infos) (in_range infos o ∷ [])
+one_asked infos lawful o h = All-cons (IsAsked infos) (in_range infos o) [] (ranged infos lawful o h) (All-nil (IsAsked infos))
+
+pub all_asked : (infos : List Info) → AreLawful infos → (f : ℕ → Origin) (a k : ℕ) → ((i : ℕ) → i < a + k → (f i).input < length infos)
+    → All (IsAsked infos) (map (λ i. in_range infos (f i)) (range_with_len a k))
+all_asked infos lawful f a zero each = All-nil (IsAsked infos)
+all_asked infos lawful f a (suc k) each =
+    All-cons (IsAsked infos) (in_range infos (f a)) (map (λ i. in_range infos (f i)) (range_with_len (a + 1) k)) (ranged infos lawful (f a) (each a (omega arith)))
+    (all_asked infos lawful f (a + 1) k (λ i h. each i (omega arith)))
+
+pub each_number : (infos : List Info) (ks : List ℕ) → AreLawful infos → 0 < length infos → All (IsAsked infos) (map (λ k. in_range infos (from_input 0 k)) ks)
+each_number infos [] lawful h = All-nil (IsAsked infos)
+each_number infos (k ∷ ks) lawful h =
+    All-cons (IsAsked infos) (in_range infos (from_input 0 k)) (map (λ j. in_range infos (from_input 0 j)) ks) (ranged infos lawful (from_input 0 k) h) (each_number infos ks lawful h)
+
+-- SEEN IN TWO WAYS
 
 -- alike on a shape that is the input's, where there is such an input
 pub record Alike (infos : List Info) (input : ℕ) (a b : Look) : Type 0 where

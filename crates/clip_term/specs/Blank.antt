@@ -15,7 +15,7 @@ use Rattle.clip_term.specs.declared.fault.FilterFault.{FilterFault}
 use Rattle.clip_term.specs.declared.fault.FilterFault.TheVariants.{BadRange, BadText, NotWholeChroma}
 use Rattle.fv_plane.specs.Look.{Look}
 use Rattle.fv_plane.specs.Refusals.{Refusals, first_fault}
-use Rattle.clip_term.specs.Refusals.{rate_of, nat_of, below, is_whole, no_colour, part_of, unless, limits}
+use Rattle.clip_term.specs.Refusals.{rate_of, nat_of, below, is_whole, is_colour, part_of, unless, limits}
 
 -- None is an argument that isn't given
 pub record BlankArgs : Type 0 where
@@ -86,7 +86,7 @@ blank_refusals c args =
     ∷ (BadText, bad_format args.pixel_type)
     ∷ (BadRange, given_below args.fps 1)
     ∷ (BadRange, given_below args.fps_denominator 1)
-    ∷ (BadRange, no_colour (colour_given args))
+    ∷ (BadRange, not (is_colour (colour_given args)))
     ∷ []
 
 abbrev pub has_zero : Info → Bool

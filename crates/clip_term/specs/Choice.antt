@@ -10,6 +10,8 @@ use Rattle.fv_plane.specs.Look.{Look, look_at}
 use Rattle.fv_plane.specs.Refusals.{Refusals, first_fault}
 use Rattle.clip_term.specs.declared.fault.FilterFault.{FilterFault}
 use Rattle.clip_term.specs.declared.fault.FilterFault.TheVariants.{FormatDiffers, SizeDiffers}
+use Rattle.clip_term.specs.declared.filter.Filter.{Filter}
+use Rattle.clip_term.specs.declared.filter.Filter.TheVariants as filters
 use Rattle.clip_term.specs.declared.op.Origin.{Origin}
 use Rattle.clip_term.specs.Refusals.{rate_of, info_at, same_format, same_size, disagreements, unless, limits}
 use Rattle.clip_term.specs.Time.{from_input, in_range}
@@ -46,26 +48,59 @@ abbrev pub side_of : RunCompare → Option ℤ → Option ℤ → ℕ
 side_of by (Some a) (Some b) = if holds by a b then 1 else 2
 side_of by _ _ = 2
 
-abbrev pub chosen : RunAct → List Info → ℕ → Look → ℕ
-chosen (choose e) infos n test = source_of (length infos) (value n (stat_of (info_at infos 0).shape test) (tree_of e))
-chosen (decide e by f) infos n test =
-    let stats = stat_of (info_at infos 0).shape test in
-    side_of by (value n stats (tree_of e)) (value n stats (tree_of f))
-
--- ---- the columns
-
--- the info is that of the test, or of the first source
-abbrev pub run_base : RunAct → List Info → Info
-run_base (choose e) infos = info_at infos 0
-run_base (decide e by f) infos = info_at infos 1
-
 -- the second source differs from the first
 abbrev pub differences : Shape → Shape → Refusals FilterFault
 differences a b = (FormatDiffers, not (same_format b a)) ∷ (SizeDiffers, not (same_size b a)) ∷ []
 
+-- What is said of a filter: how many clips it takes, and whether its expressions are numbers, of planes that the test has;
+-- then, of its clips, the info that stays, what it refuses, in this order, and the input that is shown at n.
+pub record RunRow : Type 0 where
+  pub filter : Filter
+  pub inputs : ℕ → Bool
+  pub numbers : Info → Bool
+  pub base : List Info → Info
+  pub refusals : List Info → Refusals FilterFault
+  pub chosen : List Info → ℕ → Look → ℕ
+
+abbrev pub run_row : RunAct → RunRow
+run_row (choose e) = record {
+  filter = filters.ConditionalSelect;
+  inputs = λ k. nat_le 2 k;
+  numbers = λ test. is_number (planes test.shape.kind) (tree_of e);
+  base = λ infos. info_at infos 0;
+  refusals = λ infos. disagreements infos;
+  chosen = λ infos n test. source_of (length infos) (value n (stat_of (info_at infos 0).shape test) (tree_of e));
+}
+run_row (decide e by f) = record {
+  filter = filters.ConditionalFilter;
+  inputs = λ k. k == 3;
+  numbers = λ test. is_number (planes test.shape.kind) (tree_of e) && is_number (planes test.shape.kind) (tree_of f);
+  base = λ infos. info_at infos 1;
+  refusals = λ infos. differences (info_at infos 1).shape (info_at infos 2).shape;
+  chosen = λ infos n test.
+      let stats = stat_of (info_at infos 0).shape test in
+      side_of by (value n stats (tree_of e)) (value n stats (tree_of f));
+}
+
+-- The words of a row.
+
+abbrev pub run_filter : RunAct → Filter
+run_filter op = (run_row op).filter
+
+abbrev pub run_inputs : RunAct → ℕ → Bool
+run_inputs op = (run_row op).inputs
+
+abbrev pub run_numbers : RunAct → Info → Bool
+run_numbers op = (run_row op).numbers
+
+abbrev pub run_base : RunAct → List Info → Info
+run_base op = (run_row op).base
+
 abbrev pub run_refusals : RunAct → List Info → Refusals FilterFault
-run_refusals (choose e) infos = disagreements infos
-run_refusals (decide e by f) infos = differences (info_at infos 1).shape (info_at infos 2).shape
+run_refusals op = (run_row op).refusals
+
+abbrev pub chosen : RunAct → List Info → ℕ → Look → ℕ
+chosen op = (run_row op).chosen
 
 abbrev pub check_run : RunAct → List Info → Result Info FilterFault
 check_run op infos =
@@ -78,14 +113,3 @@ run_asked op infos n = map (λ i. in_range infos (from_input i n)) (range_with_l
 
 abbrev pub run_at : RunAct → List Info → ℕ → List Look → Look
 run_at op infos n looks = look_at looks (chosen op infos n (look_at looks 0))
-
--- ---- sound ops: as many clips, and expressions that are numbers
-
-abbrev pub run_inputs : RunAct → ℕ → Bool
-run_inputs (choose e) k = nat_le 2 k
-run_inputs (decide e by f) k = k == 3
-
--- of planes that the test has
-abbrev pub run_numbers : RunAct → Info → Bool
-run_numbers (choose e) test = is_number (planes test.shape.kind) (tree_of e)
-run_numbers (decide e by f) test = is_number (planes test.shape.kind) (tree_of e) && is_number (planes test.shape.kind) (tree_of f)

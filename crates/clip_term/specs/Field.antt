@@ -12,6 +12,8 @@ use Rattle.fv_plane.specs.Rate.{Rate}
 use Rattle.fv_plane.specs.Refusals.{Refusals, first_fault}
 use Rattle.clip_term.specs.declared.fault.FilterFault.{FilterFault}
 use Rattle.clip_term.specs.declared.fault.FilterFault.TheVariants.{NotWholeChroma}
+use Rattle.clip_term.specs.declared.filter.Filter.{Filter}
+use Rattle.clip_term.specs.declared.filter.Filter.TheVariants as filters
 use Rattle.clip_term.specs.declared.op.Origin.{Origin}
 use Rattle.clip_term.specs.Refusals.{rate_of, info_at, sized, unless, limits}
 use Rattle.clip_term.specs.Time.{from_input, in_range}
@@ -38,57 +40,6 @@ same_bool false b = not b
 abbrev pub has_fields : Shape → Bool
 has_fields shape = shape.height % (2 * sub_h shape.kind) == 0
 
--- Refusals.
-
-abbrev pub field_refusals : FieldOp → Shape → Refusals FilterFault
-field_refusals op.SeparateFields shape = (NotWholeChroma, not (has_fields shape)) ∷ []
-field_refusals op.Weave shape = []
-field_refusals op.SwapFields shape = (NotWholeChroma, not (has_fields shape)) ∷ []
-field_refusals op.AssumeTFF shape = []
-field_refusals op.AssumeBFF shape = []
-field_refusals op.ComplementParity shape = []
-
--- Size, length, rate, order of fields.
-
-abbrev pub field_shape : FieldOp → Shape → Shape
-field_shape op.SeparateFields shape = sized shape shape.width (shape.height / 2)
-field_shape op.Weave shape = sized shape shape.width (2 * shape.height)
-field_shape _ shape = shape
-
-abbrev pub field_length : FieldOp → ℕ → ℕ
-field_length op.SeparateFields frames = 2 * frames
-field_length op.Weave frames = frames / 2
-field_length _ frames = frames
-
-abbrev pub field_rate : FieldOp → Info → Rate
-field_rate op.SeparateFields c = record { num = c.num * 2; den = c.den }
-field_rate op.Weave c = record { num = c.num; den = c.den * 2 }
-field_rate _ c = rate_of c
-
-abbrev pub field_order : FieldOp → Field → Field
-field_order op.AssumeTFF field = Top
-field_order op.AssumeBFF field = Bottom
-field_order op.ComplementParity field = exchanged field
-field_order _ field = field
-
-abbrev pub check_field : FieldOp → List Info → Result Info FilterFault
-check_field op infos =
-    let c = info_at infos 0 in
-    unless (first_fault (field_refusals op c.shape))
-    (limits (record c { field = field_order op c.field }) (field_length op c.frames) (field_rate op c) (field_shape op c.shape))
-
--- Frames for frame n.
-
-abbrev pub field_numbers : FieldOp → ℕ → List ℕ
-field_numbers op.SeparateFields n = (n / 2) ∷ []
-field_numbers op.Weave n = (2 * n) ∷ (2 * n + 1) ∷ []
-field_numbers _ n = n ∷ []
-
-abbrev pub field_asked : FieldOp → List Info → ℕ → List Origin
-field_asked op infos n = map (λ k. in_range infos (from_input 0 k)) (field_numbers op n)
-
--- Sample, in a plane at x and y.
-
 -- frame n of the fields of a clip is the even rows
 abbrev pub is_upper : Field → ℕ → Bool
 is_upper field n = same_bool (is_even n) (is_top_first field)
@@ -100,11 +51,94 @@ woven_from field y = if same_bool (is_even y) (is_top_first field) then 0 else 1
 abbrev pub other_row : ℕ → ℕ
 other_row y = if is_even y then y + 1 else y - 1
 
+-- What is said of a filter over the clip c: what it refuses, in this order; the size, the length, the rate and the order of
+-- fields; the frames of c for frame n; and the sample in a plane at x and y.
+pub record FieldRow : Type 0 where
+  pub filter : Filter
+  pub refusals : Shape → Refusals FilterFault
+  pub shape : Shape → Shape
+  pub length : ℕ → ℕ
+  pub rate : Info → Rate
+  pub order : Field → Field
+  pub numbers : ℕ → List ℕ
+  pub at : Info → ℕ → List Look → Look
+
+-- nothing is refused, and all but the order of fields stays
+abbrev in_order : Filter → (Field → Field) → FieldRow
+in_order filter order = record {
+  filter = filter;
+  refusals = λ shape. [];
+  shape = λ shape. shape;
+  length = λ frames. frames;
+  rate = λ c. rate_of c;
+  order = order;
+  numbers = λ n. n ∷ [];
+  at = λ c n looks p x y. look_at looks 0 p x y;
+}
+
+abbrev pub field_row : FieldOp → FieldRow
+field_row op.SeparateFields = record {
+  filter = filters.SeparateFields;
+  refusals = λ shape. (NotWholeChroma, not (has_fields shape)) ∷ [];
+  shape = λ shape. sized shape shape.width (shape.height / 2);
+  length = λ frames. 2 * frames;
+  rate = λ c. record { num = c.num * 2; den = c.den };
+  order = λ field. field;
+  numbers = λ n. (n / 2) ∷ [];
+  at = λ c n looks p x y. look_at looks 0 p x (2 * y + (if is_upper c.field n then 0 else 1));
+}
+field_row op.Weave = record {
+  filter = filters.Weave;
+  refusals = λ shape. [];
+  shape = λ shape. sized shape shape.width (2 * shape.height);
+  length = λ frames. frames / 2;
+  rate = λ c. record { num = c.num; den = c.den * 2 };
+  order = λ field. field;
+  numbers = λ n. (2 * n) ∷ (2 * n + 1) ∷ [];
+  at = λ c n looks p x y. look_at looks (woven_from c.field y) p x (y / 2);
+}
+field_row op.SwapFields = record (in_order filters.SwapFields (λ field. field)) {
+  refusals = λ shape. (NotWholeChroma, not (has_fields shape)) ∷ [];
+  at = λ c n looks p x y. look_at looks 0 p x (other_row y);
+}
+field_row op.AssumeTFF = in_order filters.AssumeTFF (λ field. Top)
+field_row op.AssumeBFF = in_order filters.AssumeBFF (λ field. Bottom)
+field_row op.ComplementParity = in_order filters.ComplementParity exchanged
+
+-- The words of a row.
+
+abbrev pub field_filter : FieldOp → Filter
+field_filter op = (field_row op).filter
+
+abbrev pub field_refusals : FieldOp → Shape → Refusals FilterFault
+field_refusals op = (field_row op).refusals
+
+abbrev pub field_shape : FieldOp → Shape → Shape
+field_shape op = (field_row op).shape
+
+abbrev pub field_length : FieldOp → ℕ → ℕ
+field_length op = (field_row op).length
+
+abbrev pub field_rate : FieldOp → Info → Rate
+field_rate op = (field_row op).rate
+
+abbrev pub field_order : FieldOp → Field → Field
+field_order op = (field_row op).order
+
+abbrev pub field_numbers : FieldOp → ℕ → List ℕ
+field_numbers op = (field_row op).numbers
+
 abbrev pub field_at : FieldOp → Info → ℕ → List Look → Look
-field_at op.SeparateFields c n looks p x y = look_at looks 0 p x (2 * y + (if is_upper c.field n then 0 else 1))
-field_at op.Weave c n looks p x y = look_at looks (woven_from c.field y) p x (y / 2)
-field_at op.SwapFields c n looks p x y = look_at looks 0 p x (other_row y)
-field_at _ c n looks p x y = look_at looks 0 p x y
+field_at op = (field_row op).at
+
+abbrev pub check_field : FieldOp → List Info → Result Info FilterFault
+check_field op infos =
+    let c = info_at infos 0 in
+    unless (first_fault (field_refusals op c.shape))
+    (limits (record c { field = field_order op c.field }) (field_length op c.frames) (field_rate op c) (field_shape op c.shape))
+
+abbrev pub field_asked : FieldOp → List Info → ℕ → List Origin
+field_asked op infos n = map (λ k. in_range infos (from_input 0 k)) (field_numbers op n)
 
 -- ---- the law: fields that are separated and woven again
 

@@ -77,8 +77,8 @@ are_whole shape left top right bottom = is_whole shape left top && is_whole shap
 
 -- Colours, $YYUUVV.
 
-abbrev pub no_colour : ℤ → Bool
-no_colour z = beyond z 16777215
+abbrev pub is_colour : ℤ → Bool
+is_colour z = not (beyond z 16777215)
 
 -- the part for a plane
 abbrev pub part_of : ℕ → ℕ → ℕ

@@ -1,6 +1,6 @@
 -- A clip's info, each of its samples, and its pictures.
-use Rattle.std.specs.Prelude.{◌≡◌, ℕ, ◌+◌, ◌<◌, Bool, true, ◌&&◌, ◌||◌, ◌==◌, nat_le, ℤ, List, [], ◌∷◌, length, map, IsTrue, Result, Ok, Err, slice_index_or}
-use Rattle.std.specs.List.{All, range_with_len, list_all}
+use Rattle.std.specs.Prelude.{◌≡◌, ℕ, ◌+◌, ◌<◌, true, ◌&&◌, List, [], ◌∷◌, length, map, IsTrue, Result, Ok, Err, slice_index_or}
+use Rattle.std.specs.List.{All, range_with_len}
 use Rattle.fv_plane.specs.declared.format.Info.{Info}
 use Rattle.fv_plane.specs.declared.format.Shape.{Shape}
 use Rattle.fv_plane.specs.Format.{has_depth}
@@ -8,18 +8,15 @@ use Rattle.fv_plane.specs.Info.{IsLawful, IsPar}
 use Rattle.fv_plane.specs.Picture.{Picture}
 use Rattle.clip_term.specs.declared.fault.FilterFault.{FilterFault}
 use Rattle.clip_term.specs.declared.op.Origin.{Origin}
-use Rattle.clip_term.specs.declared.op.TimeOp.{TimeOp}
-use Rattle.clip_term.specs.declared.op.TimeOp.TheVariants as time_op
-use Rattle.clip_term.specs.declared.op.JoinOp.{JoinOp}
-use Rattle.clip_term.specs.declared.op.JoinOp.TheVariants as join_op
-use Rattle.clip_term.specs.declared.op.SoftOp.{SoftOp}
-use Rattle.clip_term.specs.declared.op.SoftOp.TheVariants as soft_op
 use Rattle.fv_plane.specs.Look.{Look, nothing, look_at, look_in, picture_from}
-use Rattle.clip_term.specs.Arguments.{is_weight}
+pub use Rattle.clip_term.specs.Arguments.{is_matrix}
 use Rattle.clip_term.specs.Refusals.{info_at, no_info}
+pub use Rattle.clip_term.specs.Time.{time_inputs, time_lists}
 use Rattle.clip_term.specs.Time.{check_time, source_number, from_input, in_range}
 use Rattle.clip_term.specs.Space.{check_space, space_at}
+pub use Rattle.clip_term.specs.Join.{join_inputs}
 use Rattle.clip_term.specs.Join.{check_join, join_at}
+pub use Rattle.clip_term.specs.Soft.{soft_lists}
 use Rattle.clip_term.specs.Soft.{check_soft, soft_asked, soft_at}
 use Rattle.clip_term.specs.Field.{check_field, field_asked, field_at}
 use Rattle.clip_term.specs.Choice.{check_run, run_asked, run_at, run_inputs}
@@ -106,55 +103,6 @@ abbrev pub term_picture : List (List Picture) → ClipTerm → ℕ → Picture
 term_picture book term n = picture_from (ok_or no_info (info_of term)).shape (term_sample book term n)
 
 -- Sound ops: as many inputs, and such lists, as the row asks.
-
-abbrev pub time_inputs : TimeOp → ℕ → Bool
-time_inputs (time_op.Trim first bound) k = k == 1
-time_inputs time_op.Reverse k = k == 1
-time_inputs (time_op.FreezeFrame first last shown) k = k == 1
-time_inputs time_op.SelectEven k = k == 1
-time_inputs time_op.SelectOdd k = k == 1
-time_inputs (time_op.SelectEvery step offsets) k = k == 1
-time_inputs time_op.Interleave k = nat_le 2 k
-time_inputs time_op.UnalignedSplice k = nat_le 2 k
-time_inputs time_op.AlignedSplice k = nat_le 2 k
-time_inputs (time_op.Loop times start end) k = k == 1
-time_inputs (time_op.DuplicateFrame frames) k = k == 1
-time_inputs (time_op.DeleteFrame frames) k = k == 1
-time_inputs (time_op.AssumeFPS num denominator) k = k == 1
-time_inputs (time_op.ChangeFPS num denominator) k = k == 1
-time_inputs (time_op.ApplyRange first last) k = k == 2
-
-abbrev pub join_inputs : JoinOp → ℕ → Bool
-join_inputs join_op.StackHorizontal k = nat_le 2 k
-join_inputs join_op.StackVertical k = nat_le 2 k
-join_inputs join_op.Merge k = k == 2
-join_inputs join_op.MergeLuma k = k == 2
-join_inputs join_op.MergeChroma k = k == 2
-join_inputs join_op.YToUV k = k == 3
-
-abbrev pub time_lists : TimeOp → Bool
-time_lists (time_op.Trim first bound) = true
-time_lists time_op.Reverse = true
-time_lists (time_op.FreezeFrame first last shown) = true
-time_lists time_op.SelectEven = true
-time_lists time_op.SelectOdd = true
-time_lists (time_op.SelectEvery step offsets) = nat_le 1 (length offsets)
-time_lists time_op.Interleave = true
-time_lists time_op.UnalignedSplice = true
-time_lists time_op.AlignedSplice = true
-time_lists (time_op.Loop times start end) = true
-time_lists (time_op.DuplicateFrame frames) = nat_le 1 (length frames)
-time_lists (time_op.DeleteFrame frames) = nat_le 1 (length frames)
-time_lists (time_op.AssumeFPS num denominator) = true
-time_lists (time_op.ChangeFPS num denominator) = true
-time_lists (time_op.ApplyRange first last) = true
-
-abbrev pub is_matrix : List ℤ → Bool
-is_matrix entries = (length entries == 9 || length entries == 25) && list_all is_weight entries
-
-abbrev pub soft_lists : SoftOp → Bool
-soft_lists (soft_op.TemporalSoften radius luma chroma) = true
-soft_lists (soft_op.GeneralConvolution bias matrix) = is_matrix matrix.entries
 
 abbrev pub IsSound : Act → ℕ → Type 0
 IsSound (source name number info) k = (k ≡ 0) × IsLawful info

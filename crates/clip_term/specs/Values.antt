@@ -1,5 +1,5 @@
 -- What an expression gives for a frame: a number of 64 bits, or none where a result leaves them or a divisor is 0.
-use Rattle.std.specs.Prelude.{ℕ, ◌+◌, ◌*◌, ◌^◌, ◌≡◌, Bool, false, if◌then◌else◌, ◌==◌, nat_lt, nat_le, min, max, ℤ, pos, negsuc, ◌+ℤ◌, ◌-ℤ◌, ◌*ℤ◌, int_lt, List, length, Option, Some, None}
+use Rattle.std.specs.Prelude.{ℕ, ◌+◌, ◌*◌, ◌^◌, Bool, false, if◌then◌else◌, ◌==◌, nat_lt, nat_le, min, max, ℤ, pos, negsuc, ◌+ℤ◌, ◌-ℤ◌, ◌*ℤ◌, int_lt, List, length, Option, Some, None}
 use Rattle.std.specs.Option.{unwrap_or}
 use Rattle.std.specs.List.{range_with_len, find, fold, count_by}
 use Rattle.std.specs.Int.{int_min, int_max}

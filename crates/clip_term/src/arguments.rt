@@ -1,12 +1,11 @@
 // What arguments may be, and what they say, where several crates ask it.
-ghost use Rattle.std.specs.Prelude.{◌≡◌, ◌≤ℤ◌, pos, false};
+ghost use Rattle.std.specs.Prelude.{◌≡◌, ◌≤ℤ◌, pos, true};
 ghost use Rattle.std.specs.List.{list_all, list_any};
 ghost use Rattle.std.specs.Char.{to_ascii_uppercase};
 ghost use Rattle.clip_term.specs.Arguments as a;
 ghost use Rattle.clip_term.specs.Blank as b;
 ghost use Rattle.clip_term.specs.Refusals as r;
 ghost use Rattle.clip_term.specs.Space as s;
-ghost use Rattle.clip_term.specs.Terms.{is_matrix};
 ghost use Rattle.clip_term.specs.Texts as t;
 
 use crate::{Channels, FilterFault};
@@ -22,11 +21,11 @@ pub const MAX_WEIGHT: i32 = 1_024;
 /// The greatest size of its bias.
 pub const MAX_BIAS: i32 = 255;
 
-/// Whether a number is no colour, which is 0 to $FFFFFF.
-pub fn no_colour(number: i32) -> bool
-    ensures { result ≡ r.no_colour number }
+/// Whether a number is a colour, which is 0 to $FFFFFF.
+pub fn is_colour(number: i32) -> bool
+    ensures { result ≡ r.is_colour number }
 {
-    number < 0 || number > 0xFF_FF_FF
+    number >= 0 && number <= 0xFF_FF_FF
 }
 
 /// The part of a colour $YYUUVV that a plane shows.
@@ -52,16 +51,16 @@ pub fn colour_of(number: i32) -> Colour
     }
 }
 
-/// Whether a number is not the bits that a sample may have: 8, 10, 12, 14 or 16.
-pub fn no_depth(bits: i32) -> bool
-    ensures { result ≡ s.no_depth bits }
+/// Whether a number is the bits that a sample may have: 8, 10, 12, 14 or 16.
+pub fn names_depth(bits: i32) -> bool
+    ensures { result ≡ s.names_depth bits }
 {
-    !matches!(bits, 8 | 10 | 12 | 14 | 16)
+    matches!(bits, 8 | 10 | 12 | 14 | 16)
 }
 
 /// The bits of a sample, of a number that is one of these.
 pub fn depth_of(bits: i32) -> u8
-    requires { s.no_depth bits ≡ false }
+    requires { s.names_depth bits ≡ true }
     ensures { result ≡ r.nat_of bits }
 {
     bits.unsigned_abs() as u8
@@ -75,11 +74,11 @@ fn is_over(most: i32, number: i32) -> bool
     number < -most || number > most
 }
 
-/// Whether `GeneralConvolution` refuses this bias.
-pub fn is_no_bias(bias: i32) -> bool
-    ensures { result ≡ a.is_no_bias bias }
+/// Whether a number may be the bias of `GeneralConvolution`.
+pub fn is_bias(bias: i32) -> bool
+    ensures { result ≡ a.is_bias bias }
 {
-    is_over(MAX_BIAS, bias)
+    !is_over(MAX_BIAS, bias)
 }
 
 /// Whether a number may be a weight.
@@ -97,7 +96,7 @@ fn are_weights(entries: &[i32]) -> bool
 
 /// Whether numbers are a matrix: 9 or 25 weights.
 pub fn is_matrix(entries: &[i32]) -> bool
-    ensures { result ≡ is_matrix entries.now }
+    ensures { result ≡ a.is_matrix entries.now }
 {
     (entries.len() == 9 || entries.len() == 25) && are_weights(entries)
 }

@@ -21,6 +21,7 @@ pub fn checks_lawful()
 {}
 
 /// What a filter asks are frames of its inputs.
+#[tactic(auto, using(crate::proofs::AskedLemmas::asks_in_range))]
 pub fn asks_in_range()
     ensures { AsksInRange }
 {}
@@ -42,6 +43,7 @@ pub fn filters_are_listed()
 {}
 
 /// Worked rows of the filters, each computed.
+#[tactic(auto, unfolding(crate::specs::Terms::info_of, crate::specs::Terms::infos_of, crate::specs::Terms::term_sample, crate::specs::Terms::term_samples, fv_plane::specs::Look::picture_from, fv_plane::specs::Rate::gcd))]
 pub fn examples()
     ensures time { TimeRows }
     ensures space { SpaceRows }

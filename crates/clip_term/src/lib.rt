@@ -16,8 +16,8 @@ mod run;
 mod term;
 
 pub use arguments::{
-    BLACK, MAX_BIAS, MAX_WEIGHT, colour_of, depth_of, is_matrix, is_no_bias, is_weight, no_colour,
-    no_depth, part_of, read_channels,
+    BLACK, MAX_BIAS, MAX_WEIGHT, colour_of, depth_of, is_bias, is_colour, is_matrix, is_weight,
+    names_depth, part_of, read_channels,
 };
 pub use fault::FilterFault;
 pub use field::FieldOp;

@@ -3,8 +3,7 @@ ghost use Rattle.std.specs.Prelude.{◌≡◌, ◌≤◌, IsTrue, IfSome, ◌&&�
 ghost use Rattle.std.specs.Char.{is_ascii_digit};
 ghost use Rattle.std.specs.List.{list_all};
 ghost use Rattle.clip_term.specs.Texts.{digits_of, entry_of, is_gap, matrix_named, weight_of};
-ghost use Rattle.clip_term.specs.Terms.{is_matrix};
-ghost use Rattle.clip_term.specs.Arguments.{is_weight};
+ghost use Rattle.clip_term.specs.Arguments.{is_matrix, is_weight};
 ghost use Rattle.clip_term.specs.declared.matrix.MatrixFault.TheVariants.{BadText};
 
 use crate::arguments::is_weight;
@@ -96,7 +95,7 @@ pub fn read_matrix(alloc: Global, text: &Text) -> Result<Matrix, MatrixFault>
                 Ok(()) => {}
                 Err(_) => return Err(MatrixFault::Memory),
             },
-            None => are_entries = are_entries && word.is_empty(),
+            None => are_entries &= word.is_empty(),
         }
     }
     let count = entries.as_slice().len();

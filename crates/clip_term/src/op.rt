@@ -137,7 +137,7 @@ pub enum Op {
 
 impl TimeOp {
     ghost use Rattle.std.specs.Prelude.{◌≡◌};
-    ghost use Rattle.clip_term.specs.Ops.{time_filter};
+    ghost use Rattle.clip_term.specs.Time.{time_filter};
 
     fn filter(&self) -> Filter
         ensures { result ≡ time_filter self.now }
@@ -164,7 +164,7 @@ impl TimeOp {
 
 impl SpaceOp {
     ghost use Rattle.std.specs.Prelude.{◌≡◌};
-    ghost use Rattle.clip_term.specs.Ops.{space_filter};
+    ghost use Rattle.clip_term.specs.Space.{space_filter};
 
     fn filter(&self) -> Filter
         ensures { result ≡ space_filter self.now }
@@ -193,7 +193,7 @@ impl SpaceOp {
 
 impl JoinOp {
     ghost use Rattle.std.specs.Prelude.{◌≡◌};
-    ghost use Rattle.clip_term.specs.Ops.{join_filter};
+    ghost use Rattle.clip_term.specs.Join.{join_filter};
 
     fn filter(&self) -> Filter
         ensures { result ≡ join_filter self.now }
@@ -211,7 +211,7 @@ impl JoinOp {
 
 impl SoftOp {
     ghost use Rattle.std.specs.Prelude.{◌≡◌};
-    ghost use Rattle.clip_term.specs.Ops.{soft_filter};
+    ghost use Rattle.clip_term.specs.Soft.{soft_filter};
 
     fn filter(&self) -> Filter
         ensures { result ≡ soft_filter self.now }

@@ -105,7 +105,7 @@ impl Drop for RunOp {
 impl RunOp {
     ghost use Rattle.std.specs.Prelude.{◌≡◌};
     ghost use Rattle.clip_term.specs.Choice.{run_act};
-    ghost use Rattle.clip_term.specs.Ops.{run_filter};
+    ghost use Rattle.clip_term.specs.Choice.{run_filter};
 
     /// The filter that it is.
     pub(crate) fn filter(&self) -> Filter

@@ -20,7 +20,8 @@ use Rattle.clip_term.specs.declared.field.FieldOp.TheVariants as op
 use Rattle.clip_term.specs.Field.{field_at, field_numbers, field_refusals, field_shape, has_fields, is_even, is_top_first, same_bool, woven_from}
 use Rattle.clip_term.specs.Refusals.{no_info}
 use Rattle.clip_term.specs.Terms.{no_picture}
-use Rattle.clip_term.proofs.FieldLocal.{half_line, other_line}
+use Rattle.clip_term.proofs.FieldFacts.{half_line, other_line}
+use Rattle.clip_term.proofs.PartLemmas.{down_ratio}
 use Rattle.clip_term.proofs.PassedLemmas.{same_number}
 use Rattle.flt_field.specs.Made.{CanMake, shape_of, shape_made, field_picture, picture_for, row_for, takes_memory}
 
@@ -77,8 +78,8 @@ input_inside op.ComplementParity field y pictures written can = cc
 
 -- and so is the row
 row_inside : (o : FieldOp) (y p : ℕ) (s : Shape) → takes_memory o ≡ true → first_fault (field_refusals o s) ≡ None → s.height % sub_h s.kind ≡ 0 → y < plane_height (field_shape o s) p → row_for o y < plane_height s p
-row_inside op.Weave y p s written accepted whole h = half_line (p == 0) s.kind y s.height whole h
-row_inside op.SwapFields y p s written accepted whole h = other_line (p == 0) s.kind y s.height (is_even y) refl (fields_by s accepted) h
+row_inside op.Weave y p s written accepted whole h = half_line (p == 0) (down_ratio s.kind) y s.height whole h
+row_inside op.SwapFields y p s written accepted whole h = other_line (p == 0) (down_ratio s.kind) y s.height (is_even y) refl (fields_by s accepted) h
 row_inside op.SeparateFields y p s written accepted whole h = cc
 row_inside op.AssumeTFF y p s written accepted whole h = h
 row_inside op.AssumeBFF y p s written accepted whole h = h

@@ -17,7 +17,7 @@ use Rattle.clip_term.specs.declared.op.JoinOp.TheVariants as op
 use Rattle.clip_term.specs.Refusals.{info_at, no_info, unless, same_format, same_size}
 use Rattle.clip_term.specs.Join.{has_sizes, kind_of, join_refusals, join_at}
 use Rattle.clip_term.proofs.PassedLemmas.{Passed, passed, agreed, or_false, both, not_false, same_number, same_format_is, all_at}
-use Rattle.clip_term.proofs.JoinLocal.{found, some_kind}
+use Rattle.clip_term.proofs.JoinFacts.{found, some_kind}
 use Rattle.flt_merge.specs.Joined.{infos_in, shape_joined, join_picture, CanJoin}
 use Rattle.flt_merge.specs.Rows.{look_of_two, look_of_luma, HaveWidth, HaveHeight}
 

@@ -6,11 +6,12 @@ use Rattle.std.proofs.lemmas.Simd.{length-zip2, get_or-zip2}
 use Rattle.fv_plane.specs.declared.format.PixelType.{PixelType}
 use Rattle.fv_plane.specs.declared.format.PixelType.TheVariants.{Y8, YV12, YV16, YV24, YV411}
 use Rattle.fv_plane.specs.declared.format.Shape.{Shape}
-use Rattle.fv_plane.specs.Bytes.{wide_samples, bytes_of_row, row_of_bytes, FitBytes}
-use Rattle.fv_plane.specs.Format.{HasSamePlane, planes, sub_w, sub_h, plane_width, largest_sample}
+use Rattle.fv_plane.specs.Bytes.{wide_samples, bytes_of_row, row_of_bytes}
+use Rattle.fv_plane.specs.Format.{HasSamePlane, planes, sub_w, sub_h, plane_width, plane_height}
+use Rattle.fv_plane.specs.Made.{bytes_made}
 use Rattle.fv_plane.specs.Picture.{Picture, IsPicture, row_of}
 use Rattle.fv_plane.proofs.FillLemmas.{Lists, row_listed}
-use Rattle.fv_plane.proofs.CallerLemmas.{length-row, fit_row, row_again}
+use Rattle.fv_plane.proofs.CallerLemmas.{length-row, row_again}
 use Rattle.fv_plane.proofs.WideLemmas.{pair, length-wide_samples, wide_samples-at}
 use Rattle.flt_merge.specs.Rows.{one_of_two, rows_of_two, look_of_two, one_of_three, rows_of_luma, look_of_luma, mean, rows_of_means, look_of_means}
 use Rattle.fv_plane.proofs.WholePlaneLemmas.{row_seen}
@@ -82,31 +83,6 @@ wide_means_are a b out long_a long_b each =
     means_are (wide_samples a) (wide_samples b) out (length-wide_samples (length out) a long_a) (length-wide_samples (length out) b long_b)
     (λ k within. each k within ∙ sym (ap (λ s. mean s (get_or (wide_samples b) k 0)) (wide_samples-at a k (omega arith)) ∙ ap (λ s. mean (pair a k) s) (wide_samples-at b k (omega arith))))
 
--- no mean is over what bounds the samples
-means_few : (most : ℕ) (a b : List ℕ) → ((x : ℕ) → get_or a x 0 ≤ most) → ((x : ℕ) → get_or b x 0 ≤ most) → (x : ℕ) → get_or (zip2 mean a b) x 0 ≤ most
-means_few most [] b few_a few_b x = omega arith
-means_few most (s ∷ a) [] few_a few_b x = omega arith
-means_few most (s ∷ a) (t ∷ b) few_a few_b zero = (let first : s ≤ most = few_a 0 in let second : t ≤ most = few_b 0 in omega arith)
-means_few most (s ∷ a) (t ∷ b) few_a few_b (suc x) = means_few most a b (λ k. few_a (suc k)) (λ k. few_b (suc k)) x
-
-module _ (a b : Picture) (shape made : Shape) (p y : ℕ) (first second out : List ℕ) (is : shape ≡ a.shape) (agree : b.shape ≡ a.shape) (same : made ≡ shape)
-    (row_a : first ≡ bytes_of_row a.shape (row_of a.planes p y)) (row_b : second ≡ bytes_of_row b.shape (row_of b.planes p y))
-    (put : out ≡ bytes_of_row shape (zip2 mean (row_of_bytes shape first) (row_of_bytes shape second))) where
-  stored : out ≡ bytes_of_row made (rows_of_means a b p y)
-  stored =
-      put ∙ rw (same, is) (
-      ap (λ l. bytes_of_row a.shape (zip2 mean l (row_of_bytes a.shape second))) (ap (row_of_bytes a.shape) row_a ∙ row_again a.shape (row_of a.planes p y))
-      ∙ ap (λ l. bytes_of_row a.shape (zip2 mean (row_of a.planes p y) l)) (ap (row_of_bytes a.shape) (row_b ∙ ap (λ (s : Shape). bytes_of_row s (row_of b.planes p y)) agree) ∙ row_again a.shape (row_of b.planes p y)))
-
-  -- the samples of the bytes are the means
-  pub means_again : row_of_bytes made out ≡ rows_of_means a b p y
-  means_again = ap (row_of_bytes made) stored ∙ row_again made (rows_of_means a b p y)
-
-  -- and are in range
-  pub means_fit : IsPicture a → IsPicture b → FitBytes made out
-  means_fit is_a is_b =
-      rw stored (fit_row made (rows_of_means a b p y) (rw (same, is) (means_few (largest_sample a.shape) (row_of a.planes p y) (row_of b.planes p y) (λ x. is_a.bounded p x y) (λ x. rw (← agree) (is_b.bounded p x y)))))
-
 pub means_listed : (a b : Picture) → IsPicture a → IsPicture b → b.shape ≡ a.shape → Lists (rows_of_means a b) a.shape (look_of_means a b)
 means_listed a b is_a is_b same p z there inside =
     let long_a = length-row a p z is_a there inside in
@@ -114,3 +90,16 @@ means_listed a b is_a is_b same p z there inside =
     row_listed (rows_of_means a b p z) (look_of_means a b) p (plane_width a.shape p) z
     (length-zip2 mean (row_of a.planes p z) (row_of b.planes p z) (long_a ∙ sym long_b) ∙ long_a)
     (λ x within. get_or-zip2 mean (row_of a.planes p z) (row_of b.planes p z) x 0 0 0 (omega arith) (omega arith))
+
+-- the bytes of the means of two rows are those of the row that is listed
+pub means_put : (a b : Picture) (shape : Shape) (p y : ℕ) (first second out : List ℕ) → IsPicture a → IsPicture b → shape ≡ a.shape → b.shape ≡ a.shape → p < planes a.shape.kind → y < plane_height a.shape p
+    → first ≡ bytes_of_row a.shape (row_of a.planes p y) → second ≡ bytes_of_row b.shape (row_of b.planes p y)
+    → out ≡ bytes_of_row shape (zip2 mean (row_of_bytes shape first) (row_of_bytes shape second)) → out ≡ bytes_made a.shape (look_of_means a b) p y
+means_put a b shape p y first second out is_a is_b is agree there inside row_a row_b put =
+    let samples_a : row_of_bytes a.shape first ≡ row_of a.planes p y = ap (row_of_bytes a.shape) row_a ∙ row_again a.shape (row_of a.planes p y) in
+    let samples_b : row_of_bytes a.shape second ≡ row_of b.planes p y
+    = ap (row_of_bytes a.shape) (row_b ∙ ap (λ (s : Shape). bytes_of_row s (row_of b.planes p y)) agree) ∙ row_again a.shape (row_of b.planes p y) in
+    put ∙ ap (λ (s : Shape). bytes_of_row s (zip2 mean (row_of_bytes s first) (row_of_bytes s second))) is
+    ∙ ap (λ l. bytes_of_row a.shape (zip2 mean l (row_of_bytes a.shape second))) samples_a
+    ∙ ap (λ l. bytes_of_row a.shape (zip2 mean (row_of a.planes p y) l)) samples_b
+    ∙ ap (bytes_of_row a.shape) (means_listed a b is_a is_b agree p y there inside)

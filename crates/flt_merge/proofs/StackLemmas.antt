@@ -13,11 +13,14 @@ use Rattle.fv_plane.specs.declared.format.Shape.{Shape}
 use Rattle.fv_plane.specs.Format.{planes, sub_w, sub_h, plane_width, plane_height, largest_sample}
 use Rattle.fv_plane.specs.Picture.{Picture, IsPicture, row_of}
 use Rattle.fv_plane.specs.Look.{look_in}
+use Rattle.fv_plane.specs.Made.{FitsLook}
 use Rattle.fv_rows.specs.Rows.{flat_rows}
 use Rattle.fv_plane.specs.Bytes.{bytes_of_row, bytes_of_rows, FitsRow, FitBytes}
 use Rattle.fv_plane.proofs.CallerLemmas.{fit_row, length-plane, length-row}
 use Rattle.fv_plane.proofs.BytesLemmas.{bytes_of_row-nil, bytes_of_row-same, bytes_of_row-append, bytes_of_rows-flat}
 use Rattle.fv_plane.proofs.FillLemmas.{Lists, row_listed}
+use Rattle.clip_term.proofs.BoundedLemmas as bounds
+use Rattle.clip_term.proofs.JoinFacts.{join_facts}
 use Rattle.clip_term.specs.Refusals.{no_info}
 use Rattle.clip_term.specs.Join.{beside, beneath, join_at}
 use Rattle.clip_term.specs.declared.op.JoinOp.TheVariants.{StackHorizontal, StackVertical}
@@ -285,13 +288,19 @@ bounded-append most (s ∷ front) rest few more (suc x) = bounded-append most fr
 fits_shape : (picture : Picture) (shape : Shape) (p y : ℕ) → IsPicture picture → picture.shape.bits ≡ shape.bits → FitsRow shape (row_of picture.planes p y)
 fits_shape picture shape p y is same x = subst (λ n. get_or (row_of picture.planes p y) x 0 ≤ 2 ^ n - 1) same (is.bounded p x y)
 
--- also side by side
-pub fits_beside : (shape : Shape) (pictures : List Picture) (p y : ℕ) → All IsPicture pictures → All (λ (one : Picture). one.shape.bits ≡ shape.bits) pictures → FitsRow shape (rows_beside pictures p y)
-fits_beside shape [] p y all same x = omega arith
-fits_beside shape (one ∷ more) p y all same x =
+-- and so do the samples at each place of them
+looks_of_all : (shape : Shape) (pictures : List Picture) → All IsPicture pictures → All (λ (one : Picture). one.shape.bits ≡ shape.bits) pictures → bounds.AllBounded shape (map look_in pictures)
+looks_of_all shape [] all same = bounds.none
+looks_of_all shape (one ∷ more) all same =
     let is = all_rest (λ (q : Picture). IsPicture q) one more all in
     let now = all_rest (λ (q : Picture). q.shape.bits ≡ shape.bits) one more same in
-    bounded-append (largest_sample shape) (row_of one.planes p y) (rows_beside more p y) (fits_shape one shape p y is.0 now.0) (fits_beside shape more p y is.1 now.1) x
+    bounds.more (record { at = λ p x y. fits_shape one shape p y is.0 now.0 x }) (looks_of_all shape more is.1 now.1)
+
+-- also side by side
+pub looks_beside : (shape : Shape) (pictures : List Picture) → Beside shape pictures → FitsLook shape (join_at StackHorizontal (infos_in pictures) (map look_in pictures))
+looks_beside shape pictures make =
+    let bounded = (join_facts StackHorizontal).bounded shape (infos_in pictures) (map look_in pictures) (looks_of_all shape pictures make.sizes (λ k d h. (make.alike k d h).2)) in
+    bounded.at
 
 fits_rows : (most : ℕ) (rows : List (List ℕ)) → ((x y : ℕ) → get_or (get_or rows y []) x 0 ≤ most) → (x : ℕ) → get_or (flat_rows rows) x 0 ≤ most
 fits_rows most [] few x = omega arith

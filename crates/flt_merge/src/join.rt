@@ -6,7 +6,7 @@ ghost use Rattle.fv_plane.specs.declared.format.PixelType.TheVariants.{Y8};
 ghost use Rattle.clip_term.specs.declared.op.JoinOp.TheVariants.{YToUV};
 ghost use Rattle.clip_term.specs.Refusals.{same_size};
 ghost use Rattle.clip_term.specs.Join.{has_sizes, kind_of};
-ghost use Rattle.flt_merge.specs.Joined.{CanJoin, shape_joined, join_picture};
+ghost use Rattle.flt_merge.specs.Joined.{CanJoin, shape_joined, join_picture, writes_rows};
 
 use crate::merge::merge;
 use crate::planes::{luma_and_chroma, luma_of_three};
@@ -60,7 +60,9 @@ fn y_to_uv(alloc: Global, u: &Frame, v: &Frame, y: &Frame) -> Result<Frame, Allo
 }
 
 /// Whether a filter writes the rows of its planes, and so takes memory for them. Else they share the bytes of the inputs.
-pub fn takes_memory(op: &JoinOp) -> bool {
+pub fn takes_memory(op: &JoinOp) -> bool
+    ensures { result ≡ writes_rows op.now }
+{
     match op {
         JoinOp::StackHorizontal | JoinOp::StackVertical | JoinOp::Merge => true,
         JoinOp::MergeLuma | JoinOp::MergeChroma | JoinOp::YToUV => false,
@@ -69,7 +71,7 @@ pub fn takes_memory(op: &JoinOp) -> bool {
 
 /// The frame that a filter makes of a frame of each of its clips. The inputs have the shapes of the clips, which the
 /// check of the filter accepts. It is made in `memory` as far as that has room. An `Err` is out of memory.
-pub fn make_join(
+pub fn make_join_in(
     alloc: Global,
     memory: FrameMemory,
     op: &JoinOp,
@@ -86,4 +88,12 @@ pub fn make_join(
         JoinOp::MergeChroma => luma_and_chroma(alloc, &inputs[0], &inputs[1]),
         JoinOp::YToUV => y_to_uv(alloc, &inputs[0], &inputs[1], &inputs[2]),
     }
+}
+
+/// The same, in new memory.
+pub fn make_join(op: &JoinOp, inputs: &[Frame]) -> Result<Frame, AllocError>
+    requires { CanJoin op.now inputs.now }
+    ensures { IfOk result (λ made. made ≡ join_picture op.now inputs.now) }
+{
+    make_join_in(inputs[0].allocator(), FrameMemory::none(), op, inputs)
 }

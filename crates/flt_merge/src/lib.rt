@@ -11,5 +11,5 @@ mod planes;
 mod stack;
 
 pub use clip_check::check_join;
-pub use join::{make_join, takes_memory};
+pub use join::{make_join, make_join_in, takes_memory};
 pub use kernels::merge_row;

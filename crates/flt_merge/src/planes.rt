@@ -31,7 +31,7 @@ pub fn luma_and_chroma(alloc: Global, luma: &Frame, chroma: &Frame) -> Result<Fr
     ensures { IfOk result (λ made. made ≡ picture_from luma.now.shape (look_of_two luma.now chroma.now)) }
 {
     let shape = luma.shape();
-    // Called for what its contract says.
+    // The other is a picture too.
     let _ = chroma.shape();
     let mut made = FrameBuilder::new(alloc, shape)?;
     for plane in 0..shape.kind.planes() {
@@ -54,7 +54,7 @@ pub fn luma_of_three(
     requires v { HasSamePlane shape 2 v.now.shape 0 }
     ensures { IfOk result (λ made. made ≡ picture_from shape (look_of_luma y.now u.now v.now)) }
 {
-    // Called for what its contract says.
+    // All three are pictures.
     let _ = y.shape();
     let _ = u.shape();
     let _ = v.shape();

@@ -1,13 +1,15 @@
 // `StackVertical` and `StackHorizontal`: pictures below each other, or side by side.
-ghost use Rattle.std.specs.Prelude.{◌≡◌, ◌<◌, ◌≤◌, IfOk, length};
+ghost use Rattle.std.specs.Prelude.{◌≡◌, ◌<◌, ◌≤◌, IfOk, false, length, map};
 ghost use Rattle.std.specs.List.{All};
 ghost use Rattle.fv_plane.specs.Format.{IsLegal, planes, plane_height};
+ghost use Rattle.fv_plane.specs.Look.{look_in};
 ghost use Rattle.fv_plane.specs.Picture.{IsPicture};
 ghost use Rattle.clip_term.specs.declared.op.JoinOp.TheVariants.{StackHorizontal, StackVertical};
-ghost use Rattle.flt_merge.specs.Joined.{shape_joined, join_picture};
+ghost use Rattle.clip_term.specs.Join.{join_at};
+ghost use Rattle.flt_merge.specs.Joined.{AreBeside, infos_in, shape_joined, join_picture};
 ghost use Rattle.flt_merge.specs.Rows.{HaveWidth, HaveHeight, width_of_all, height_of_all, bytes_beside};
 
-use fv_plane::{Frame, FrameBuilder, FrameMemory, Shape};
+use fv_plane::{Frame, FrameBuilder, FrameMemory, RowMaker, Shape, make_by_rows};
 use std::alloc::{AllocError, Global};
 
 // The heights of all pictures.
@@ -106,6 +108,35 @@ fn fill_row(inputs: &[Frame], plane: u32, y: u32, row: &mut [u8])
     }
 }
 
+// The rows of pictures side by side.
+#[derive(Drop)]
+struct RowsBeside<'a> {
+    inputs: &'a [Frame],
+    shape: Shape,
+}
+
+impl RowMaker for RowsBeside<'_> {
+    ghost shape_made = { λ rows. rows.shape };
+
+    ghost look_made = { λ rows. join_at StackHorizontal (infos_in rows.inputs.now) (map look_in rows.inputs.now) };
+
+    ghost keeps = { λ rows p. false };
+
+    ghost can_make = { λ rows. AreBeside rows.shape rows.inputs.now };
+
+    fn shape(&self) -> Shape {
+        self.shape
+    }
+
+    fn kept(&self, plane: u32) -> Option<(&Frame, u32)> {
+        None
+    }
+
+    fn fill_row(&mut self, plane: u32, y: u32, samples: &mut [u16], out: &mut [u8]) {
+        fill_row(self.inputs, plane, y, out);
+    }
+}
+
 /// The pictures side by side, from the left. An `Err` is out of memory.
 pub fn stack_horizontal(
     alloc: Global,
@@ -118,14 +149,5 @@ pub fn stack_horizontal(
     ensures { IfOk result (λ made. made ≡ join_picture StackHorizontal inputs.now) }
 {
     let shape = shape_beside(inputs);
-    let mut made = FrameBuilder::new_in(alloc, memory, shape)?;
-    for plane in 0..shape.kind.planes() {
-        let mut buffer = vec![in alloc; 0u8; shape.row_bytes(plane) as usize]?;
-        let row = buffer.as_mut_slice();
-        for y in 0..shape.plane_height(plane) {
-            fill_row(inputs, plane, y, row);
-            made.put_row(plane, y, row);
-        }
-    }
-    made.finish()
+    make_by_rows(alloc, memory, &mut RowsBeside { inputs, shape })
 }

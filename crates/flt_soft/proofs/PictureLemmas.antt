@@ -1,20 +1,18 @@
 -- Pictures of one shape, and planes that stay.
 use Rattle.std.proofs.Common.{◌≡◌, ℕ, zero, suc, ◌+◌, ◌-◌, ◌*◌, ◌/◌, ◌%◌, ◌^◌, ◌<◌, ◌≤◌, ◌∙◌, List, [], ◌∷◌, length, map, get_or, refl, sym, ap, arith, Bool, true, false, inl, inr, eqb-true, eq-eqb}
 use Rattle.std.specs.Prelude.{ℤ, pos, ◌+ℤ◌, ◌*ℤ◌, int_div, unsigned_abs, ◌⊎◌, ◌||◌, if◌then◌else◌, ◌==◌, ◌&&◌, nat_le}
-use Rattle.std.specs.List.{All, range_with_len}
+use Rattle.std.specs.List.{All}
 use Rattle.std.proofs.lemmas.List.{get_or_read, length-map}
 use Rattle.fv_plane.specs.declared.format.PixelType.{PixelType}
 use Rattle.fv_plane.specs.declared.format.PixelType.TheVariants.{Y8, YV12, YV16, YV24, YV411}
 use Rattle.fv_plane.specs.declared.format.Shape.{Shape}
-use Rattle.fv_plane.specs.Bytes.{row_of_bytes, FitBytes}
-use Rattle.fv_plane.specs.Format.{IsLegal, largest_sample, plane_width, row_bytes, scale, sub_w}
+use Rattle.fv_plane.specs.Format.{IsLegal, largest_sample, planes, plane_width, plane_height, row_bytes, scale, sub_w}
 use Rattle.fv_plane.specs.Picture.{Picture, IsPicture, row_of}
 use Rattle.fv_plane.specs.Look.{Look, look_in, look_at, row_from}
-use Rattle.fv_plane.proofs.BytesLemmas.{row-bytes_of_row}
-use Rattle.fv_plane.proofs.CallerLemmas.{bytes_of_narrow, fit_row}
+use Rattle.fv_plane.specs.Made.{IsPlaneOf}
+use Rattle.fv_plane.proofs.CallerLemmas.{bytes_of_narrow}
 use Rattle.fv_plane.proofs.PictureLemmas.{five_depths}
-use Rattle.fv_plane.proofs.FillLemmas.{Filled, row_listed}
-use Rattle.fv_plane.proofs.WholePlaneLemmas.{rows_listed}
+use Rattle.fv_plane.proofs.FillLemmas.{row_listed}
 use Rattle.clip_term.specs.declared.op.Matrix.{Matrix}
 use Rattle.clip_term.specs.declared.op.SoftOp.{SoftOp}
 use Rattle.clip_term.specs.declared.op.SoftOp.TheVariants as op
@@ -73,10 +71,6 @@ some_columns shape p legal = some_either (p == 0) shape.width (shape.width / sub
 -- and at most as many as a side may have
 pub few_columns : (shape : Shape) (p : ℕ) → IsLegal shape → plane_width shape p ≤ 65535
 few_columns shape p legal = omega (arith, width_at_most shape p, legal.most_width)
-
--- nothing is written yet in a picture of this shape
-pub none_filled : (want : ℕ → ℕ → List ℕ) (shape : Shape) (made : Picture) → IsPicture made → made.shape ≡ shape → Filled want shape made 0 0
-none_filled want shape made sizes same = record { same = same; sizes = sizes; below = λ p z before there. absurd (omega arith); here = λ z before. absurd (omega arith) }
 
 -- a row of samples of eight bits has as many bytes
 pub narrow_width : (shape : Shape) (p bytes : ℕ) → shape.bits ≡ 8 → bytes ≡ row_bytes shape p → bytes ≡ plane_width shape p
@@ -143,18 +137,7 @@ narrow_made filter pictures p y bytes narrow long =
     let width = narrow_width (shape_of pictures) p bytes narrow long in
     ap (λ n. row_from at p n y) width ∙ sym (bytes_of_narrow (shape_of pictures) (row_from at p (plane_width (shape_of pictures) p) y) narrow)
 
--- the samples of the bytes are the row
-pub made_again : (filter : SoftOp) (pictures : List Picture) (shape made : Shape) (p y : ℕ) (out : List ℕ) → shape ≡ shape_of pictures → made ≡ shape
-    → out ≡ bytes_made filter pictures p y → row_of_bytes made out ≡ rows_listed shape (soft_at filter shape (map look_in pictures)) p y
-made_again filter pictures shape made p y out is same put =
-    rw (put, same, is) (row-bytes_of_row (shape_of pictures) (row_from (soft_at filter (shape_of pictures) (map look_in pictures)) p (plane_width (shape_of pictures) p) y))
-
 -- SAMPLES IN RANGE
-
-map_few : (f : ℕ → ℕ) (ns : List ℕ) (most : ℕ) → ((n : ℕ) → f n ≤ most) → (k : ℕ) → get_or (map f ns) k 0 ≤ most
-map_few f [] most few k = omega arith
-map_few f (n ∷ ns) most few zero = few n
-map_few f (n ∷ ns) most few (suc k) = map_few f ns most few k
 
 all_bounded : (shape : Shape) (pictures : List Picture) → HaveShape shape pictures → All IsPicture pictures → AllBounded shape (map look_in pictures)
 all_bounded shape [] alike are = bounds.none
@@ -164,18 +147,9 @@ all_bounded shape (picture ∷ pictures) alike are =
     bounds.more (record { at = λ p x y. rw same at (is.bounded p x y) }) (all_bounded shape pictures (λ k d h. alike (suc k) d (omega arith)) (λ k d h. are (suc k) d (omega arith)))
 
 -- no sample that a filter makes is over the largest one
-soft_bounded : (filter : SoftOp) (pictures : List Picture) → CanSoften filter pictures → All IsPicture pictures → IsBounded (shape_of pictures) (soft_at filter (shape_of pictures) (map look_in pictures))
-soft_bounded (op.TemporalSoften radius luma chroma) pictures can are =
-    bounds.soften_bounded (shape_of pictures) radius luma chroma (map look_in pictures) (length-map pictures look_in ∙ can.asked) (all_bounded (shape_of pictures) pictures can.alike are)
-soft_bounded (op.GeneralConvolution bias matrix) pictures can are = bounds.convolve_bounded (shape_of pictures) bias matrix (map look_in pictures)
-
--- so its bytes fit
-pub made_fits : (filter : SoftOp) (pictures : List Picture) (made : Shape) (p y : ℕ) (out : List ℕ) → CanSoften filter pictures → All IsPicture pictures → made ≡ shape_of pictures → out ≡ bytes_made filter pictures p y → FitBytes made out
-made_fits filter pictures made p y out can are same put =
-    let shape : Shape = shape_of pictures in
-    let bounded = soft_bounded filter pictures can are in
-    rw (put, same) (fit_row shape (row_made filter pictures p y)
-    (λ x. map_few (λ n. soft_at filter shape (map look_in pictures) p n y) (range_with_len 0 (plane_width shape p)) (largest_sample shape) (λ n. bounded.at p n y) x))
+pub soft_bounded : (filter : SoftOp) (pictures : List Picture) → CanSoften filter pictures → All IsPicture pictures → IsBounded (shape_of pictures) (soft_at filter (shape_of pictures) (map look_in pictures))
+soft_bounded filter pictures can are =
+    bounds.soft_bounded filter (shape_of pictures) (map look_in pictures) (length-map pictures look_in ∙ can.asked) (all_bounded (shape_of pictures) pictures can.alike are)
 
 -- PLANES THAT STAY
 
@@ -222,6 +196,18 @@ kept_samples (op.TemporalSoften radius luma chroma) shape pictures p can keeps x
       | inr none ↦ middle_stays (nat_of radius) threshold (scale shape) pictures p x y (eqb-true threshold 0 none) can.asked
     ]
 kept_samples (op.GeneralConvolution bias matrix) shape pictures p can keeps x y = cc
+
+-- so it is that plane of the middle picture
+pub kept_plane : (filter : SoftOp) (pictures : List Picture) (middle : Picture) (p : ℕ) → CanSoften filter pictures → keeps_plane filter p ≡ true → middle ≡ get_or pictures (length pictures / 2) middle
+    → p < planes (shape_of pictures).kind → IsPlaneOf (shape_of pictures) (soft_at filter (shape_of pictures) (map look_in pictures)) p middle p
+kept_plane filter pictures middle p can keeps is there =
+    let some : 0 < length pictures = some_pictures filter pictures can in
+    let same : middle.shape ≡ shape_of pictures = shape_same (shape_of pictures) pictures (length pictures / 2) middle can.alike (omega arith) is in
+    record {
+      there = omega (arith, there, ap (λ (s : Shape). planes s.kind) same);
+      same = record { width = ap (λ (s : Shape). plane_width s p) (sym same); height = ap (λ (s : Shape). plane_height s p) (sym same); bits = ap (λ (s : Shape). s.bits) (sym same) };
+      shown = λ x y. kept_samples filter (shape_of pictures) pictures p can keeps x y ∙ ap (λ (q : Picture). look_in q p x y) (sym (get_or_read pictures (length pictures / 2) middle (omega arith) is no_picture));
+    }
 
 -- SUMS
 

@@ -1,5 +1,5 @@
 -- What a filter makes of pictures.
-use Rattle.std.specs.Prelude.{◌≡◌, ℕ, ◌+◌, ◌*◌, ◌/◌, ◌<◌, ◌≤◌, ◌⊎◌, ℤ, Bool, false, ◌||◌, if◌then◌else◌, ◌==◌, List, map, length, slice_index_or, IsTrue, None}
+use Rattle.std.specs.Prelude.{◌≡◌, ℕ, ◌+◌, ◌*◌, ◌/◌, ◌<◌, ◌≤◌, ◌⊎◌, ℤ, Bool, List, map, length, slice_index_or, IsTrue, None}
 use Rattle.std.specs.List.{All}
 use Rattle.fv_plane.specs.declared.format.Shape.{Shape}
 use Rattle.fv_plane.specs.Picture.{Picture, row_of}
@@ -8,9 +8,7 @@ use Rattle.fv_plane.specs.Format.{planes, plane_width, plane_height, sample_byte
 use Rattle.fv_plane.specs.Look.{Look, look_at, look_in, picture_from, row_from}
 use Rattle.fv_plane.specs.Refusals.{first_fault}
 use Rattle.clip_term.specs.declared.op.SoftOp.{SoftOp}
-use Rattle.clip_term.specs.declared.op.SoftOp.TheVariants as op
-use Rattle.clip_term.specs.Refusals.{nat_of}
-use Rattle.clip_term.specs.Soft.{samples_at, soft_refusals, soft_at, softened}
+use Rattle.clip_term.specs.Soft.{soft_row, samples_at, soft_refusals, soft_at, softened}
 use Rattle.clip_term.specs.Terms.{no_picture, soft_lists}
 use Rattle.flt_rows.specs.Rows.{AreWeights, IsBias}
 
@@ -45,8 +43,7 @@ bytes_made op pictures p y = bytes_of_row (shape_of pictures) (row_made op pictu
 
 -- how many frames a filter asks
 abbrev pub asked_count : SoftOp → ℕ
-asked_count (op.TemporalSoften radius luma chroma) = 2 * nat_of radius + 1
-asked_count (op.GeneralConvolution bias matrix) = 1
+asked_count op = (soft_row op).count
 
 -- as many pictures of one shape as the filter asks, and arguments that its row doesn't refuse
 pub record CanSoften (op : SoftOp) (pictures : List Picture) : Type 0 where
@@ -55,11 +52,14 @@ pub record CanSoften (op : SoftOp) (pictures : List Picture) : Type 0 where
   pub asked : length pictures ≡ asked_count op
   pub alike : HaveShape (shape_of pictures) pictures
 
+-- and room for rows of them
+pub record CanFill (op : SoftOp) (pictures : List Picture) (room : ℕ) : Type 0 where
+  pub able : CanSoften op pictures
+  pub enough : (shape_of pictures).width ≤ room
+
 -- a plane of the result is that plane of the middle picture
 abbrev pub keeps_plane : SoftOp → ℕ → Bool
-keeps_plane (op.TemporalSoften radius luma chroma) p =
-    nat_of radius == 0 || nat_of (if p == 0 then luma else chroma) == 0
-keeps_plane (op.GeneralConvolution bias matrix) p = false
+keeps_plane op = (soft_row op).keeps
 
 -- a row of one of the pictures
 abbrev pub row_in : List Picture → ℕ → ℕ → ℕ → List ℕ

@@ -7,10 +7,8 @@ pub record IsPadded (width padded : ℕ) : Type 0 where
   pub some : 0 < width → padded ≡ width + 4
 
 -- a row of each kind for pictures of this width
-pub record HasRows (width padded means sums wide_padded wide totals : ℕ) : Type 0 where
+pub record HasRows (width padded sums wide_padded totals : ℕ) : Type 0 where
   pub for_padded : IsPadded width padded
-  pub for_means : means ≡ width
   pub for_sums : sums ≡ width
   pub for_wide_padded : IsPadded width wide_padded
-  pub for_wide : wide ≡ width
   pub for_totals : totals ≡ width

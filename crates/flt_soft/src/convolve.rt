@@ -1,22 +1,21 @@
 // Sums of the samples around a place.
-ghost use Rattle.std.specs.Prelude.{◌≡◌, ◌<◌, ◌≤◌, ◌+◌, ◌^◌, ◌⊎◌, ℕ, max, pos, negsuc, ◌-ℤ◌, ◌≤ℤ◌, IfOk, OnErr, length, EachIndex, slice_index, slice_index_or, unsigned_abs, vec_len};
-ghost use Rattle.fv_plane.specs.Format.{planes, plane_width, plane_height};
+ghost use Rattle.std.specs.Prelude.{◌≡◌, ◌<◌, ◌≤◌, ◌+◌, ◌^◌, ◌⊎◌, ℕ, pos, negsuc, ◌-ℤ◌, ◌≤ℤ◌, length, EachIndex, slice_index, slice_index_or, unsigned_abs, vec_len};
+ghost use Rattle.fv_plane.specs.Format.{planes, plane_width, plane_height, row_bytes};
 ghost use Rattle.fv_plane.specs.Look.{look_in};
 ghost use Rattle.clip_term.specs.declared.op.SoftOp.TheVariants.{GeneralConvolution};
 ghost use Rattle.clip_term.specs.Soft.{place, side_of, weighed, total, divisor_of, convolved};
-ghost use Rattle.flt_soft.specs.Pictures.{CanSoften, shape_of, soft_picture};
+ghost use Rattle.flt_soft.specs.Pictures.{CanSoften, bytes_made, shape_of};
 ghost use Rattle.flt_rows.specs.Rows.{IsWeight, AreWeights, IsBias, IsSmall, AreSmall};
 ghost use Rattle.flt_rows.specs.Squares.{size_of_all, entries_of, IsEnding};
 
 use crate::convolve_wide::convolve_wide;
-use crate::rows::{RowFilter, make_by_rows, narrow_row};
+use crate::rows::narrow_row;
 use crate::scratch::Scratch;
 use clip_term::Matrix;
 use flt_rows::kernels::{add_five, add_three, pad_row, show_row};
 use flt_rows::narrow::{self, Ending, Square, Weights, narrow_reciprocal_of};
 use flt_rows::reciprocal::reciprocal_of;
-use fv_plane::{Frame, FrameMemory};
-use std::alloc::{AllocError, Global};
+use fv_plane::Frame;
 
 /// A place beside another, brought to the edge where it is past it.
 pub fn place(at: u32, step: u32, half: u32, size: u32) -> u32
@@ -340,66 +339,43 @@ fn convolve_in(
     ensures sums { vec_len sums.new ≡ vec_len sums.old }
     ensures padded { vec_len padded.new ≡ vec_len padded.old }
 {
-    // Called for what its contract says.
+    // The input is a picture, of whole rows.
     let _ = input.shape();
     let (padded, _) = padded.as_mut_slice().split_at_mut(out.len() + 4);
     let (sums, _) = sums.as_mut_slice().split_at_mut(out.len());
     convolve_row(input, plane, y, bias, weights, padded, sums, out);
 }
 
-#[derive(Drop)]
-struct ConvolveRows<'a> {
-    bias: i32,
-    matrix: &'a Matrix,
-}
-
-impl RowFilter for ConvolveRows<'_> {
-    ghost op = { λ filter. GeneralConvolution filter.bias filter.matrix.now };
-
-    fn keeps_plane(&self, plane: u32) -> bool {
-        false
-    }
-
-    fn fill_row(
-        &self,
-        inputs: &[Frame],
-        plane: u32,
-        y: u32,
-        scratch: &mut Scratch,
-        out: &mut [u8],
-    ) {
-        let input = &inputs[0];
-        let weights = self.matrix.entries.as_slice();
-        let sums = &mut scratch.sums;
-        let shape = input.shape();
-        if shape.bits == 8 {
-            let padded = &mut scratch.padded;
-            convolve_in(input, plane, y, self.bias, weights, padded, sums, out);
-        } else {
-            let padded = &mut scratch.wide_padded;
-            let samples = &mut scratch.wide;
-            convolve_wide(
-                input, plane, y, self.bias, weights, padded, samples, sums, out,
-            );
-        }
-    }
-}
-
-/// `GeneralConvolution`: each sample becomes the sum of those around it, each times its weight, divided by the sum of the
-/// weights, plus the bias. An `Err` is out of memory.
-pub fn general_convolution(
-    alloc: Global,
-    memory: FrameMemory,
+/// The bytes of a row that `GeneralConvolution` makes: each sample becomes the sum of those around it, each times its weight,
+/// divided by the sum of the weights, plus the bias.
+pub fn convolved_row(
+    inputs: &[Frame],
     bias: i32,
     matrix: &Matrix,
-    inputs: &[Frame],
+    plane: u32,
+    y: u32,
     scratch: &mut Scratch,
-) -> Result<Frame, AllocError>
-    requires { CanSoften (GeneralConvolution bias matrix.now) inputs.now }
-    ensures made { IfOk result (λ made. made ≡ soft_picture (GeneralConvolution bias matrix.now) inputs.now) }
-    ensures room { scratch.new ≤ max scratch.old (shape_of inputs.now).width }
-    ensures err { OnErr result (scratch.new ≡ scratch.old) }
+    samples: &mut [u16],
+    out: &mut [u8],
+)
+    requires able { CanSoften (GeneralConvolution bias matrix.now) inputs.now }
+    requires plane { plane < planes (shape_of inputs.now).kind }
+    requires inside { y < plane_height (shape_of inputs.now) plane }
+    requires whole { length out.old ≡ row_bytes (shape_of inputs.now) plane }
+    requires samples { length samples.old ≡ plane_width (shape_of inputs.now) plane }
+    requires room { plane_width (shape_of inputs.now) plane ≤ scratch.old }
+    ensures row { out.new ≡ bytes_made (GeneralConvolution bias matrix.now) inputs.now plane y }
+    ensures room { scratch.new ≡ scratch.old }
 {
-    let filter = ConvolveRows { bias, matrix };
-    make_by_rows(alloc, memory, &filter, inputs, scratch)
+    let input = &inputs[0];
+    let weights = matrix.entries.as_slice();
+    let sums = &mut scratch.sums;
+    let shape = input.shape();
+    if shape.bits == 8 {
+        let padded = &mut scratch.padded;
+        convolve_in(input, plane, y, bias, weights, padded, sums, out);
+    } else {
+        let padded = &mut scratch.wide_padded;
+        convolve_wide(input, plane, y, bias, weights, padded, samples, sums, out);
+    }
 }

@@ -227,7 +227,8 @@ fn convolve_row(
     }
 }
 
-/// The bytes of a row of the picture that is made. The rows to work in may be wider.
+/// The bytes of a row of the picture that is made. The padded row and that of the sums may be
+/// wider.
 pub fn convolve_wide(
     input: &Frame,
     plane: u32,
@@ -235,7 +236,7 @@ pub fn convolve_wide(
     bias: i32,
     weights: &[i32],
     padded: &mut Vec<u16>,
-    samples: &mut Vec<u16>,
+    samples: &mut [u16],
     sums: &mut Vec<i32>,
     out: &mut [u8],
 )
@@ -247,17 +248,15 @@ pub fn convolve_wide(
     requires bias { IsBias bias }
     requires whole { length out.old ≡ plane_width input.now.shape plane * 2 }
     requires padded { plane_width input.now.shape plane + 4 ≤ vec_len padded.old }
-    requires samples { plane_width input.now.shape plane ≤ vec_len samples.old }
+    requires samples { length samples.old ≡ plane_width input.now.shape plane }
     requires sums { plane_width input.now.shape plane ≤ vec_len sums.old }
     ensures row { out.new ≡ wide_bytes (row_from (convolved bias weights.now input.now.shape (look_in input.now))
         plane (plane_width input.now.shape plane) y) }
     ensures padded { vec_len padded.new ≡ vec_len padded.old }
-    ensures samples { vec_len samples.new ≡ vec_len samples.old }
     ensures sums { vec_len sums.new ≡ vec_len sums.old }
 {
     let width = out.len() / 2;
     let (padded, _) = padded.as_mut_slice().split_at_mut(width + 4);
-    let (samples, _) = samples.as_mut_slice().split_at_mut(width);
     let (sums, _) = sums.as_mut_slice().split_at_mut(width);
     convolve_row(input, plane, y, bias, weights, padded, sums, samples);
     write_samples(samples, out);

@@ -14,5 +14,5 @@ mod soften_wide;
 
 pub use clip_check::check_soft;
 pub use clip_term::{MatrixFault, read_matrix};
-pub use make::{make_soft, takes_memory};
+pub use make::{make_soft, make_soft_in, takes_memory};
 pub use scratch::Scratch;

@@ -11,11 +11,9 @@ pub struct Scratch {
     alloc: Global,
     width: usize,
     pub(crate) padded: Vec<u8>,
-    pub(crate) means: Vec<u16>,
     pub(crate) sums: Vec<i32>,
     // For samples of two bytes.
     pub(crate) wide_padded: Vec<u16>,
-    pub(crate) wide: Vec<u16>,
     pub(crate) totals: Vec<u32>,
 }
 
@@ -28,8 +26,8 @@ impl Model for Scratch {
 
     ghost view = { λ s. s.width };
 
-    ghost invariant = { λ s. HasRows s.width (vec_len s.padded) (vec_len s.means) (vec_len s.sums)
-        (vec_len s.wide_padded) (vec_len s.wide) (vec_len s.totals) };
+    ghost invariant = { λ s. HasRows s.width (vec_len s.padded) (vec_len s.sums) (vec_len s.wide_padded)
+        (vec_len s.totals) };
 }
 
 impl Scratch {
@@ -41,24 +39,27 @@ impl Scratch {
             alloc,
             width: 0,
             padded: Vec::new(alloc),
-            means: Vec::new(alloc),
             sums: Vec::new(alloc),
             wide_padded: Vec::new(alloc),
-            wide: Vec::new(alloc),
             totals: Vec::new(alloc),
         }
     }
 
-    /// The bytes of its rows: at most as many as eight rows of `u32` have.
+    // The allocator of its rows.
+    pub(crate) fn allocator(&self) -> Global {
+        self.alloc
+    }
+
+    /// The bytes of its rows: at most as many as four rows of `u32` have, and six for a width of 1 or 2.
     pub fn bytes(&self) -> u64
         requires { self.now ≤ 65535 }
         ensures none { self.now ≡ 0 → result ≡ 0 }
-        ensures rows { 0 < self.now → result ≡ 15 * self.now + 12 }
-        ensures few { result ≤ 32 * self.now }
+        ensures rows { 0 < self.now → result ≡ 11 * self.now + 12 }
+        ensures few { 3 ≤ self.now → result ≤ 16 * self.now }
+        ensures all { result ≤ 24 * self.now }
     {
-        let narrow = self.padded.len() as u64 + 2 * self.means.len() as u64;
-        let wide = 2 * (self.wide_padded.len() as u64 + self.wide.len() as u64);
-        narrow + wide + 4 * (self.sums.len() as u64 + self.totals.len() as u64)
+        let padded = self.padded.len() as u64 + 2 * self.wide_padded.len() as u64;
+        padded + 4 * (self.sums.len() as u64 + self.totals.len() as u64)
     }
 
     // Rows of this width. An `Err` is out of memory.
@@ -71,10 +72,8 @@ impl Scratch {
             alloc,
             width,
             padded: vec![in alloc; 0u8; width + 4]?,
-            means: vec![in alloc; 0u16; width]?,
             sums: vec![in alloc; 0i32; width]?,
             wide_padded: vec![in alloc; 0u16; width + 4]?,
-            wide: vec![in alloc; 0u16; width]?,
             totals: vec![in alloc; 0u32; width]?,
         })
     }

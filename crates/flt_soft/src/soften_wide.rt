@@ -87,14 +87,14 @@ fn fill_means(
     }
 }
 
-/// The bytes of that row. The rows to work in may be wider.
+/// The bytes of that row. The other rows to work in may be wider than `row`.
 pub fn soften_wide(
     inputs: &[Frame],
     plane: u32,
     y: u32,
     threshold: u16,
     middle: &mut Vec<u16>,
-    row: &mut Vec<u16>,
+    row: &mut [u16],
     sums: &mut Vec<u32>,
     out: &mut [u8],
 )
@@ -103,15 +103,12 @@ pub fn soften_wide(
     requires wide { sample_bytes (shape_of inputs.now) ≡ 2 }
     requires whole { length out.old ≡ plane_width (shape_of inputs.now) plane * 2 }
     requires middle { plane_width (shape_of inputs.now) plane ≤ vec_len middle.old }
-    requires row { plane_width (shape_of inputs.now) plane ≤ vec_len row.old }
+    requires row { length row.old ≡ plane_width (shape_of inputs.now) plane }
     requires sums { plane_width (shape_of inputs.now) plane ≤ vec_len sums.old }
     ensures made { out.new ≡ wide_bytes (row_of_means inputs.now threshold plane y) }
     ensures middle { vec_len middle.new ≡ vec_len middle.old }
-    ensures row { vec_len row.new ≡ vec_len row.old }
     ensures sums { vec_len sums.new ≡ vec_len sums.old }
 {
-    let width = out.len() / 2;
-    let (row, _) = row.as_mut_slice().split_at_mut(width);
     fill_means(inputs, plane, y, threshold, middle, row, sums);
     write_samples(row, out);
 }

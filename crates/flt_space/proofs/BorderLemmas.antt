@@ -19,7 +19,11 @@ use Rattle.clip_term.specs.declared.op.SpaceOp.TheVariants.{AddBorders, LetterBo
 use Rattle.clip_term.specs.Refusals.{sized, nat_of, paint}
 use Rattle.clip_term.specs.Space.{is_within, space_at, space_refusals}
 use Rattle.clip_term.proofs.PassedLemmas.{both, if_same}
-use Rattle.flt_space.specs.Rows.{padded, covered, row_made}
+use Rattle.flt_space.specs.Rows.{padded}
+
+-- a row whose first and last samples are of one value
+abbrev pub covered : ℕ → ℕ → ℕ → List ℕ → List ℕ
+covered left right value row = padded left value (take (length row - right - left) (drop left row)) (length row)
 
 between_by : (luma : Bool) (kind : PixelType) (w l r : ℕ)
     → (if luma then l else l / sub_w kind) + (if luma then w else w / sub_w kind) ≤ (if luma then w + l + r else (w + l + r) / sub_w kind)
@@ -92,7 +96,7 @@ out_of_row true false a b e = refl
 out_of_row false row a b e = refl
 
 -- what a test of a place between others says
-inside_of : (start end at : ℕ) → is_within start end at ≡ true → (start ≤ at) × (at < end)
+pub inside_of : (start end at : ℕ) → is_within start end at ≡ true → (start ≤ at) × (at < end)
 inside_of start end at e =
     let told = both (nat_le start at) (nat_lt at end) e in
     let from : nat_le start at ≡ true = told.0 in
@@ -104,10 +108,6 @@ pub below_start : (start high h at : ℕ) → high ≡ h → is_within start (st
 below_start start high h at same e =
     let places = inside_of start (start + high) at e in
     omega (arith, places.0, places.1, same)
-
--- a border of no columns
-pub no_columns : (n : ℤ) → SFits w32 n → of_z w32 n ≡ 0 → nat_of n ≡ 0
-no_columns n fits none = ap nat_of (sym (to_z-of_z w32 n fits) ∙ ap (to_z w32) none)
 
 -- a letter box covers no more columns than there are
 pub fits_across : (shape : Shape) (p l r : ℕ) → l + r ≤ shape.width → across shape p l + across shape p r ≤ plane_width shape p
@@ -176,53 +176,3 @@ box_row input top bottom x1 x2 color p y width told =
     row_listed (replicate width value) (space_at (LetterBox top bottom x1 x2 color) input.shape (look_in input)) p width y (length-replicate width value)
     (λ x inside. get_or-replicate width x value 0 inside
     ∙ out_of_row (is_within (across input.shape p (nat_of x1)) (plane_width input.shape p - across input.shape p (nat_of x2)) x) _ _ value told)
-
-nothing_by : (luma : Bool) (kind : PixelType) → (if luma then 0 else 0 / sub_w kind) ≡ 0
-nothing_by true kind = refl
-nothing_by false Y8 = omega arith
-nothing_by false YV12 = omega arith
-nothing_by false YV16 = omega arith
-nothing_by false YV24 = omega arith
-nothing_by false YV411 = omega arith
-
--- no columns of luma are none on a plane
-across_none : (shape : Shape) (p n : ℕ) → n ≡ 0 → across shape p n ≡ 0
-across_none shape p n none = rw none (nothing_by (p == 0) shape.kind)
-
--- a row between no samples is itself
-padded_none : (row : List ℕ) (before value width : ℕ) → before ≡ 0 → length row ≡ width → padded before value row width ≡ row
-padded_none row before value width none whole =
-    ap (λ n. padded n value row width) none ∙ ap (λ n. row ++ replicate n value) (let full : width - 0 - length row ≡ 0 = omega (arith, whole) in full) ∙ append-nil row
-
--- and so is a row none of whose samples are covered
-covered_none : (row : List ℕ) (left right value : ℕ) → left ≡ 0 → right ≡ 0 → covered left right value row ≡ row
-covered_none row left right value no_left no_right =
-    ap (λ n. covered n right value row) no_left ∙ ap (λ n. covered 0 n value row) no_right
-    ∙ ap (λ (l : List ℕ). padded 0 value l (length row)) (take_all (length row - 0 - 0) row (omega arith)) ∙ padded_none row 0 value (length row) refl refl
-
--- without columns, a row between the borders above and below is a row of the picture
-pub shown_bordered : (input : Picture) (left top right bottom color : ℤ) (p y : ℕ) → IsPicture input → p < planes input.shape.kind → nat_of left ≡ 0 → nat_of right ≡ 0
-    → is_within (down input.shape p (nat_of top)) (down input.shape p (nat_of top) + plane_height input.shape p) y ≡ true
-    → row_of input.planes p (y - down input.shape p (nat_of top)) ≡ row_made (AddBorders left top right bottom color) input p y
-shown_bordered input left top right bottom color p y sizes there no_left no_right told =
-    let dy = down input.shape p (nat_of top) in
-    let row = row_of input.planes p (y - dy) in
-    let width = plane_width (sized input.shape (input.shape.width + nat_of left + nat_of right) (input.shape.height + nat_of top + nat_of bottom)) p in
-    let places = inside_of dy (dy + plane_height input.shape p) y told in
-    let long : length row ≡ plane_width input.shape p = length-row input p (y - dy) sizes there (omega (arith, places.0, places.1)) in
-    let whole : length row ≡ width = long ∙ ap (λ w. if p == 0 then w else w / sub_w input.shape.kind) (omega (arith, no_left, no_right)) in
-    sym (padded_none row (across input.shape p (nat_of left)) (paint color input.shape p) width (across_none input.shape p (nat_of left) no_left) whole)
-    ∙ bordered_row input left top right bottom color p y width long (fits_between input.shape p (nat_of left) (nat_of right) (input.shape.height + nat_of top + nat_of bottom)) told
-
--- and so is one of a letter box
-pub shown_boxed : (input : Picture) (top bottom x1 x2 color : ℤ) (p y : ℕ) → IsPicture input → p < planes input.shape.kind → nat_of x1 ≡ 0 → nat_of x2 ≡ 0
-    → is_within (down input.shape p (nat_of top)) (plane_height input.shape p - down input.shape p (nat_of bottom)) y ≡ true
-    → row_of input.planes p y ≡ row_made (LetterBox top bottom x1 x2 color) input p y
-shown_boxed input top bottom x1 x2 color p y sizes there no_left no_right told =
-    let row = row_of input.planes p y in
-    let places = inside_of (down input.shape p (nat_of top)) (plane_height input.shape p - down input.shape p (nat_of bottom)) y told in
-    let long : length row ≡ plane_width input.shape p = length-row input p y sizes there (omega (arith, places.0, places.1)) in
-    let left : across input.shape p (nat_of x1) ≡ 0 = across_none input.shape p (nat_of x1) no_left in
-    let right : across input.shape p (nat_of x2) ≡ 0 = across_none input.shape p (nat_of x2) no_right in
-    sym (covered_none row (across input.shape p (nat_of x1)) (across input.shape p (nat_of x2)) (paint color input.shape p) left right)
-    ∙ boxed_row input top bottom x1 x2 color p y long (omega (arith, left, right)) told

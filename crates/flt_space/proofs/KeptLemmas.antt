@@ -1,11 +1,11 @@
 -- Planes that a filter keeps.
 use Rattle.std.proofs.Common.{◌≡◌, ℕ, Bool, true, false, refl}
-use Rattle.std.specs.Prelude.{◌==◌, if◌then◌else◌, not}
+use Rattle.std.specs.Prelude.{if◌then◌else◌, not}
 use Rattle.fv_plane.specs.declared.format.Shape.{Shape}
 use Rattle.fv_plane.specs.Look.{Look}
 use Rattle.clip_term.specs.declared.op.SpaceOp.{SpaceOp}
-use Rattle.clip_term.specs.declared.op.SpaceOp.TheVariants as op
-use Rattle.clip_term.specs.Space.{space_at, space_shape, is_among}
+use Rattle.clip_term.specs.Space.{space_at, space_shape}
+use Rattle.clip_term.proofs.SpaceFacts.{space_facts}
 use Rattle.flt_space.specs.Kept.{keeps_plane}
 
 pub first_of : {A : Type 0} (test : Bool) (a b : A) → test ≡ true → (if test then a else b) ≡ a
@@ -24,12 +24,8 @@ negated false true e = cc
 
 -- the size stays
 pub kept_shape : (filter : SpaceOp) (shape : Shape) (p : ℕ) → keeps_plane filter p ≡ true → space_shape filter shape ≡ shape
-kept_shape op.Greyscale shape p e = refl
-kept_shape (op.Invert channels) shape p e = refl
-kept_shape _ shape p e = cc
+kept_shape filter shape p e = ((space_facts filter).kept shape p e).size
 
 -- and so do the samples
 pub kept_samples : (filter : SpaceOp) (shape : Shape) (p : ℕ) → keeps_plane filter p ≡ true → (from : Look) (x y : ℕ) → space_at filter shape from p x y ≡ from p x y
-kept_samples op.Greyscale shape p e from x y = first_of (p == 0) (from p x y) _ e
-kept_samples (op.Invert channels) shape p e from x y = second_of (is_among channels p) _ (from p x y) (negated (is_among channels p) false e)
-kept_samples _ shape p e from x y = cc
+kept_samples filter shape p e from x y = ((space_facts filter).kept shape p e).samples from x y

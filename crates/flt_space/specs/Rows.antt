@@ -1,11 +1,12 @@
 -- The rows that makers put.
-use Rattle.std.specs.Prelude.{◌≡◌, ℕ, ◌-◌, ◌<◌, ◌==◌, if◌then◌else◌, None, false, List, ◌++◌, length, map, replicate, take, drop}
+use Rattle.std.specs.Prelude.{◌≡◌, ℕ, ◌-◌, ◌<◌, pos, Bool, not, None, false, List, ◌++◌, length, map, replicate, take, drop}
 use Rattle.fv_plane.specs.declared.format.Shape.{Shape}
-use Rattle.fv_plane.specs.Format.{planes, plane_width, plane_height, row_bytes}
+use Rattle.fv_plane.specs.Format.{IsLegal, planes, plane_width, plane_height, row_bytes}
 use Rattle.fv_plane.specs.Look.{look_in, row_from}
 use Rattle.fv_plane.specs.Picture.{Picture, row_of}
 use Rattle.fv_plane.specs.Refusals.{first_fault}
 use Rattle.clip_term.specs.declared.op.SpaceOp.{SpaceOp}
+use Rattle.clip_term.specs.declared.op.SpaceOp.TheVariants as op
 use Rattle.clip_term.specs.Space.{converted, space_at, space_refusals, space_shape}
 use Rattle.flt_space.specs.Kept.{keeps_plane}
 
@@ -17,9 +18,17 @@ row_made op input p y = row_from (space_at op input.shape (look_in input)) p (pl
 abbrev pub row_converted : Picture → ℕ → ℕ → ℕ → List ℕ
 row_converted input bits p y = map (converted input.shape.bits bits) (row_of input.planes p y)
 
--- the samples of a row, where they have more than eight bits
-abbrev pub wide_width : Shape → ℕ → ℕ
-wide_width shape p = if shape.bits == 8 then 0 else plane_width shape p
+-- an input, and its shape in other bits
+pub record CanConvert (input : Picture) (shape : Shape) : Type 0 where
+  pub is : shape ≡ space_shape (op.ConvertBits (pos shape.bits)) input.shape
+  pub legal : IsLegal shape
+
+-- an input that a filter accepts, which keeps its bits, and the shape of the picture
+pub record CanMake (op : SpaceOp) (input : Picture) (shape : Shape) : Type 0 where
+  pub accepted : first_fault (space_refusals op input.shape) ≡ None
+  pub is : shape ≡ space_shape op input.shape
+  pub bits : shape.bits ≡ input.shape.bits
+  pub legal : IsLegal shape
 
 -- a row that a filter makes: its input was accepted, and the plane is not kept
 pub record IsRowToMake (op : SpaceOp) (input : Picture) (p y : ℕ) : Type 0 where
@@ -32,13 +41,20 @@ pub record IsRowToMake (op : SpaceOp) (input : Picture) (p y : ℕ) : Type 0 whe
 pub record IsRowToPut (op : SpaceOp) (input : Picture) (p y : ℕ) (samples bytes : List ℕ) : Type 0 where
   pub row : IsRowToMake op input p y
   pub bits : (space_shape op input.shape).bits ≡ input.shape.bits
-  pub wide : length samples ≡ wide_width (space_shape op input.shape) p
+  pub wide : length samples ≡ plane_width (space_shape op input.shape) p
   pub whole : length bytes ≡ row_bytes (space_shape op input.shape) p
 
 -- a row of this width that is another row between samples of one value
 abbrev pub padded : ℕ → ℕ → List ℕ → ℕ → List ℕ
 padded before value row width = replicate before value ++ (row ++ replicate (width - before - length row) value)
 
--- a row whose first and last samples are of one value
-abbrev pub covered : ℕ → ℕ → ℕ → List ℕ → List ℕ
-covered left right value row = padded left value (take (length row - right - left) (drop left row)) (length row)
+-- a plane whose rows a filter writes: the other planes are shared, one by one or with the whole picture
+abbrev pub writes_plane : SpaceOp → ℕ → Bool
+writes_plane (op.Crop left top width height) p = false
+writes_plane (op.CropBottom n) p = false
+writes_plane op.FlipVertical p = false
+writes_plane op.SwapUV p = false
+writes_plane op.UToY8 p = false
+writes_plane op.VToY8 p = false
+writes_plane op.ConvertToY8 p = false
+writes_plane filter p = not (keeps_plane filter p)

@@ -1,17 +1,21 @@
 // Pictures inside borders of one colour.
-ghost use Rattle.std.specs.Prelude.{◌≡◌, None, IfOk};
-ghost use Rattle.fv_plane.specs.Format.{IsLegal};
-ghost use Rattle.fv_plane.specs.Look.{across, down};
+ghost use Rattle.std.specs.Prelude.{◌≡◌, ◌*◌, ℕ, ℤ, None, IfOk, false, length};
+ghost use Rattle.fv_plane.specs.Bytes.{wide_bytes};
+ghost use Rattle.fv_plane.specs.Format.{IsLegal, plane_width, sample_bytes};
+ghost use Rattle.fv_plane.specs.Look.{across, down, look_in};
 ghost use Rattle.fv_plane.specs.Refusals.{first_fault};
+ghost use Rattle.clip_term.specs.declared.op.SpaceOp.{SpaceOp};
 ghost use Rattle.clip_term.specs.declared.op.SpaceOp.TheVariants.{AddBorders, LetterBox};
 ghost use Rattle.clip_term.specs.Refusals.{nat_of, paint};
-ghost use Rattle.clip_term.specs.Space.{space_picture, space_refusals, space_shape, is_within};
+ghost use Rattle.clip_term.specs.Space.{space_at, space_picture, space_refusals, space_shape, is_within};
+ghost use Rattle.flt_space.specs.Kept.{keeps_plane};
+ghost use Rattle.flt_space.specs.Moves.{CanMove, IsPlan, planned};
+ghost use Rattle.flt_space.specs.Rows.{IsRowToMake, row_made};
 
-use crate::kernels::{cover_row, pad_row};
-use crate::rows::{RowFilter, make_by_rows};
-use crate::wide::{self, wide_row};
+use crate::kernels::pad_row;
+use crate::wide::pad_bytes;
 use clip_term::part_of;
-use fv_plane::{Frame, FrameMemory, Shape};
+use fv_plane::{Frame, FrameMemory, RowMaker, Shape, make_by_rows};
 use std::alloc::{AllocError, Global};
 
 // Columns of luma, on a plane.
@@ -57,6 +61,137 @@ fn wide_paint(colour: i32, shape: Shape, plane: u32) -> u16
     part_of(colour.unsigned_abs(), plane) as u16 * shape.scale()
 }
 
+// A row that is a part of a row of the input, after samples of one value and before others.
+#[derive(Clone, Copy)]
+struct RowPlan {
+    row: u32,
+    from: u32,
+    count: u32,
+    before: u32,
+}
+
+// No samples of the input.
+const NO_ROW: RowPlan = RowPlan {
+    row: 0,
+    from: 0,
+    count: 0,
+    before: 0,
+};
+
+// A filter that puts parts of rows between samples of one colour.
+trait RowMover {
+    // The filter with its arguments.
+    ghost op: { Self → SpaceOp };
+
+    // The colour.
+    ghost colour: { Self → ℤ };
+
+    fn colour(&self) -> i32
+        ensures { result ≡ colour self.now };
+
+    // What a row is.
+    fn plan(&self, input: &Frame, plane: u32, y: u32) -> RowPlan
+        requires { IsRowToMake (op self.now) input.now plane y }
+        ensures fits { IsPlan result input.now.shape plane (plane_width (space_shape (op self.now) input.now.shape) plane) }
+        ensures row { planned result (paint (colour self.now) input.now.shape plane) input.now plane
+            (plane_width (space_shape (op self.now) input.now.shape) plane) ≡ row_made (op self.now) input.now plane y };
+}
+
+// The rows of the picture that a mover makes.
+#[derive(Drop)]
+struct MovedRows<'a, M> {
+    mover: &'a M,
+    input: &'a Frame,
+    shape: Shape,
+}
+
+// Writes a row of samples of one byte.
+fn fill_narrow(input: &Frame, plane: u32, plan: RowPlan, colour: u8, out: &mut [u8])
+    requires narrow { input.now.shape.bits ≡ 8 }
+    requires fits { IsPlan plan input.now.shape plane (length out.old) }
+    ensures { out.new ≡ planned plan colour input.now plane (length out.old) }
+{
+    let row = input.row(plane, plan.row);
+    let from = plan.from as usize;
+    let end = from + plan.count as usize;
+    pad_row(&row[from..end], plan.before as usize, colour, out);
+}
+
+// Writes the bytes of a row of samples of two bytes.
+fn fill_wide(
+    input: &Frame,
+    plane: u32,
+    plan: RowPlan,
+    colour: u16,
+    samples: &mut [u16],
+    out: &mut [u8],
+)
+    requires wide { sample_bytes input.now.shape ≡ 2 }
+    requires fits { IsPlan plan input.now.shape plane (length samples.old) }
+    requires whole { length out.old ≡ length samples.old * 2 }
+    ensures { out.new ≡ wide_bytes (planned plan colour input.now plane (length samples.old)) }
+{
+    let row = input.row(plane, plan.row);
+    let from = 2 * plan.from as usize;
+    let end = from + 2 * plan.count as usize;
+    pad_bytes(&row[from..end], plan.before as usize, colour, samples, out);
+}
+
+impl<M: RowMover> RowMaker for MovedRows<'_, M> {
+    ghost shape_made = { λ rows. space_shape (M.op rows.mover.now) rows.input.now.shape };
+
+    ghost look_made = { λ rows. space_at (M.op rows.mover.now) rows.input.now.shape (look_in rows.input.now) };
+
+    ghost keeps = { λ rows p. keeps_plane (M.op rows.mover.now) p };
+
+    ghost can_make = { λ rows. CanMove (M.op rows.mover.now) rows.input.now rows.shape };
+
+    fn shape(&self) -> Shape {
+        // No sample of the input is over the largest one.
+        let _ = self.input.shape();
+        self.shape
+    }
+
+    fn kept(&self, plane: u32) -> Option<(&Frame, u32)> {
+        None
+    }
+
+    fn fill_row(&mut self, plane: u32, y: u32, samples: &mut [u16], out: &mut [u8]) {
+        let shape = self.input.shape();
+        let plan = self.mover.plan(self.input, plane, y);
+        let colour = self.mover.colour();
+        if shape.bits == 8 {
+            fill_narrow(self.input, plane, plan, paint(colour, shape, plane), out);
+        } else {
+            let colour = wide_paint(colour, shape, plane);
+            fill_wide(self.input, plane, plan, colour, samples, out);
+        }
+    }
+}
+
+// The picture of this shape that a mover makes.
+fn make_moved<M: RowMover + Drop>(
+    alloc: Global,
+    memory: FrameMemory,
+    mover: &M,
+    input: &Frame,
+    shape: Shape,
+) -> Result<Frame, AllocError>
+    requires accepted { first_fault (space_refusals (M.op mover.now) input.now.shape) ≡ None }
+    requires shape { shape ≡ space_shape (M.op mover.now) input.now.shape }
+    requires bits { shape.bits ≡ input.now.shape.bits }
+    requires legal { IsLegal shape }
+    requires none { (p : ℕ) → keeps_plane (M.op mover.now) p ≡ false }
+    ensures { IfOk result (λ made. made ≡ space_picture (M.op mover.now) input.now) }
+{
+    let mut rows = MovedRows {
+        mover,
+        input,
+        shape,
+    };
+    make_by_rows(alloc, memory, &mut rows)
+}
+
 #[derive(Drop)]
 struct BorderRows {
     left: i32,
@@ -66,47 +201,29 @@ struct BorderRows {
     color_yuv: i32,
 }
 
-impl RowFilter for BorderRows {
+impl RowMover for BorderRows {
     ghost op = { λ filter. AddBorders filter.left filter.top filter.right filter.bottom filter.color_yuv };
 
-    fn keeps_plane(&self, plane: u32) -> bool {
-        false
+    ghost colour = { λ filter. filter.color_yuv };
+
+    fn colour(&self) -> i32 {
+        self.color_yuv
     }
 
-    fn fill_row(&self, input: &Frame, plane: u32, y: u32, out: &mut [u8]) {
+    fn plan(&self, input: &Frame, plane: u32, y: u32) -> RowPlan {
         let shape = input.shape();
-        let left = across(shape, plane, self.left) as usize;
+        let before = across(shape, plane, self.left);
         let top = down(shape, plane, self.top);
         let end = top as u64 + shape.plane_height(plane) as u64;
-        let colour = paint(self.color_yuv, shape, plane);
         if is_within(top as u64, end, y as u64) {
-            pad_row(input.row(plane, y - top), left, colour, out);
+            RowPlan {
+                row: y - top,
+                from: 0,
+                count: shape.plane_width(plane),
+                before,
+            }
         } else {
-            out.fill(colour);
-        }
-    }
-
-    fn fill_samples(&self, input: &Frame, plane: u32, y: u32, out: &mut [u16]) {
-        let shape = input.shape();
-        let left = across(shape, plane, self.left) as usize;
-        let top = down(shape, plane, self.top);
-        let end = top as u64 + shape.plane_height(plane) as u64;
-        let colour = wide_paint(self.color_yuv, shape, plane);
-        if is_within(top as u64, end, y as u64) {
-            wide::pad_row(wide_row(input, plane, y - top), left, colour, out);
-        } else {
-            out.fill(colour);
-        }
-    }
-
-    fn shown_row(&self, input: &Frame, plane: u32, y: u32) -> Option<u32> {
-        let shape = input.shape();
-        let top = down(shape, plane, self.top);
-        let end = top as u64 + shape.plane_height(plane) as u64;
-        if self.left == 0 && self.right == 0 && is_within(top as u64, end, y as u64) {
-            Some(y - top)
-        } else {
-            None
+            NO_ROW
         }
     }
 }
@@ -139,7 +256,7 @@ pub fn add_borders(
         bottom,
         color_yuv,
     };
-    make_by_rows(alloc, memory, &filter, input, bordered)
+    make_moved(alloc, memory, &filter, input, bordered)
 }
 
 #[derive(Drop)]
@@ -151,52 +268,31 @@ struct BoxRows {
     color_yuv: i32,
 }
 
-impl RowFilter for BoxRows {
+impl RowMover for BoxRows {
     ghost op = { λ filter. LetterBox filter.top filter.bottom filter.x1 filter.x2 filter.color_yuv };
 
-    fn keeps_plane(&self, plane: u32) -> bool {
-        false
+    ghost colour = { λ filter. filter.color_yuv };
+
+    fn colour(&self) -> i32 {
+        self.color_yuv
     }
 
-    fn fill_row(&self, input: &Frame, plane: u32, y: u32, out: &mut [u8]) {
+    fn plan(&self, input: &Frame, plane: u32, y: u32) -> RowPlan {
         let shape = input.shape();
-        let left = across(shape, plane, self.x1) as usize;
-        let right = across(shape, plane, self.x2) as usize;
+        let left = across(shape, plane, self.x1);
+        let right = across(shape, plane, self.x2);
         let top = down(shape, plane, self.top) as u64;
         let bottom = down(shape, plane, self.bottom) as u64;
         let end = (shape.plane_height(plane) as u64).saturating_sub(bottom);
-        let colour = paint(self.color_yuv, shape, plane);
         if is_within(top, end, y as u64) {
-            cover_row(input.row(plane, y), left, right, colour, out);
+            RowPlan {
+                row: y,
+                from: left,
+                count: shape.plane_width(plane) - right - left,
+                before: left,
+            }
         } else {
-            out.fill(colour);
-        }
-    }
-
-    fn fill_samples(&self, input: &Frame, plane: u32, y: u32, out: &mut [u16]) {
-        let shape = input.shape();
-        let left = across(shape, plane, self.x1) as usize;
-        let right = across(shape, plane, self.x2) as usize;
-        let top = down(shape, plane, self.top) as u64;
-        let bottom = down(shape, plane, self.bottom) as u64;
-        let end = (shape.plane_height(plane) as u64).saturating_sub(bottom);
-        let colour = wide_paint(self.color_yuv, shape, plane);
-        if is_within(top, end, y as u64) {
-            wide::cover_row(wide_row(input, plane, y), left, right, colour, out);
-        } else {
-            out.fill(colour);
-        }
-    }
-
-    fn shown_row(&self, input: &Frame, plane: u32, y: u32) -> Option<u32> {
-        let shape = input.shape();
-        let top = down(shape, plane, self.top) as u64;
-        let bottom = down(shape, plane, self.bottom) as u64;
-        let end = (shape.plane_height(plane) as u64).saturating_sub(bottom);
-        if self.x1 == 0 && self.x2 == 0 && is_within(top, end, y as u64) {
-            Some(y)
-        } else {
-            None
+            NO_ROW
         }
     }
 }
@@ -222,5 +318,5 @@ pub fn letter_box(
         x2,
         color_yuv,
     };
-    make_by_rows(alloc, memory, &filter, input, input.shape())
+    make_moved(alloc, memory, &filter, input, input.shape())
 }

@@ -1,17 +1,17 @@
 // `ConvertBits`: samples of other bits.
-ghost use Rattle.std.specs.Prelude.{◌≡◌, ◌-◌, ◌*◌, ◌^◌, ◌<◌, ◌≤◌, pos, None, IfOk, length};
+ghost use Rattle.std.specs.Prelude.{◌≡◌, ◌-◌, ◌*◌, ◌^◌, ◌<◌, ◌≤◌, pos, None, IfOk, false, length};
 ghost use Rattle.fv_plane.specs.Bytes.{FitsRow, bytes_of_row};
 ghost use Rattle.fv_plane.specs.Format.{IsLegal, planes, plane_width, plane_height, sample_bytes};
-ghost use Rattle.fv_plane.specs.Picture.{IsPicture};
+ghost use Rattle.fv_plane.specs.Look.{look_in};
 ghost use Rattle.fv_plane.specs.Refusals.{first_fault};
 ghost use Rattle.clip_term.specs.declared.op.SpaceOp.TheVariants.{ConvertBits};
-ghost use Rattle.clip_term.specs.Space.{space_picture, space_refusals, space_shape};
-ghost use Rattle.flt_space.specs.Rows.{row_converted};
+ghost use Rattle.clip_term.specs.Space.{space_at, space_picture, space_refusals, space_shape};
+ghost use Rattle.flt_space.specs.Rows.{CanConvert, row_converted};
 
 use crate::kernels;
 use crate::wide::{self, wide_row};
 use clip_term::depth_of;
-use fv_plane::{Frame, FrameBuilder, FrameMemory, Shape, write_samples};
+use fv_plane::{Frame, FrameMemory, RowMaker, Shape, make_by_rows, write_samples};
 use std::alloc::{AllocError, Global};
 
 // The factor from samples of `old` bits to samples of `new` bits.
@@ -64,31 +64,37 @@ fn convert_row(input: &Frame, plane: u32, y: u32, shape: Shape, samples: &mut [u
     }
 }
 
-// The picture in the bits of `shape`, which is else that of the input.
-fn make_converted(
-    alloc: Global,
-    memory: FrameMemory,
-    input: &Frame,
+// The rows of the picture in the bits of `shape`, which is else that of the input.
+#[derive(Drop)]
+struct ConvertedRows<'a> {
+    input: &'a Frame,
     shape: Shape,
-) -> Result<Frame, AllocError>
-    requires legal { IsLegal shape }
-    requires shape { shape ≡ space_shape (ConvertBits (pos shape.bits)) input.now.shape }
-    requires sizes { IsPicture input.now }
-    ensures { IfOk result (λ made. made ≡ space_picture (ConvertBits (pos shape.bits)) input.now) }
-{
-    let mut made = FrameBuilder::new_in(alloc, memory, shape)?;
-    for plane in 0..shape.kind.planes() {
-        let width = shape.plane_width(plane) as usize;
-        let mut samples = vec![in alloc; 0u16; width]?;
-        let mut bytes = vec![in alloc; 0u8; shape.row_bytes(plane) as usize]?;
-        let samples = samples.as_mut_slice();
-        let row = bytes.as_mut_slice();
-        for y in 0..shape.plane_height(plane) {
-            convert_row(input, plane, y, shape, samples, row);
-            made.put_row(plane, y, row);
-        }
+}
+
+impl RowMaker for ConvertedRows<'_> {
+    ghost shape_made = { λ rows. rows.shape };
+
+    ghost look_made = { λ rows. space_at (ConvertBits (pos rows.shape.bits)) rows.input.now.shape (look_in rows.input.now) };
+
+    ghost keeps = { λ rows p. false };
+
+    ghost can_make = { λ rows. CanConvert rows.input.now rows.shape };
+
+    fn shape(&self) -> Shape {
+        // No sample of the input is over the largest one.
+        let _ = self.input.shape();
+        self.shape
     }
-    made.finish()
+
+    fn kept(&self, plane: u32) -> Option<(&Frame, u32)> {
+        None
+    }
+
+    fn fill_row(&mut self, plane: u32, y: u32, samples: &mut [u16], out: &mut [u8]) {
+        // The input is a picture, of whole rows.
+        let _ = self.input.shape();
+        convert_row(self.input, plane, y, self.shape, samples, out);
+    }
 }
 
 /// `ConvertBits`: the picture in samples of other bits. Where the bits are those of the input, it is shared. An `Err` is
@@ -111,5 +117,5 @@ pub fn convert_bits(
     if shape.bits == old.bits {
         return input.share();
     }
-    make_converted(alloc, memory, input, shape)
+    make_by_rows(alloc, memory, &mut ConvertedRows { input, shape })
 }

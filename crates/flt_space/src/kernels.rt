@@ -1,7 +1,7 @@
 // What is done to the samples of a row. Plain loops over slices, which the compiler turns into vector instructions.
 ghost use Rattle.std.specs.Prelude.{◌≡◌, ◌-◌, ◌+◌, ◌*◌, ◌≤◌, EachIndex, length, map, slice_index};
 ghost use Rattle.clip_term.specs.Space.{limited};
-ghost use Rattle.flt_space.specs.Rows.{padded, covered};
+ghost use Rattle.flt_space.specs.Rows.{padded};
 
 fn complement(sample: u8) -> u8
     ensures { result ≡ 255 - sample }
@@ -98,13 +98,4 @@ pub fn pad_row(row: &[u8], before: usize, value: u8, out: &mut [u8])
     start.fill(value);
     middle.copy_from_slice(row);
     end.fill(value);
-}
-
-/// The row with its edges covered by one value.
-pub fn cover_row(row: &[u8], left: usize, right: usize, value: u8, out: &mut [u8])
-    requires inside { left + right ≤ length row.now }
-    requires same { length out.old ≡ length row.now }
-    ensures { out.new ≡ covered left right value row.now }
-{
-    pad_row(&row[left..row.len() - right], left, value, out);
 }

@@ -17,4 +17,4 @@ mod wide;
 pub use clip_check::check_space;
 pub use clip_term::read_channels;
 pub use kernels::{invert_row, limit_row};
-pub use make::{make_space, takes_memory};
+pub use make::{make_space, make_space_in, takes_memory};

@@ -3,6 +3,7 @@ ghost use Rattle.std.specs.Prelude.{◌≡◌, None, IfOk};
 ghost use Rattle.fv_plane.specs.Format.{IsLegal};
 ghost use Rattle.fv_plane.specs.Refusals.{first_fault};
 ghost use Rattle.clip_term.specs.Space.{space_picture, space_refusals, space_shape};
+ghost use Rattle.flt_space.specs.Rows.{writes_plane};
 
 use crate::adjust::{greyscale, invert, is_among, limiter, swap_uv};
 use crate::borders::{add_borders, letter_box};
@@ -15,7 +16,9 @@ use fv_plane::{Frame, FrameMemory};
 use std::alloc::{AllocError, Global};
 
 /// Whether a filter writes the rows of a plane, and so takes memory for it. Other planes share the bytes of the input.
-pub fn takes_memory(op: &SpaceOp, plane: u32) -> bool {
+pub fn takes_memory(op: &SpaceOp, plane: u32) -> bool
+    ensures { result ≡ writes_plane op.now plane }
+{
     match op {
         SpaceOp::Crop { .. }
         | SpaceOp::CropBottom { .. }
@@ -40,7 +43,7 @@ pub fn takes_memory(op: &SpaceOp, plane: u32) -> bool {
 /// The picture that a filter makes of its input, which its check accepted. It is made in `memory` as far as that has room.
 /// Parts, single planes, planes that stay, pictures upside down and pictures whose bits stay share the bytes of the input.
 /// An `Err` is out of memory, or more shares than can be counted.
-pub fn make_space(
+pub fn make_space_in(
     alloc: Global,
     memory: FrameMemory,
     op: &SpaceOp,
@@ -101,4 +104,13 @@ pub fn make_space(
         SpaceOp::ConvertToY8 => convert_to_y8(input),
         SpaceOp::ConvertBits { bits } => convert_bits(alloc, memory, input, *bits),
     }
+}
+
+/// The same, in new memory.
+pub fn make_space(op: &SpaceOp, input: &Frame) -> Result<Frame, AllocError>
+    requires accepted { first_fault (space_refusals op.now input.now.shape) ≡ None }
+    requires legal { IsLegal (space_shape op.now input.now.shape) }
+    ensures { IfOk result (λ made. made ≡ space_picture op.now input.now) }
+{
+    make_space_in(input.allocator(), FrameMemory::none(), op, input)
 }

@@ -1,15 +1,15 @@
 // Filters that make each row of a picture by itself.
-ghost use Rattle.std.specs.Prelude.{◌≡◌, ◌<◌, IfOk, IfSome, OnOk, None, length};
+ghost use Rattle.std.specs.Prelude.{◌≡◌, ◌<◌, IfOk, None, length};
 ghost use Rattle.fv_plane.specs.Bytes.{bytes_of_row};
 ghost use Rattle.fv_plane.specs.Format.{IsLegal, planes, plane_width, plane_height, sample_bytes};
-ghost use Rattle.fv_plane.specs.Picture.{IsPicture, row_of, with_row};
+ghost use Rattle.fv_plane.specs.Look.{look_in};
 ghost use Rattle.fv_plane.specs.Refusals.{first_fault};
 ghost use Rattle.clip_term.specs.declared.op.SpaceOp.{SpaceOp};
-ghost use Rattle.clip_term.specs.Space.{space_shape, space_picture, space_refusals};
+ghost use Rattle.clip_term.specs.Space.{space_at, space_shape, space_picture, space_refusals};
 ghost use Rattle.flt_space.specs.Kept.{keeps_plane};
-ghost use Rattle.flt_space.specs.Rows.{IsRowToMake, IsRowToPut, row_made, wide_width};
+ghost use Rattle.flt_space.specs.Rows.{CanMake, IsRowToMake, IsRowToPut, row_made};
 
-use fv_plane::{Frame, FrameBuilder, FrameMemory, Shape, write_samples};
+use fv_plane::{Frame, FrameMemory, RowMaker, Shape, write_samples};
 use std::alloc::{AllocError, Global};
 
 /// A filter that makes a row from the rows of the input.
@@ -34,29 +34,6 @@ pub trait RowFilter {
         requires wide { sample_bytes input.now.shape ≡ 2 }
         requires whole { length out.old ≡ plane_width (space_shape (op self.now) input.now.shape) plane }
         ensures { out.new ≡ row_made (op self.now) input.now plane y };
-
-    /// The row of the input's plane that a row of a plane that isn't kept is, where it is one: its bytes are put as
-    /// they are. `None` says nothing.
-    fn shown_row(&self, input: &Frame, plane: u32, y: u32) -> Option<u32>
-        requires { IsRowToMake (op self.now) input.now plane y }
-        ensures plane { IfSome result (λ at. plane < planes input.now.shape.kind) }
-        ensures inside { IfSome result (λ at. at < plane_height input.now.shape plane) }
-        ensures row { IfSome result (λ at.
-            row_of input.now.planes plane at ≡ row_made (op self.now) input.now plane y) }
-    {
-        None
-    }
-}
-
-// The samples of a row that are made before their bytes: none, where a sample is a byte.
-fn wide_width(shape: Shape, plane: u32) -> usize
-    ensures { result ≡ wide_width shape plane }
-{
-    if shape.bits == 8 {
-        0
-    } else {
-        shape.plane_width(plane) as usize
-    }
 }
 
 // Writes the bytes of a row of a plane that isn't kept. Samples of two bytes are made in `samples` first.
@@ -79,69 +56,44 @@ fn fill_bytes<F: RowFilter>(
     }
 }
 
-// Puts a row of a plane that isn't kept. Its bytes are made in `row` where it is no row of the input.
-fn put_row_of<F: RowFilter>(
-    filter: &F,
-    input: &Frame,
-    plane: u32,
-    y: u32,
-    samples: &mut [u16],
-    row: &mut [u8],
-    made: &mut FrameBuilder,
-)
-    requires row { IsRowToPut (F.op filter.now) input.now plane y samples.old row.old }
-    requires made { made.old.shape ≡ space_shape (F.op filter.now) input.now.shape }
-    ensures shape { made.new.shape ≡ made.old.shape }
-    ensures rows { made.new.planes
-        ≡ with_row made.old.planes plane y (row_made (F.op filter.now) input.now plane y) }
-    ensures sizes { IsPicture made.new }
-{
-    // Called for what its contract says.
-    let _ = input.shape();
-    match filter.shown_row(input, plane, y) {
-        Some(at) => made.put_row(plane, y, input.row(plane, at)),
-        None => {
-            fill_bytes(filter, input, plane, y, samples, row);
-            made.put_row(plane, y, row);
-        }
-    }
+// The rows of the picture that a filter makes, which keeps the bits of a sample.
+#[derive(Drop)]
+struct FilteredRows<'a, F> {
+    filter: &'a F,
+    input: &'a Frame,
+    shape: Shape,
 }
 
-// Makes the planes of the picture, in a builder of its shape.
-fn fill_planes<F: RowFilter>(
-    alloc: Global,
-    filter: &F,
-    input: &Frame,
-    shape: Shape,
-    made: &mut FrameBuilder,
-) -> Result<(), AllocError>
-    requires accepted { first_fault (space_refusals (F.op filter.now) input.now.shape) ≡ None }
-    requires shape { shape ≡ space_shape (F.op filter.now) input.now.shape }
-    requires bits { shape.bits ≡ input.now.shape.bits }
-    requires made { made.old.shape ≡ shape }
-    requires sizes { IsPicture made.old }
-    ensures { OnOk result (made.new ≡ space_picture (F.op filter.now) input.now) }
-{
-    // Called for what its contract says.
-    let _ = input.shape();
-    for plane in 0..shape.kind.planes() {
-        if filter.keeps_plane(plane) {
-            made.put_plane(plane, input, plane)?;
-            continue;
-        }
-        let mut samples = vec![in alloc; 0u16; wide_width(shape, plane)]?;
-        let mut bytes = vec![in alloc; 0u8; shape.row_bytes(plane) as usize]?;
-        let samples = samples.as_mut_slice();
-        let row = bytes.as_mut_slice();
-        for y in 0..shape.plane_height(plane) {
-            put_row_of(filter, input, plane, y, samples, row, made);
+impl<F: RowFilter> RowMaker for FilteredRows<'_, F> {
+    ghost shape_made = { λ rows. space_shape (F.op rows.filter.now) rows.input.now.shape };
+
+    ghost look_made = { λ rows. space_at (F.op rows.filter.now) rows.input.now.shape (look_in rows.input.now) };
+
+    ghost keeps = { λ rows p. keeps_plane (F.op rows.filter.now) p };
+
+    ghost can_make = { λ rows. CanMake (F.op rows.filter.now) rows.input.now rows.shape };
+
+    fn shape(&self) -> Shape {
+        // No sample of the input is over the largest one.
+        let _ = self.input.shape();
+        self.shape
+    }
+
+    fn kept(&self, plane: u32) -> Option<(&Frame, u32)> {
+        if self.filter.keeps_plane(plane) {
+            Some((self.input, plane))
+        } else {
+            None
         }
     }
-    Ok(())
+
+    fn fill_row(&mut self, plane: u32, y: u32, samples: &mut [u16], out: &mut [u8]) {
+        fill_bytes(self.filter, self.input, plane, y, samples, out);
+    }
 }
 
 /// The picture of this shape that a filter makes, which keeps the bits of a sample.
-pub fn make_by_rows<F: RowFilter>(
+pub fn make_by_rows<F: RowFilter + Drop>(
     alloc: Global,
     memory: FrameMemory,
     filter: &F,
@@ -154,7 +106,10 @@ pub fn make_by_rows<F: RowFilter>(
     requires legal { IsLegal shape }
     ensures { IfOk result (λ made. made ≡ space_picture (F.op filter.now) input.now) }
 {
-    let mut made = FrameBuilder::new_in(alloc, memory, shape)?;
-    fill_planes(alloc, filter, input, shape, &mut made)?;
-    made.finish()
+    let mut rows = FilteredRows {
+        filter,
+        input,
+        shape,
+    };
+    fv_plane::make_by_rows(alloc, memory, &mut rows)
 }

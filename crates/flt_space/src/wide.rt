@@ -2,12 +2,12 @@
 // read the samples of a row's bytes where they use them.
 ghost use Rattle.std.specs.Prelude.{◌≡◌, ◌-◌, ◌+◌, ◌*◌, ◌/◌, ◌^◌, ◌<◌, ◌≤◌, ℕ, min, EachIndex, length, slice_index};
 ghost use Rattle.clip_term.specs.Space.{limited};
-ghost use Rattle.fv_plane.specs.Bytes.{wide_samples};
+ghost use Rattle.fv_plane.specs.Bytes.{wide_bytes, wide_samples};
 ghost use Rattle.fv_plane.specs.Format.{planes, plane_width, plane_height, sample_bytes};
 ghost use Rattle.fv_plane.specs.Picture.{row_of};
-ghost use Rattle.flt_space.specs.Rows.{padded, covered};
+ghost use Rattle.flt_space.specs.Rows.{padded};
 
-use fv_plane::{Frame, read_samples, wide_sample};
+use fv_plane::{Frame, wide_sample, write_samples};
 
 /// The bytes of a row of samples of two bytes.
 pub fn wide_row(input: &Frame, plane: u32, y: u32) -> &[u8]
@@ -103,25 +103,21 @@ pub fn reverse_row(row: &[u8], out: &mut [u16])
     }
 }
 
-/// The row after `before` samples of one value, and samples of that value after it.
-pub fn pad_row(row: &[u8], before: usize, value: u16, out: &mut [u16])
+/// The bytes of the row after those of `before` samples of one value, and of samples of that value after it. `samples` is
+/// for these.
+pub fn pad_bytes(row: &[u8], before: usize, value: u16, samples: &mut [u16], out: &mut [u8])
+    requires whole { wide_bytes (wide_samples row.now) ≡ row.now }
     requires even { length row.now ≡ length (wide_samples row.now) * 2 }
-    requires inside { before + length (wide_samples row.now) ≤ length out.old }
-    ensures { out.new ≡ padded before value (wide_samples row.now) (length out.old) }
+    requires inside { before + length (wide_samples row.now) ≤ length samples.old }
+    requires same { length out.old ≡ length samples.old * 2 }
+    ensures { out.new ≡ wide_bytes (padded before value (wide_samples row.now) (length samples.old)) }
 {
-    let (start, rest) = out.split_at_mut(before);
-    let (middle, end) = rest.split_at_mut(row.len() / 2);
-    start.fill(value);
-    read_samples(row, middle);
-    end.fill(value);
-}
-
-/// The row with its edges covered by one value.
-pub fn cover_row(row: &[u8], left: usize, right: usize, value: u16, out: &mut [u16])
-    requires inside { left + right ≤ length (wide_samples row.now) }
-    requires even { length row.now ≡ length (wide_samples row.now) * 2 }
-    requires same { length out.old ≡ length (wide_samples row.now) }
-    ensures { out.new ≡ covered left right value (wide_samples row.now) }
-{
-    pad_row(&row[left * 2..row.len() - right * 2], left, value, out);
+    let after = samples.len() - before - row.len() / 2;
+    let (start, rest) = out.split_at_mut(2 * before);
+    let (middle, end) = rest.split_at_mut(row.len());
+    middle.copy_from_slice(row);
+    let (edge, _) = samples.split_at_mut(before.max(after));
+    edge.fill(value);
+    write_samples(&edge[..before], start);
+    write_samples(&edge[..after], end);
 }

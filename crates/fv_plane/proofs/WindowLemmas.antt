@@ -100,7 +100,7 @@ unfolding picture_from
 shape-picture_from shape at = refl
 
 -- the planes that are listed are a plane
-IsPlane-plane_from : (at : Look) (p width height : ℕ) → IsPlane width height (plane_from at p width height)
+pub IsPlane-plane_from : (at : Look) (p width height : ℕ) → IsPlane width height (plane_from at p width height)
 IsPlane-plane_from at p width height = record {
   count = length-map-range_with_len (λ z. row_from at p width z) 0 height;
   widths = λ z within.

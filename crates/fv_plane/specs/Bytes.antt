@@ -5,7 +5,7 @@ use Rattle.std.specs.Prelude.{List, [], ◌∷◌, length, drop, slice_index, sl
 use Rattle.std.specs.List.{flat_map}
 use Rattle.fv_plane.specs.declared.format.Shape.{Shape}
 use Rattle.fv_plane.specs.Format.{IsLegal, largest_sample, planes, plane_height, plane_bytes, row_bytes, frame_bytes, sample_bytes}
-use Rattle.fv_rows.specs.Rows.{rows_of}
+use Rattle.fv_rows.specs.Rows.{LiesIn, rows_of}
 use Rattle.fv_plane.specs.Picture.{Picture, IsPicture}
 
 -- the bytes of samples of two bytes
@@ -113,6 +113,12 @@ AllWhole shape planes = (p : ℕ) → AreWhole shape (slice_index_or planes p []
 pub record IsStored (shape : Shape) (luma : List (List ℕ)) (chroma : Option (List (List ℕ) × List (List ℕ))) : Type 0 where
   pub picture : IsPicture (frame_of shape luma chroma)
   pub rows : AllWhole shape (plane_list luma chroma)
+
+-- bytes in which a plane of a picture lies
+pub record HoldsPlane (picture : Picture) (bytes : List ℕ) (p : ℕ) : Type 0 where
+  pub rows : List (List ℕ)
+  pub stored : LiesIn bytes rows
+  pub shown : decoded_rows picture.shape rows ≡ slice_index_or picture.planes p []
 
 -- cutting bytes into a frame, and writing a frame as bytes, undo each other
 pub record CutsAndJoins : Type 0 where

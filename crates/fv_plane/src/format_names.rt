@@ -1,70 +1,9 @@
 // The formats by their names.
 ghost use Rattle.std.specs.Prelude.{◌≡◌, IfSome, true};
 ghost use Rattle.fv_plane.specs.Format.{has_depth};
-ghost use Rattle.fv_plane.specs.FormatNames.{format_named, has_name, kind_name, deep_name};
+ghost use Rattle.fv_plane.specs.FormatNames.{format_named, has_name};
 
 use crate::{PixelType, Shape};
-
-// The name of the format with samples of eight bits.
-fn name_of_8_bits(kind: PixelType) -> &'static str
-    ensures { result.now ≡ kind_name kind }
-{
-    match kind {
-        PixelType::Y8 => "Y8",
-        PixelType::YV12 => "YV12",
-        PixelType::YV16 => "YV16",
-        PixelType::YV24 => "YV24",
-        PixelType::YV411 => "YV411",
-    }
-}
-
-fn name_of_10_bits(kind: PixelType) -> &'static str
-    ensures { result.now ≡ deep_name kind 10 }
-{
-    match kind {
-        PixelType::Y8 => "Y10",
-        PixelType::YV12 => "YUV420P10",
-        PixelType::YV16 => "YUV422P10",
-        PixelType::YV24 => "YUV444P10",
-        PixelType::YV411 => "YV411",
-    }
-}
-
-fn name_of_12_bits(kind: PixelType) -> &'static str
-    ensures { result.now ≡ deep_name kind 12 }
-{
-    match kind {
-        PixelType::Y8 => "Y12",
-        PixelType::YV12 => "YUV420P12",
-        PixelType::YV16 => "YUV422P12",
-        PixelType::YV24 => "YUV444P12",
-        PixelType::YV411 => "YV411",
-    }
-}
-
-fn name_of_14_bits(kind: PixelType) -> &'static str
-    ensures { result.now ≡ deep_name kind 14 }
-{
-    match kind {
-        PixelType::Y8 => "Y14",
-        PixelType::YV12 => "YUV420P14",
-        PixelType::YV16 => "YUV422P14",
-        PixelType::YV24 => "YUV444P14",
-        PixelType::YV411 => "YV411",
-    }
-}
-
-fn name_of_16_bits(kind: PixelType) -> &'static str
-    ensures { result.now ≡ deep_name kind 16 }
-{
-    match kind {
-        PixelType::Y8 => "Y16",
-        PixelType::YV12 => "YUV420P16",
-        PixelType::YV16 => "YUV422P16",
-        PixelType::YV24 => "YUV444P16",
-        PixelType::YV411 => "YV411",
-    }
-}
 
 /// What the samples of a frame are, without its size.
 #[derive(Clone, Copy, Debug, PartialEq, Eq)]
@@ -169,12 +108,28 @@ impl Format {
     pub fn name(self) -> &'static str
         ensures { result.now ≡ name_of self }
     {
-        match self.bits {
-            8 => name_of_8_bits(self.kind),
-            10 => name_of_10_bits(self.kind),
-            12 => name_of_12_bits(self.kind),
-            14 => name_of_14_bits(self.kind),
-            _ => name_of_16_bits(self.kind),
+        match (self.kind, self.bits) {
+            (PixelType::Y8, 8) => "Y8",
+            (PixelType::Y8, 10) => "Y10",
+            (PixelType::Y8, 12) => "Y12",
+            (PixelType::Y8, 14) => "Y14",
+            (PixelType::Y8, _) => "Y16",
+            (PixelType::YV12, 8) => "YV12",
+            (PixelType::YV12, 10) => "YUV420P10",
+            (PixelType::YV12, 12) => "YUV420P12",
+            (PixelType::YV12, 14) => "YUV420P14",
+            (PixelType::YV12, _) => "YUV420P16",
+            (PixelType::YV16, 8) => "YV16",
+            (PixelType::YV16, 10) => "YUV422P10",
+            (PixelType::YV16, 12) => "YUV422P12",
+            (PixelType::YV16, 14) => "YUV422P14",
+            (PixelType::YV16, _) => "YUV422P16",
+            (PixelType::YV24, 8) => "YV24",
+            (PixelType::YV24, 10) => "YUV444P10",
+            (PixelType::YV24, 12) => "YUV444P12",
+            (PixelType::YV24, 14) => "YUV444P14",
+            (PixelType::YV24, _) => "YUV444P16",
+            (PixelType::YV411, _) => "YV411",
         }
     }
 }

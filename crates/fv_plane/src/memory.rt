@@ -1,4 +1,5 @@
 // The memory of a frame that is no longer needed.
+ghost use Rattle.std.specs.Prelude.{◌≡◌, None};
 
 /// Memory for the planes of a frame to come. What it holds has no meaning.
 #[derive(Drop)]
@@ -10,7 +11,9 @@ pub struct FrameMemory {
 
 impl FrameMemory {
     /// No memory.
-    pub fn none() -> FrameMemory {
+    pub fn none() -> FrameMemory
+        ensures { result ≡ record { luma = None; u = None; v = None } }
+    {
         FrameMemory {
             luma: None,
             u: None,

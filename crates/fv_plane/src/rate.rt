@@ -10,8 +10,7 @@ fn gcd(a: u128, b: u128) -> u128
     ensures value { result ≡ gcd a b }
     ensures some { 0 < result }
 {
-    let mut x = a;
-    let mut y = b;
+    let (mut x, mut y) = (a, b);
     while y != 0 {
         let rest = x % y;
         x = y;

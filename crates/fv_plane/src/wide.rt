@@ -43,8 +43,7 @@ pub fn write_samples(samples: &[u16], bytes: &mut [u8])
     }
 }
 
-// Whether no sample is over the largest one. A pass that only reads is faster than one that writes, and in most streams no
-// sample is.
+// Whether no sample is over the largest one, as in most streams. A pass that only reads is faster than one that writes.
 fn are_in_range(bytes: &[u8], largest: u16) -> bool
     requires { length bytes.now % 2 ≡ 0 }
     ensures { IsTrue result → bytes.now ≡ wide_bytes (map (λ s. min s largest) (wide_samples bytes.now)) }

@@ -7,4 +7,4 @@ mod plane;
 mod plane_builder;
 
 pub use plane::Plane;
-pub use plane_builder::PlaneBuilder;
+pub use plane_builder::{PlaneBuilder, emptied};

@@ -1,10 +1,10 @@
 // A plane is its rows of bytes, inside shared bytes, with an offset and a stride, seen from the top or from the bottom.
-ghost use Rattle.std.specs.Prelude.{◌≡◌, ◌<◌, ◌≤◌, ◌*◌, ◌+◌, ◌-◌, ◌%◌, IfOk};
+ghost use Rattle.std.specs.Prelude.{◌≡◌, ◌<◌, ◌≤◌, ◌*◌, ◌+◌, ◌-◌, ◌%◌, IfOk, IfSome};
 ghost use Rattle.std.specs.Prelude.{[], length, reverse, slice_index_or, take, drop};
 ghost use Rattle.std.specs.Arc.{arc_value};
-ghost use Rattle.fv_rows.specs.Rows.{every_second, flat_rows, first_stored, rows_of, rows_part, second_stored, width_of};
+ghost use Rattle.fv_rows.specs.Rows.{LiesIn, every_second, flat_rows, first_stored, rows_of, rows_part, second_stored, width_of};
 
-use std::alloc::AllocError;
+use std::alloc::{AllocError, Global};
 use std::marker::Model;
 use std::sync::Arc;
 
@@ -198,8 +198,16 @@ impl Plane {
         })
     }
 
+    /// The allocator of its bytes.
+    pub fn allocator(&self) -> Global {
+        let bytes: &Vec<u8> = &self.bytes;
+        *bytes.allocator()
+    }
+
     /// The bytes that the plane lies in, where nothing else shares them.
-    pub fn into_vec(self) -> Option<Vec<u8>> {
+    pub fn into_vec(self) -> Option<Vec<u8>>
+        ensures { IfSome result (λ bytes. LiesIn bytes.items self) }
+    {
         Arc::try_unwrap(self.bytes).ok()
     }
 }

@@ -8,8 +8,9 @@ use std::alloc::{AllocError, Global};
 use std::marker::Model;
 use std::sync::Arc;
 
-// What a plane of this size is put together in: this memory, where there is room in it, or new memory.
-fn emptied(alloc: Global, memory: Option<Vec<u8>>, size: usize) -> Result<Vec<u8>, AllocError>
+/// What a plane of this size is put together in: this memory, where there is room in it, or new memory. An `Err` is out of
+/// memory.
+pub fn emptied(alloc: Global, memory: Option<Vec<u8>>, size: usize) -> Result<Vec<u8>, AllocError>
     ensures empty { IfOk result (λ bytes. bytes.items ≡ []) }
     ensures room { IfOk result (λ bytes. size ≤ vec_capacity bytes) }
 {

@@ -14,22 +14,17 @@ use Rattle.turn_lock.proofs.EntryLemmas.{entries_of-own, entries_of-other}
 use Rattle.serve_machine.specs.declared.event.Event.{Event}
 use Rattle.serve_machine.specs.declared.event.Event.TheVariants.{Hit, Claim, Enter, Leave, Evict, Publish, Abandon, Take, Deliver, Fail}
 use Rattle.serve_machine.specs.declared.event.WindowStop.{WindowStop}
-use Rattle.serve_machine.specs.Events.{worker_of}
-use Rattle.serve_machine.specs.Keys.{mode_at, instance_of, frame_key}
-use Rattle.serve_machine.specs.Own.{own_events, names_source}
+use Rattle.serve_machine.specs.Events.{worker_of, mode_at, instance_of, frame_key, own_events, names_source}
 use Rattle.serve_machine.specs.SerialRun.{eviction, leases}
-use Rattle.serve_machine.specs.Work.{Production, Productions, hit, made, done, more, Deliveries, none, also}
-use Rattle.serve_machine.specs.Work.{CutShort, refused, inside, entered, unpublished, CutInputs, between, within, CutDeliveries, untaken, taken, FailedWork, failed}
+use Rattle.serve_machine.specs.Work.{Production, Productions, hit, made, done, more, Deliveries, none, also, CutShort, refused, inside, entered, unpublished, CutInputs, between, within, CutDeliveries, untaken, taken, FailedWork, failed, IsWork}
 use Rattle.serve_machine.proofs.SerialLemmas.{serial_is_whole}
-use Rattle.serve_core.specs.Calls.{begun, ended}
+use Rattle.serve_core.specs.Calls.{after_begin, after_end}
 use Rattle.serve_core.specs.CoreValue.{CoreValue, Fixed}
-use Rattle.serve_core.specs.Runs.{IsRun}
+use Rattle.serve_core.specs.Runs.{IsRun, keys_alone}
 use Rattle.serve_shared.proofs.CallerLemmas.{entries_own}
 use Rattle.inst_table.specs.declared.place.Place.{Place}
-use Rattle.serve_core.specs.Runs.{keys_alone}
-use Rattle.serve_machine.specs.Worked.{IsWork}
 use Rattle.prefetch.specs.Crew.{IsCrewWindow, IsCutCrew}
-use Rattle.serve_machine.specs.CrewJournal.{IsCutWindow}
+use Rattle.serve_machine.specs.Journals.{IsCutWindow}
 use Rattle.prefetch.specs.SerialWindows.{window_of}
 use Rattle.prefetch.proofs.CrewLemmas.{run_check, run_ran, whole_of_run, crew_window}
 use Rattle.prefetch.proofs.WorkLemmas.{stopped_by}
@@ -143,8 +138,8 @@ each_delivers plan root ns es work w =
 
 -- THE WINDOW
 
-module _ {I : Type 0} (c c2 d : CoreValue I) (first count : ℕ) (plan : IsPlan c.fixed.plan) (root : c.fixed.root < length c.fixed.plan) (fixed : c2.fixed ≡ (begun c first count).fixed) (places : keys_of c2.table ≡ keys_of c.table)
-    (ends_it : d ≡ ended c2) (run : IsRun c2) where
+module _ {I : Type 0} (c c2 d : CoreValue I) (first count : ℕ) (plan : IsPlan c.fixed.plan) (root : c.fixed.root < length c.fixed.plan) (fixed : c2.fixed ≡ (after_begin c first count).fixed) (places : keys_of c2.table ≡ keys_of c.table)
+    (ends_it : d ≡ after_end c2) (run : IsRun c2) where
   -- a window that made the events of the serial run is one of a crew
   pub alone_window : (events : List Event) → events ≡ c2.journal → events ≡ (window_of c first count).events → c2.stop ≡ None → ((j : ℕ) → j < count → (x : Picture) × (slice_get c2.outputs.frames j ≡ Some (Some x)))
       → IsCrewWindow c first count events d

@@ -24,8 +24,7 @@ use Rattle.inst_table.specs.Places.{shared_place}
 use Rattle.serve_machine.specs.declared.event.WindowStop.{WindowStop}
 use Rattle.serve_machine.specs.declared.event.WindowStop.TheVariants as worker
 use Rattle.serve_machine.specs.declared.windows.Record.{Record}
-use Rattle.serve_machine.specs.Own.{names_source}
-use Rattle.serve_machine.specs.Windows.{WindowEvents, windows_of}
+use Rattle.serve_machine.specs.Events.{names_source, WindowEvents, windows_of}
 use Rattle.serve_machine.specs.Work.{FailedWork}
 use Rattle.serve_core.specs.CoreValue.{CoreValue}
 use Rattle.serve_core.specs.Sources.{faults_of as faults_in}
@@ -43,13 +42,12 @@ use Rattle.serve_core.specs.Tables.{counts_in}
 use Rattle.serve_worker.specs.Instances.{Ends, feed_of, faults_of, holds_of, held_of}
 use Rattle.serve_core.proofs.Tables.{all_free}
 use Rattle.prefetch.specs.Asked.{windows_asked}
-use Rattle.prefetch.specs.OneWindow.{Keeps, WindowStopped}
-use Rattle.prefetch.specs.Windows.{frames_at, Stays}
+use Rattle.prefetch.specs.Windows.{Keeps, WindowStopped, frames_at, Stays}
 use Rattle.prefetch.proofs.RenderLemmas.{stays_on, keeps_first}
 use Rattle.prefetch.specs.declared.stops.RenderStop.TheVariants as of_render
 use Rattle.serve_text.specs.declared.stop.Stop.{Stop}
 use Rattle.serve_text.specs.declared.stop.Stop.TheVariants as of_stop
-use Rattle.prefetch.specs.declared.staff.Hands.{Hands}
+use Rattle.prefetch.specs.declared.pool_size.Pool.{Pool}
 use Rattle.prefetch.specs.declared.session.SessionStop.{SessionStop}
 use Rattle.prefetch.specs.declared.session.SessionStop.TheVariants.{Stopped, ListFault}
 use Rattle.prefetch.specs.Answered.{EndsEarly, EndsWith, InList, AreWindowsIn, TellsSession, numbers_asked, answers_over, IsCutSession, AnswersAll, AnswerShows, AnswersSome, IsAnswered}
@@ -349,7 +347,7 @@ module _ {S L K : Type 0} (of : of_source.Ghosts S) (list : of_source.Ghosts L) 
         let some = answers_some q why part stop told in
         record { all = tt; stop = some.0; stays = some.1; steady = tt }
 
-module _ {S L K : Type 0} (of : of_source.Ghosts S) (list : of_source.Ghosts L) (sink : Ghosts K) (graph : List Application) (root capacity : ℕ) (by : Hands) (sources : List (FrameSource S)) (c : CoreValue (Instance S))
+module _ {S L K : Type 0} (of : of_source.Ghosts S) (list : of_source.Ghosts L) (sink : Ghosts K) (graph : List Application) (root capacity : ℕ) (by : Pool) (sources : List (FrameSource S)) (c : CoreValue (Instance S))
     (is : IsCoreOf of c graph root capacity by sources) (s t : L) (old new : K) where
   core_keeps : Keeps (held_of of) c c
   core_keeps = keeps_first (held_of of) c is.between is.unclaimed (all_free c.table is.unlent)

@@ -21,14 +21,14 @@ use Rattle.serve_worker.specs.Instances.{feed_of, faults_of, holds_of}
 use Rattle.serve_worker.proofs.CallerLemmas.{told_book, count_held, same_counts}
 use Rattle.serve_core.proofs.Tables.{all_free}
 use Rattle.serve_text.specs.declared.stop.Stop.{Stop}
-use Rattle.prefetch.specs.declared.staff.Hands.{Hands}
-use Rattle.prefetch.specs.declared.stream.Whole.{Whole}
+use Rattle.prefetch.specs.declared.pool_size.Pool.{Pool}
+use Rattle.prefetch.specs.declared.stream.RenderedClip.{RenderedClip}
 use Rattle.prefetch.specs.StreamClips.{book_told}
 use Rattle.prefetch.specs.Cores.{book_at, IsCoreOf}
-use Rattle.prefetch.specs.Renders.{hands_at}
+use Rattle.prefetch.specs.Renders.{pool_at}
 use Rattle.prefetch.specs.Streamed.{IsStreamed}
 
-module _ {S : Type 0} (of : of_source.Ghosts S) (plan : List Application) (root capacity : ℕ) (by : Hands) (sources : List (FrameSource S)) where
+module _ {S : Type 0} (of : of_source.Ghosts S) (plan : List Application) (root capacity : ℕ) (by : Pool) (sources : List (FrameSource S)) where
   -- a new core over a table that was furnished for the graph
   pub core_of_new : (cache : Cached) (table : List (Place × Slot (Instance S))) (c : CoreValue (Instance S)) → c ≡ made plan root cache by.workers table
       → cache.pairs ≡ [] → cache.capacity ≡ capacity → Furnishes plan by.workers sources table → leases_out table ≡ 0 → IsPlan plan → AreSources plan sources
@@ -51,19 +51,19 @@ module _ {S : Type 0} (of : of_source.Ghosts S) (plan : List Application) (root 
       })
 
   module _ (c : CoreValue (Instance S)) (is : IsCoreOf of c plan root capacity by sources) where
-    hands_are : hands_at c by.window ≡ by
-    hands_are = ap (λ n. record { workers = n; window = by.window }) is.workers_are
+    pool_is : pool_at c by.window ≡ by
+    pool_is = ap (λ n. record { workers = n; window = by.window }) is.workers_are
 
     -- what is left of the stream of the core is left of that of the graph
-    pub streamed_of_graph : {K : Type 0} (sink : Ghosts K) (old new : K) (journal : Option Record) (table : List (Place × Slot (Instance S))) (done : Result Whole Stop)
-        → IsStreamed (faults_of of) c.fixed.plan c.fixed.root c.fixed.capacity (hands_at c by.window) (book_at of c) sink old new journal table done
+    pub streamed_of_graph : {K : Type 0} (sink : Ghosts K) (old new : K) (journal : Option Record) (table : List (Place × Slot (Instance S))) (done : Result RenderedClip Stop)
+        → IsStreamed (faults_of of) c.fixed.plan c.fixed.root c.fixed.capacity (pool_at c by.window) (book_at of c) sink old new journal table done
         → IsStreamed (faults_of of) plan root capacity by (book_told of sources) sink old new journal table done
     streamed_of_graph {K = K} sink old new journal table done streamed =
         subst (λ p. IsStreamed (faults_of of) p root capacity by (book_told of sources) sink old new journal table done) is.plan_is
         (subst (λ r. IsStreamed (faults_of of) c.fixed.plan r capacity by (book_told of sources) sink old new journal table done) is.root_is
         (subst (λ n. IsStreamed (faults_of of) c.fixed.plan c.fixed.root n by (book_told of sources) sink old new journal table done) is.capacity_is
-        (subst (λ h. IsStreamed (faults_of of) c.fixed.plan c.fixed.root c.fixed.capacity h (book_told of sources) sink old new journal table done) hands_are
-        (subst (λ b. IsStreamed (faults_of of) c.fixed.plan c.fixed.root c.fixed.capacity (hands_at c by.window) b sink old new journal table done) is.book_is streamed))))
+        (subst (λ h. IsStreamed (faults_of of) c.fixed.plan c.fixed.root c.fixed.capacity h (book_told of sources) sink old new journal table done) pool_is
+        (subst (λ b. IsStreamed (faults_of of) c.fixed.plan c.fixed.root c.fixed.capacity (pool_at c by.window) b sink old new journal table done) is.book_is streamed))))
 
     -- a table that holds the sources of the core has as many
     pub sources_stay : (table : List (Place × Slot (Instance S))) → AllFree table → held_in holds_of table ≡ held_in holds_of c.table

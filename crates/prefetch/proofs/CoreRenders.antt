@@ -5,20 +5,20 @@ use Rattle.std.specs.Map.{keys_of}
 use Rattle.fv_io.specs.declared.source.Source as of_source
 use Rattle.fv_io.specs.declared.sink.Sink.{Ghosts}
 use Rattle.serve_machine.specs.declared.event.WindowStop.{WindowStop}
-use Rattle.serve_machine.specs.Windows.{WindowEvents}
+use Rattle.serve_machine.specs.Events.{WindowEvents}
 use Rattle.serve_core.specs.CoreValue.{CoreValue}
 use Rattle.serve_worker.specs.declared.instance.Instance.{Instance}
 use Rattle.serve_core.specs.Tables.{counts_in}
 use Rattle.serve_worker.specs.Instances.{Ends, feed_of, faults_of, holds_of, held_of}
 use Rattle.prefetch.specs.declared.stops.RenderStop.{RenderStop}
 use Rattle.prefetch.specs.declared.stops.RenderStop.TheVariants.{Stopped, Write, Memory}
-use Rattle.serve_machine.specs.CrewJournal.{AreCrewFirst, AreCrewCut, AreAloneFirst, AreAloneCut}
+use Rattle.serve_machine.specs.Journals.{AreCrewFirst, AreCrewCut, AreAloneFirst, AreAloneCut}
 use Rattle.prefetch.specs.Windows.{frames_at, Stays, RenderEnds, RendersAll, RenderStops, CrewRendersAll, CrewStops}
-use Rattle.prefetch.specs.ByWorkers.{IsFirstBy, IsCutBy}
-use Rattle.prefetch.specs.Renders.{hands_at, RendersBy, StopsBy}
+use Rattle.prefetch.specs.Journals.{IsFirstBy, IsCutBy}
+use Rattle.prefetch.specs.Renders.{pool_at, RendersBy, StopsBy}
 use Rattle.prefetch.specs.Cores.{IsTold}
 use Rattle.prefetch.specs.Streams.{NamesSource}
-use Rattle.prefetch.specs.declared.stream.Whole.{Whole}
+use Rattle.prefetch.specs.declared.stream.RenderedClip.{RenderedClip}
 use Rattle.serve_text.specs.declared.stop.Stop.{Stop}
 use Rattle.clip_graph.specs.Plan.{Application}
 
@@ -26,8 +26,8 @@ module _ {S K : Type 0} (of : of_source.Ghosts S) (c : CoreValue (Instance S)) (
     (windows : List WindowEvents) (d : CoreValue (Instance S)) where
   -- a journal of these kinds is one by the number of workers
   ends_by : (IsFirst : List WindowEvents → ℕ → Type 0) (IsCut : WindowStop → List WindowEvents → ℕ → Type 0)
-      → ((n : ℕ) → IsFirst windows n → IsFirstBy c.fixed.plan c.fixed.root c.fixed.capacity (hands_at c window) (frames_at c.fixed.plan c.fixed.root) windows n)
-      → ((why : WindowStop) (n : ℕ) → IsCut why windows n → IsCutBy c.fixed.plan c.fixed.root c.fixed.capacity (hands_at c window) (frames_at c.fixed.plan c.fixed.root) why windows n)
+      → ((n : ℕ) → IsFirst windows n → IsFirstBy c.fixed.plan c.fixed.root c.fixed.capacity (pool_at c window) (frames_at c.fixed.plan c.fixed.root) windows n)
+      → ((why : WindowStop) (n : ℕ) → IsCut why windows n → IsCutBy c.fixed.plan c.fixed.root c.fixed.capacity (pool_at c window) (frames_at c.fixed.plan c.fixed.root) why windows n)
       → (stop : RenderStop) → RenderEnds (held_of of) c sink old new IsFirst IsCut windows d stop → StopsBy of c sink old new window windows d stop
   ends_by IsFirst IsCut first cut (Stopped why) shown = record {
     stays = shown.stays;
@@ -101,7 +101,7 @@ module _ {S K : Type 0} (of : of_source.Ghosts S) (c : CoreValue (Instance S)) (
   stays_by (Err Memory) whole stopped = stopped.stays
 
   -- where all was put no instance has failed
-  pub steady_by : (done : Result (Unit {0}) RenderStop) (plan : List Application) (workers frames : ℕ) (graph : List Application) (answer : Result Whole Stop) → OnOk done (RendersBy of c sink old new window windows d) → IsTold plan workers done frames graph answer
+  pub steady_by : (done : Result (Unit {0}) RenderStop) (plan : List Application) (workers frames : ℕ) (graph : List Application) (answer : Result RenderedClip Stop) → OnOk done (RendersBy of c sink old new window windows d) → IsTold plan workers done frames graph answer
       → OnOk answer (counts_in (faults_of of) d.table ≡ counts_in (faults_of of) c.table)
   steady_by (Ok u) plan workers frames graph (Ok all) whole told = whole.steady
   steady_by (Ok u) plan workers frames graph (Err stop) whole told = absurd told

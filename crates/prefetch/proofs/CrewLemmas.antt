@@ -19,36 +19,29 @@ use Rattle.serve_machine.specs.declared.event.Event.{Event}
 use Rattle.serve_machine.specs.declared.event.Event.TheVariants.{Fail}
 use Rattle.serve_machine.specs.declared.event.WindowStop.{WindowStop}
 use Rattle.serve_machine.specs.declared.event.WindowStop.TheVariants.{Read, Changed, Memory}
-use Rattle.serve_machine.specs.Events.{worker_of}
-use Rattle.serve_machine.specs.Own.{own_events}
-use Rattle.serve_machine.specs.Work.{Deliveries, none, untaken, failed}
-use Rattle.serve_machine.specs.Lifted.{bare, keys_machine}
-use Rattle.serve_machine.specs.Machine.{replay}
-use Rattle.serve_machine.specs.Renders.{after_window}
-use Rattle.serve_machine.specs.State.{State}
-use Rattle.serve_machine.specs.Stops.{first_stop}
+use Rattle.serve_machine.specs.Events.{worker_of, own_events}
+use Rattle.serve_machine.specs.Work.{Deliveries, none, untaken, failed, DeliversAll, IsWork}
+use Rattle.serve_machine.specs.Law.{bare, keys_machine}
+use Rattle.serve_machine.specs.Machine.{replay, State, first_stop}
+use Rattle.serve_machine.specs.Journals.{after_window, crew_machine, IsWholeWindow, IsCutWindow}
 use Rattle.serve_core.specs.declared.answers.Finished.{Finished}
-use Rattle.serve_core.specs.Calls.{begun, ended, failing}
+use Rattle.serve_core.specs.Calls.{after_begin, after_end, after_fail}
 use Rattle.serve_core.specs.CoreValue.{CoreValue, Fixed}
 use Rattle.serve_core.specs.Kept.{leases_out}
 use Rattle.serve_core.specs.Runs.{keys_alone, opening_of, state_of, IsRun}
 use Rattle.serve_core.specs.Sources.{shape_at, HoldTheirs}
 use Rattle.serve_core.specs.Stands.{Book, Stands, StopFits, EndShows}
-use Rattle.serve_core.specs.Steady.{IsSteady, TurnsAreSteady}
-use Rattle.serve_core.specs.Turns.{StandsFor}
+use Rattle.serve_core.specs.Turns.{IsSteady, TurnsAreSteady, StandsFor}
 use Rattle.serve_core.specs.Workers.{told_holdings}
 use Rattle.serve_core.proofs.ClosedLemmas.{workers_tell}
 use Rattle.serve_core.proofs.Standing.{calls_stand}
 use Rattle.serve_core.proofs.StepLemmas.{keys_again}
 use Rattle.serve_core.proofs.SteadyLemmas.{turns_are_steady}
 use Rattle.serve_shared.specs.Seats.{CoreSeat, HasWorker}
-use Rattle.serve_machine.specs.Worked.{DeliversAll, IsWork}
 use Rattle.serve_core.specs.Tables.{AllFree, held_in, counts_in}
 use Rattle.serve_core.proofs.Tables.{all_free}
 use Rattle.prefetch.specs.Crew.{HasWorked, MayGather, IsGathered, IsNew, WorkIsDone, IsCrewWindow, IsCutCrew}
-use Rattle.serve_machine.specs.CrewJournal.{crew_machine, IsWholeWindow, IsCutWindow}
-use Rattle.prefetch.specs.OneWindow.{WindowEnds}
-use Rattle.prefetch.specs.Windows.{frames_at, Stays}
+use Rattle.prefetch.specs.Windows.{WindowEnds, frames_at, Stays}
 use Rattle.serve_shared.proofs.CallerLemmas.{entries_own, work_grows}
 use Rattle.prefetch.proofs.HeldLemmas.{held_again, counts_again}
 use Rattle.prefetch.proofs.WindowLemmas.{ended_stays, window_delivered, window_stopped}
@@ -57,7 +50,7 @@ use Rattle.prefetch.proofs.WorkLemmas.{first_or_later, failure_of, read_by, chan
 -- WITHOUT A WORKER
 
 module _ {I : Type 0} (of : HeldGhosts I) where
-  not_begun : (s : CoreValue I) → IsNew s → WorkIsDone of s (failing s 0 Memory)
+  not_begun : (s : CoreValue I) → IsNew s → WorkIsDone of s (after_fail s 0 Memory)
   not_begun s fresh =
       let journal : s.journal ++ Fail 0 Memory ∷ [] ≡ Fail 0 Memory ∷ [] = ap (λ es. es ++ Fail 0 Memory ∷ []) fresh.empty in
       record {
@@ -78,7 +71,7 @@ module _ {I : Type 0} (of : HeldGhosts I) where
           (λ (is : Fail 0 Memory ≡ Fail w why). let same : Memory ≡ why = cc in subst (EndShows of.ends s.table) same tt)
           (λ (rest : Contains [] (Fail w why)). let less = rest.1 in absurd (omega arith)) (first_or_later (Fail 0 Memory) [] (Fail w why) h)
 
-  pub without_workers : (s c : CoreValue I) → IsNew s → c ≡ failing s 0 Memory → WorkIsDone of s c
+  pub without_workers : (s c : CoreValue I) → IsNew s → c ≡ after_fail s 0 Memory → WorkIsDone of s c
   without_workers s c fresh is = subst (WorkIsDone of s) (sym is) (not_begun s fresh)
 
 -- THE SEATS
@@ -87,7 +80,7 @@ false_first : (n : ℕ) → 0 < n → slice_get (replicate n false) 0 ≡ Some f
 false_first zero less = absurd (omega arith)
 false_first (suc n) less = refl
 
-pub begun_new : {I : Type 0} (c c1 : CoreValue I) (first count : ℕ) → c.fixed.root < length c.fixed.plan → 0 < c.fixed.workers → 0 < count → first + count ≤ frames_at c.fixed.plan c.fixed.root → c1 ≡ begun c first count → IsNew c1
+pub begun_new : {I : Type 0} (c c1 : CoreValue I) (first count : ℕ) → c.fixed.root < length c.fixed.plan → 0 < c.fixed.workers → 0 < count → first + count ≤ frames_at c.fixed.plan c.fixed.root → c1 ≡ after_begin c first count → IsNew c1
 begun_new c c1 first count root several some numbers is = subst IsNew (sym is) (record {
   empty = refl;
   unfailed = false_first c.fixed.workers several;
@@ -188,7 +181,7 @@ module _ {I : Type 0} (c2 : CoreValue I) (run : IsRun c2) where
   }
 
 -- and then it is a window of the core with which it began
-pub crew_window : {I : Type 0} (c c2 d : CoreValue I) (first count : ℕ) → c2.fixed ≡ (begun c first count).fixed → keys_of c2.table ≡ keys_of c.table → d ≡ ended c2 → (run : IsRun c2) (events : List Event) → events ≡ c2.journal
+pub crew_window : {I : Type 0} (c c2 d : CoreValue I) (first count : ℕ) → c2.fixed ≡ (after_begin c first count).fixed → keys_of c2.table ≡ keys_of c.table → d ≡ after_end c2 → (run : IsRun c2) (events : List Event) → events ≡ c2.journal
     → IsWholeWindow c2.fixed.plan c2.fixed.root c2.fixed.capacity c2.fixed.workers (keys_of c2.table) (keys_alone c2.fixed.opening) (record { first = c2.fixed.first; count = c2.fixed.count; events = c2.journal }) (run_check c2 run)
     → IsCrewWindow c first count events d
 crew_window {I = I} c c2 d first count fixed places ends_it run events journal whole =
@@ -201,8 +194,8 @@ crew_window {I = I} c c2 d first count fixed places ends_it run events journal w
     }
 
 module _ {I : Type 0} (of : HeldGhosts I) (c c1 c2 : CoreValue I) (first count : ℕ) (plan : IsPlan c.fixed.plan) (root : c.fixed.root < length c.fixed.plan)
-    (begins : c1 ≡ begun c first count) (worked : WorkIsDone of c1 c2) (run : IsRun c2) where
-  fixed : c2.fixed ≡ (begun c first count).fixed
+    (begins : c1 ≡ after_begin c first count) (worked : WorkIsDone of c1 c2) (run : IsRun c2) where
+  fixed : c2.fixed ≡ (after_begin c first count).fixed
   fixed = worked.stands.fixed ∙ ap (λ (z : CoreValue I). z.fixed) begins
 
   plan2 : IsPlan c2.fixed.plan
@@ -248,7 +241,7 @@ module _ {I : Type 0} (of : HeldGhosts I) (c c1 c2 : CoreValue I) (first count :
   fits book numbers w (Changed i frame want got) h v = v.changed (changed_by c2.journal w i frame want got h)
   fits book numbers w Memory h v = tt
 
-  module _ (d : CoreValue I) (ends_it : d ≡ ended c2) (finished : Finished) (frames : finished.frames.items ≡ c2.outputs.frames) (events : finished.events.items ≡ c2.journal) (stop : finished.stop ≡ c2.stop) (stopped : finished.stop ≡ first_stop c2.journal)
+  module _ (d : CoreValue I) (ends_it : d ≡ after_end c2) (finished : Finished) (frames : finished.frames.items ≡ c2.outputs.frames) (events : finished.events.items ≡ c2.journal) (stop : finished.stop ≡ c2.stop) (stopped : finished.stop ≡ first_stop c2.journal)
       (size : length finished.frames.items ≡ c2.fixed.count) (shapes : (j : ℕ) (x : Picture) → slice_get finished.frames.items j ≡ Some (Some x) → x.shape ≡ shape_at c2.fixed.plan c2.fixed.root)
       (some : 0 < c.fixed.workers) (unlent : leases_out c.table ≡ 0) (differ : PlacesDiffer c.table) (theirs : HoldTheirs of.holds c.fixed.plan c.table) (differ' : PlacesDiffer c2.table) (theirs' : HoldTheirs of.holds c2.fixed.plan c2.table) where
     stays : Stays of.holds c d

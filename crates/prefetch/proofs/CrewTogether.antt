@@ -10,17 +10,15 @@ use Rattle.inst_table.specs.declared.held.Held.{Ghosts as HeldGhosts}
 use Rattle.inst_table.specs.declared.place.Place.{Place}
 use Rattle.serve_machine.specs.declared.event.Event.{Event}
 use Rattle.serve_machine.specs.declared.event.WindowStop.{WindowStop}
-use Rattle.serve_machine.specs.Windows.{WindowEvents}
+use Rattle.serve_machine.specs.Events.{WindowEvents}
 use Rattle.serve_core.specs.declared.answers.Finished.{Finished}
 use Rattle.serve_core.specs.CoreValue.{CoreValue}
 use Rattle.serve_core.specs.Runs.{keys_alone}
 use Rattle.prefetch.specs.declared.stops.RenderStop.{RenderStop}
 use Rattle.prefetch.specs.declared.stops.RenderStop.TheVariants.{Stopped, Write, Memory}
-use Rattle.prefetch.specs.Crew.{IsCrewWindow, IsCutCrew, AreOfCrew}
-use Rattle.serve_machine.specs.CrewJournal.{IsWholeWindow, IsCutWindow, IsNext, AreWhole, none, also, AreCrewFirst, AreCrewCut}
-use Rattle.prefetch.specs.NextWindow.{AddsCrewWindow, LeavesOut, NextShows}
-use Rattle.prefetch.specs.OneWindow.{with_window, Keeps, WindowStopped}
-use Rattle.prefetch.specs.Windows.{frames_at, Stays, CrewStops}
+use Rattle.prefetch.specs.Crew.{IsCrewWindow, IsCutCrew, AreOfCrew, AddsCrewWindow, LeavesOut, NextShows}
+use Rattle.serve_machine.specs.Journals.{IsWholeWindow, IsCutWindow, IsNext, AreWhole, none, also, AreCrewFirst, AreCrewCut}
+use Rattle.prefetch.specs.Windows.{with_window, Keeps, WindowStopped, frames_at, Stays, CrewStops}
 use Rattle.prefetch.proofs.RenderLemmas.{Waits, stays_on, put_waiting, waiting_fails, stopped_after, ended_between}
 
 module _ {I : Type 0} (c : CoreValue I) (size : ℕ) where

@@ -10,7 +10,7 @@ use Rattle.inst_table.specs.declared.place.Slot.TheVariants.{Free, Leased}
 use Rattle.inst_table.specs.Places.{same_place, slot_at, PlacesDiffer}
 use Rattle.inst_table.proofs.CallerLemmas.{test, same_places, place_itself}
 use Rattle.serve_core.specs.Sources.{opened_at, HoldTheirs, faults_at}
-use Rattle.serve_core.specs.Steady.{HasCount}
+use Rattle.serve_core.specs.Turns.{HasCount}
 use Rattle.serve_core.specs.Tables.{AllFree, held_in, counts_in}
 
 module _ {I : Type 0} where

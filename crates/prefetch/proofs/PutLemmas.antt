@@ -3,21 +3,21 @@ use Rattle.std.proofs.Common.{◌≡◌, ◌∙◌, ℕ, zero, suc, ◌+◌, Lis
 use Rattle.std.specs.Result.{is_err}
 use Rattle.std.proofs.lemmas.List.{append_assoc, append-nil, map-append, take-append-drop}
 use Rattle.std.proofs.lemmas.List.Concat.{flat_map-append}
+use Rattle.std.proofs.lemmas.List.Elements.{All-nil, All-append}
 use Rattle.std.proofs.lemmas.List.FromFn.{map-range_with_len_more}
 use Rattle.fv_io.specs.declared.source.Failed.{Failed}
 use Rattle.fv_io.specs.declared.sink.Sink.{Ghosts}
 use Rattle.fv_io.specs.Sink.{Puts, PutsPrefix, SinkFailed}
 use Rattle.fv_io.specs.Told.{with_piece}
-use Rattle.fv_io.proofs.CallerLemmas.{with_piece_twice, gets_more, gets_after}
+use Rattle.fv_io.proofs.CallerLemmas.{with_piece_twice, with_no_piece, gets_more, gets_after}
 use Rattle.fv_plane.specs.Bytes.{bytes_of}
-use Rattle.fv_plane.specs.Picture.{Picture}
+use Rattle.fv_plane.specs.Picture.{Picture, IsPicture}
 use Rattle.y4m_stream.specs.Stream.{frame_text, frames_text}
 use Rattle.clip_graph.specs.Plan.{Application}
 use Rattle.clip_graph.specs.Unfolding.{key_picture}
-use Rattle.serve_machine.specs.Keys.{frame_key}
-use Rattle.prefetch.specs.OneWindow.{PutsFrames}
+use Rattle.serve_machine.specs.Events.{frame_key}
+use Rattle.prefetch.specs.Windows.{PutsFrames, PutsPictures, given, pictures_text}
 use Rattle.prefetch.specs.Clips.{pictures_from}
-use Rattle.prefetch.specs.Windows.{given, pictures_text}
 
 -- TEXTS
 
@@ -47,11 +47,22 @@ text_whole frames n = ap (λ l. pictures_text (given l)) (sym (take-append-drop 
 
 -- PUTS
 
-module _ {K : Type 0} (sink : Ghosts K) (old here new : K) (frames : List (Option Picture)) (i : ℕ) (frame : Option Picture) (at : slice_get frames i ≡ Some frame) (before : Puts sink old here (pictures_text (given (take i frames)))) where
-  pub put_more : Puts sink here new (pictures_text (given (frame ∷ []))) → Puts sink old new (pictures_text (given (take (i + 1) frames)))
+pub puts_none : {K : Type 0} (sink : Ghosts K) (old : K) → PutsPictures sink old old []
+puts_none sink old = record { put = sym (with_no_piece (sink.bytes old)); whole = All-nil IsPicture; steady = refl }
+
+pub puts_twice : {K : Type 0} (sink : Ghosts K) (old here new : K) (one other : List Picture) → PutsPictures sink old here one → PutsPictures sink here new other → PutsPictures sink old new (one ++ other)
+puts_twice sink old here new one other before after = record {
+  put = after.put ∙ ap (λ o. with_piece o (pictures_text other)) before.put ∙ with_piece_twice (sink.bytes old) (pictures_text one) (pictures_text other)
+      ∙ ap (with_piece (sink.bytes old)) (sym (text_twice one other));
+  whole = All-append IsPicture one other before.whole after.whole;
+  steady = after.steady ∙ before.steady;
+}
+
+module _ {K : Type 0} (sink : Ghosts K) (old here new : K) (frames : List (Option Picture)) (i : ℕ) (frame : Option Picture) (at : slice_get frames i ≡ Some frame) (before : PutsPictures sink old here (given (take i frames))) where
+  pub put_more : PutsPictures sink here new (given (frame ∷ [])) → PutsPictures sink old new (given (take (i + 1) frames))
   put_more put =
-      put ∙ ap (λ o. with_piece o (pictures_text (given (frame ∷ [])))) before ∙ with_piece_twice (sink.bytes old) (pictures_text (given (take i frames))) (pictures_text (given (frame ∷ [])))
-      ∙ ap (with_piece (sink.bytes old)) (sym (text_more frames i frame at))
+      subst (PutsPictures sink old new) (sym (ap given (one_more frames i frame at) ∙ given_twice (take i frames) (frame ∷ [])))
+      (puts_twice sink old here new (given (take i frames)) (given (frame ∷ [])) before put)
 
   pub put_cut : PutsPrefix sink here new (pictures_text (given (frame ∷ []))) → PutsPrefix sink old new (pictures_text (given frames))
   put_cut cut =
@@ -59,7 +70,7 @@ module _ {K : Type 0} (sink : Ghosts K) (old here new : K) (frames : List (Optio
       let text = pictures_text (given (frame ∷ [])) in
       let rest = pictures_text (given (drop (i + 1) frames)) in
       let whole : pictures_text (given frames) ≡ (first ++ text) ++ rest = text_whole frames (i + 1) ∙ ap (λ l. l ++ rest) (text_more frames i frame at) in
-      rw whole (gets_more (sink.bytes old) (sink.bytes new) (first ++ text) rest (gets_after (sink.bytes old) (sink.bytes here) (sink.bytes new) first text before cut))
+      rw whole (gets_more (sink.bytes old) (sink.bytes new) (first ++ text) rest (gets_after (sink.bytes old) (sink.bytes here) (sink.bytes new) first text before.put cut))
 
 -- the sink failed at some frames
 pub puts_not : {K : Type 0} (sink : Ghosts K) (old new : K) (frames : List (Option Picture)) (r : Result (Unit {0}) Failed) → true ≡ is_err r → PutsFrames sink old new frames r → SinkFailed sink old new × PutsPrefix sink old new (pictures_text (given frames))

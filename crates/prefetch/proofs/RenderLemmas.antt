@@ -12,7 +12,7 @@ use Rattle.clip_graph.specs.Plan.{Application}
 use Rattle.inst_table.specs.declared.held.Held.{Ghosts as HeldGhosts}
 use Rattle.serve_machine.specs.declared.event.Event.{Event}
 use Rattle.serve_machine.specs.declared.event.WindowStop.{WindowStop}
-use Rattle.serve_machine.specs.Windows.{WindowEvents}
+use Rattle.serve_machine.specs.Events.{WindowEvents}
 use Rattle.serve_core.specs.declared.answers.Finished.{Finished}
 use Rattle.serve_core.specs.CoreValue.{CoreValue}
 use Rattle.serve_core.specs.Sources.{shape_at}
@@ -21,9 +21,8 @@ use Rattle.serve_core.specs.Tables.{AllFree}
 use Rattle.prefetch.specs.declared.stops.RenderStop.{RenderStop}
 use Rattle.prefetch.specs.declared.stops.RenderStop.TheVariants.{Stopped, Write, Memory}
 use Rattle.prefetch.specs.Clips.{pictures_from}
-use Rattle.prefetch.specs.OneWindow.{with_window, PutsFinished, PutStops, Keeps, WindowDelivered, WindowStopped, WindowEnds, AddsWindow, CutsWindow, PutsWindow, WindowShows}
-use Rattle.prefetch.specs.Windows.{given, pictures_text, frames_at, Stays, PutsFirst, AllRendered, StoppedAfter, FailedAfter, EndedBetween, RenderEnds}
-use Rattle.prefetch.proofs.PutLemmas.{text_twice, pictures_more}
+use Rattle.prefetch.specs.Windows.{with_window, PutsFinished, PutStops, Keeps, WindowDelivered, WindowStopped, WindowEnds, AddsWindow, CutsWindow, PutsWindow, WindowShows, PutsPictures, given, pictures_text, frames_at, Stays, PutsFirst, AllRendered, StoppedAfter, FailedAfter, EndedBetween, RenderEnds}
+use Rattle.prefetch.proofs.PutLemmas.{text_twice, puts_none, puts_twice, pictures_more}
 
 module _ {I : Type 0} (of : HeldGhosts I) (c : CoreValue I) where
   pub stays_on : (d e : CoreValue I) → Stays of.holds c d → Stays of.holds d e → Stays of.holds c e
@@ -87,7 +86,7 @@ module _ {I : Type 0} (of : HeldGhosts I) (c : CoreValue I) where
       pub count : length pictures + length (given frames) ≡ n
       pub shapes : All (λ (x : Picture). x.shape ≡ shape_at c.fixed.plan c.fixed.root) (pictures ++ given frames)
       pub right : (b : List (List Picture)) (numbers : List ℕ) → Stands of.feed of.faults (Some b) numbers c → pictures ++ given frames ≡ pictures_from b c.fixed.plan c.fixed.root 0 n
-      pub put : Puts sink old here (pictures_text pictures)
+      pub put : PutsPictures sink old here pictures
 
     pub put_none : PutsFirst of c sink old old 0
     put_none = record {
@@ -95,7 +94,7 @@ module _ {I : Type 0} (of : HeldGhosts I) (c : CoreValue I) where
       count = refl;
       shapes = All-nil (λ (x : Picture). x.shape ≡ shape_at c.fixed.plan c.fixed.root);
       right = λ b numbers s. refl;
-      put = sym (with_no_piece (sink.bytes old));
+      put = puts_none sink old;
     }
 
     pub none_waits : Waits old [] 0
@@ -104,18 +103,17 @@ module _ {I : Type 0} (of : HeldGhosts I) (c : CoreValue I) where
       count = refl;
       shapes = All-nil (λ (x : Picture). x.shape ≡ shape_at c.fixed.plan c.fixed.root);
       right = λ b numbers s. refl;
-      put = sym (with_no_piece (sink.bytes old));
+      put = puts_none sink old;
     }
 
     module _ (here there : K) (frames : List (Option Picture)) (n : ℕ) (w : Waits here frames n) where
-      pub put_waiting : Puts sink here there (pictures_text (given frames)) → PutsFirst of c sink old there n
+      pub put_waiting : PutsPictures sink here there (given frames) → PutsFirst of c sink old there n
       put_waiting put = record {
         pictures = w.pictures ++ given frames;
         count = length-append w.pictures (given frames) ∙ w.count;
         shapes = w.shapes;
         right = w.right;
-        put = put ∙ ap (λ o. with_piece o (pictures_text (given frames))) w.put ∙ with_piece_twice (sink.bytes old) (pictures_text w.pictures) (pictures_text (given frames))
-            ∙ ap (with_piece (sink.bytes old)) (sym (text_twice w.pictures (given frames)));
+        put = puts_twice sink old here there w.pictures (given frames) w.put put;
       }
 
       -- the sink failed at them, and the journal has m outputs
@@ -126,14 +124,15 @@ module _ {I : Type 0} (of : HeldGhosts I) (c : CoreValue I) where
         count = m;
         few = most;
         failed = omega (arith, later, failed);
-        begun = (pictures_text w.pictures ++ cut.0, cut.3 ∙ ap (λ o. with_piece o cut.0) w.put ∙ with_piece_twice (sink.bytes old) (pictures_text w.pictures) cut.0);
+        begun = (let before = w.put in (pictures_text w.pictures ++ cut.0, cut.3 ∙ ap (λ o. with_piece o cut.0) before.put ∙ with_piece_twice (sink.bytes old) (pictures_text w.pictures) cut.0));
         cut = λ b numbers s.
+            let before = w.put in
             let rest = pictures_text (pictures_from b c.fixed.plan c.fixed.root n (m - n)) in
             let all : m ≡ n + (m - n) = omega arith in
             let whole : pictures_text (pictures_from b c.fixed.plan c.fixed.root 0 m) ≡ (pictures_text w.pictures ++ pictures_text (given frames)) ++ rest
             = ap (λ k. pictures_text (pictures_from b c.fixed.plan c.fixed.root 0 k)) all ∙ ap pictures_text (pictures_more b c.fixed.plan c.fixed.root n (m - n) ∙ ap (λ l. l ++ pictures_from b c.fixed.plan c.fixed.root n (m - n)) (sym (w.right b numbers s)))
             ∙ text_twice (w.pictures ++ given frames) (pictures_from b c.fixed.plan c.fixed.root n (m - n)) ∙ ap (λ l. l ++ rest) (text_twice w.pictures (given frames)) in
-            rw whole (gets_more (sink.bytes old) (sink.bytes there) (pictures_text w.pictures ++ pictures_text (given frames)) rest (gets_after (sink.bytes old) (sink.bytes here) (sink.bytes there) (pictures_text w.pictures) (pictures_text (given frames)) w.put cut));
+            rw whole (gets_more (sink.bytes old) (sink.bytes there) (pictures_text w.pictures ++ pictures_text (given frames)) rest (gets_after (sink.bytes old) (sink.bytes here) (sink.bytes there) (pictures_text w.pictures) (pictures_text (given frames)) before.put cut));
         journal = journal;
       }
 
@@ -165,7 +164,7 @@ module _ {I : Type 0} (of : HeldGhosts I) (c : CoreValue I) where
           put = p.put;
         }
 
-        pub put_more : PutsFirst of c sink old here n → Puts sink here there (pictures_text (given finished.frames.items)) → PutsFirst of c sink old there (n + count)
+        pub put_more : PutsFirst of c sink old here n → PutsPictures sink here there (given finished.frames.items) → PutsFirst of c sink old there (n + count)
         put_more p = put_waiting here there finished.frames.items (n + count) (more_waits p)
 
       -- the window of the next outputs was cut short

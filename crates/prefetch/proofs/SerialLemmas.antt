@@ -8,12 +8,11 @@ use Rattle.clip_graph.specs.Plan.{Application, IsPlan}
 use Rattle.inst_table.specs.declared.held.Held.{Ghosts as HeldGhosts}
 use Rattle.serve_machine.specs.declared.event.Event.{Event}
 use Rattle.serve_machine.specs.declared.event.WindowStop.{WindowStop}
-use Rattle.serve_machine.specs.Own.{names_source}
+use Rattle.serve_machine.specs.Events.{names_source, WindowEvents}
 use Rattle.serve_machine.specs.SerialRun.{Serial, SerialWindows, serial_window, one_more_window, windows_after, serial_run}
-use Rattle.serve_machine.specs.Windows.{WindowEvents}
 use Rattle.serve_machine.specs.Work.{FailedWork}
 use Rattle.serve_core.specs.declared.answers.Finished.{Finished}
-use Rattle.serve_core.specs.Calls.{begun, ended}
+use Rattle.serve_core.specs.Calls.{after_begin, after_end}
 use Rattle.serve_core.specs.CoreValue.{CoreValue, Fixed}
 use Rattle.serve_core.specs.Kept.{leases_out}
 use Rattle.serve_core.specs.Runs.{IsRun}
@@ -21,10 +20,9 @@ use Rattle.serve_core.specs.Sources.{shape_at}
 use Rattle.serve_alone.specs.Alone.{Alone}
 use Rattle.serve_alone.specs.Windows.{Fresh, Served, WindowCut}
 use Rattle.serve_core.proofs.Tables.{places_kept, none_leased, all_free}
-use Rattle.serve_machine.specs.SerialJournal.{AreFirst, AreCut}
-use Rattle.prefetch.specs.OneWindow.{with_window, WindowEnds}
+use Rattle.serve_machine.specs.Journals.{AreFirst, AreCut}
+use Rattle.prefetch.specs.Windows.{with_window, WindowEnds, frames_at}
 use Rattle.prefetch.specs.SerialWindows.{window_of, IsSerialWindow, IsAloneWindow, IsCutSerial, IsAloneCut, AreSerial}
-use Rattle.prefetch.specs.Windows.{frames_at}
 use Rattle.prefetch.proofs.AloneLemmas.{alone_window, alone_cut}
 use Rattle.prefetch.proofs.WindowLemmas.{ended_stays, window_delivered, window_stopped}
 
@@ -40,10 +38,10 @@ false_at zero less = absurd (omega arith)
 false_at (suc n) less = refl
 
 module _ {I : Type 0} where
-  pub begun_alone : (c c1 : CoreValue I) (first count : ℕ) → IsPlan c.fixed.plan → 0 < c.fixed.workers → 0 < count → leases_out c.table ≡ 0 → c1 ≡ begun c first count → Alone c.fixed.plan c1
+  pub begun_alone : (c c1 : CoreValue I) (first count : ℕ) → IsPlan c.fixed.plan → 0 < c.fixed.workers → 0 < count → leases_out c.table ≡ 0 → c1 ≡ after_begin c first count → Alone c.fixed.plan c1
   begun_alone c c1 first count plan some more unlent is = subst (Alone c.fixed.plan) (sym is) (record { plan_is = refl; is_plan = plan; worker = some; window = more; running = refl; free = all_free c.table unlent })
 
-  pub begun_fresh : (c c1 : CoreValue I) (first count : ℕ) → c.fixed.root < length c.fixed.plan → 0 < c.fixed.workers → first + count ≤ frames_at c.fixed.plan c.fixed.root → c.claims ≡ [] → c1 ≡ begun c first count → Fresh c.fixed.plan c1
+  pub begun_fresh : (c c1 : CoreValue I) (first count : ℕ) → c.fixed.root < length c.fixed.plan → 0 < c.fixed.workers → first + count ≤ frames_at c.fixed.plan c.fixed.root → c.claims ≡ [] → c1 ≡ after_begin c first count → Fresh c.fixed.plan c1
   begun_fresh c c1 first count root some numbers unclaimed is = subst (Fresh c.fixed.plan) (sym is) (record {
     ready = record { root = root; numbers = numbers; claims = unclaimed; unfailed = false_at c.fixed.workers some };
     untaken = refl;
@@ -57,7 +55,7 @@ module _ {I : Type 0} (of : HeldGhosts I) where
   ends_idle plan c1 c2 count (Ok u) ok err = (ok.claims, none_leased c2.table ok.free)
   ends_idle plan c1 c2 count (Err why) ok err = (err.claims, none_leased c2.table err.free)
 
-  module _ (c c1 c2 d : CoreValue I) (first count : ℕ) (plan : IsPlan c.fixed.plan) (root : c.fixed.root < length c.fixed.plan) (more : 0 < count) (begins : c1 ≡ begun c first count) (ends_it : d ≡ ended c2) (run : 0 < c2.fixed.count → IsRun c2) where
+  module _ (c c1 c2 d : CoreValue I) (first count : ℕ) (plan : IsPlan c.fixed.plan) (root : c.fixed.root < length c.fixed.plan) (more : 0 < count) (begins : c1 ≡ after_begin c first count) (ends_it : d ≡ after_end c2) (run : 0 < c2.fixed.count → IsRun c2) where
     pub window_ends : (r : Result (Unit {0}) WindowStop) (finished : Finished) → OnOk r (Served of c.fixed.plan c1 count c2) → IfErr r (λ why. WindowCut of c.fixed.plan c1 why c2)
         → finished.frames.items ≡ c2.outputs.frames → finished.events.items ≡ c2.journal → finished.stop ≡ c2.stop → length finished.frames.items ≡ c2.fixed.count
         → ((j : ℕ) (x : Picture) → slice_get finished.frames.items j ≡ Some (Some x) → x.shape ≡ shape_at c2.fixed.plan c2.fixed.root)
@@ -66,7 +64,7 @@ module _ {I : Type 0} (of : HeldGhosts I) where
         let running : finished.stop ≡ None = stop ∙ ok.stop ∙ ap (λ (z : CoreValue I). z.stop) begins in
         let same : serial_window c.fixed.plan c1.fixed.root c1.fixed.capacity (keys_of c1.cache) c1.fixed.first count ≡ window_of c first count = ap (λ (z : CoreValue I). serial_window c.fixed.plan z.fixed.root z.fixed.capacity (keys_of z.cache) z.fixed.first count) begins in
         let stays = ended_stays of c c1 c2 d first count plan begins ok.fixed ends_it ok.claims ok.free ok.held in
-        let fixed : c2.fixed ≡ (begun c first count).fixed = ok.fixed ∙ ap (λ (z : CoreValue I). z.fixed) begins in
+        let fixed : c2.fixed ≡ (after_begin c first count).fixed = ok.fixed ∙ ap (λ (z : CoreValue I). z.fixed) begins in
         let places = places_kept of.holds c1.table c2.table ok.held ∙ ap (λ (z : CoreValue I). keys_of z.table) begins in
         let made : finished.events.items ≡ (window_of c first count).events
         = events ∙ (ok.journal ∙ (ap (λ (z : CoreValue I). z.journal ++ (serial_window c.fixed.plan c1.fixed.root c1.fixed.capacity (keys_of c1.cache) c1.fixed.first count).events) begins ∙ ap (λ (s : Serial). s.events) same)) in
@@ -80,7 +78,7 @@ module _ {I : Type 0} (of : HeldGhosts I) where
         )
     window_ends (Err why) finished ok err frames events stop size shapes =
         let stays = ended_stays of c c1 c2 d first count plan begins err.fixed ends_it err.claims err.free err.held in
-        let fixed : c2.fixed ≡ (begun c first count).fixed = err.fixed ∙ ap (λ (z : CoreValue I). z.fixed) begins in
+        let fixed : c2.fixed ≡ (after_begin c first count).fixed = err.fixed ∙ ap (λ (z : CoreValue I). z.fixed) begins in
         let places = places_kept of.holds c1.table c2.table err.held ∙ ap (λ (z : CoreValue I). keys_of z.table) begins in
         let cut = subst (FailedWork c.fixed.plan c.fixed.root 0 why) (sym (events ∙ (err.journal ∙ ap (λ (z : CoreValue I). z.journal ++ err.events) begins))) (subst (λ (z : CoreValue I). FailedWork c.fixed.plan z.fixed.root 0 why err.events) begins err.cut) in
         let now = run (subst (λ (z : Fixed). 0 < z.count) (sym fixed) more) in

@@ -9,8 +9,7 @@ use Rattle.fv_plane.specs.Picture.{Picture}
 use Rattle.fv_plane.specs.declared.key.Key.{Key}
 use Rattle.clip_graph.specs.Plan.{Application}
 use Rattle.clip_graph.specs.Unfolding.{key_picture}
-use Rattle.serve_machine.specs.Keys.{frame_key}
-use Rattle.serve_machine.specs.Windows.{WindowEvents}
+use Rattle.serve_machine.specs.Events.{frame_key, WindowEvents}
 use Rattle.serve_core.specs.declared.answers.Finished.{Finished}
 use Rattle.serve_core.specs.CoreValue.{CoreValue}
 use Rattle.serve_core.specs.Stands.{Stands}
@@ -21,9 +20,8 @@ use Rattle.serve_session.specs.Serving.{Makes, start, one_more}
 use Rattle.serve_worker.specs.declared.instance.Instance.{Instance}
 use Rattle.serve_worker.specs.Instances.{Ends, feed_of, faults_of, holds_of, held_of}
 use Rattle.prefetch.specs.Asked.{window_asked, keys_left, windows_asked}
-use Rattle.prefetch.specs.OneWindow.{Keeps, AddsWindow}
+use Rattle.prefetch.specs.Windows.{Keeps, AddsWindow, frames_at, given, Stays}
 use Rattle.prefetch.specs.SerialWindows.{IsSerialWindow, IsCutSerial}
-use Rattle.prefetch.specs.Windows.{frames_at, given, Stays}
 use Rattle.prefetch.proofs.AskedLemmas.{asked_one}
 use Rattle.prefetch.proofs.RenderLemmas.{keeps_on}
 use Rattle.prefetch.specs.Played.{PlayedValue, StandsForFrames, MakesFrame, StopsInFrame, IsFrameOf}

@@ -1,5 +1,7 @@
 -- What was put of a clip, from what a render of its core leaves.
-use Rattle.std.proofs.Common.{◌≡◌, ◌∙◌, ℕ, zero, suc, ◌<◌, ◌≤◌, ◌==◌, min, Bool, true, false, List, [], ◌++◌, take, map, Option, Some, None, Result, Ok, Err, OnOk, IfErr, refl, inl, inr, sym, ap, subst, arith}
+use Rattle.std.proofs.Common.{◌≡◌, ◌∙◌, ℕ, zero, suc, ◌<◌, ◌≤◌, ◌==◌, min, Bool, true, false, List, [], ◌∷◌, ◌++◌, take, map, Option, Some, None, Result, Ok, Err, OnOk, IfErr, refl, inl, inr, sym, ap, subst, arith}
+use Rattle.std.specs.Prelude.{All}
+use Rattle.std.proofs.lemmas.List.Elements.{All-nil, All-cons, All-head, All-tail}
 use Rattle.std.proofs.lemmas.List.FromFn.{length-map-range_with_len, take-map-range_with_len}
 use Rattle.std.proofs.lemmas.Bool.{eqb-true, eqb-false}
 use Rattle.fv_io.specs.declared.source.Source as of_source
@@ -8,8 +10,8 @@ use Rattle.fv_io.specs.Sink.{Puts, PutsPrefix, SinkFailed, IsLater}
 use Rattle.fv_io.specs.Told.{with_piece}
 use Rattle.fv_io.proofs.CallerLemmas.{with_piece_twice, gets_more, gets_after}
 use Rattle.fv_plane.specs.Bytes.{bytes_of}
-use Rattle.fv_plane.specs.Clip.{Clip}
-use Rattle.fv_plane.specs.Picture.{Picture}
+use Rattle.fv_plane.specs.Clip.{Clip, IsPictureOf}
+use Rattle.fv_plane.specs.Picture.{Picture, IsPicture}
 use Rattle.fv_plane.specs.declared.format.Info.{Info}
 use Rattle.y4m_stream.specs.Head.{head}
 use Rattle.y4m_stream.specs.Stream.{frames_text, stream}
@@ -22,9 +24,8 @@ use Rattle.inst_table.specs.Places.{shared_place}
 use Rattle.serve_machine.specs.declared.event.WindowStop.{WindowStop}
 use Rattle.serve_machine.specs.declared.event.WindowStop.TheVariants as worker
 use Rattle.serve_machine.specs.declared.windows.Record.{Record}
-use Rattle.serve_machine.specs.Keys.{frame_key}
+use Rattle.serve_machine.specs.Events.{frame_key, WindowEvents, windows_of}
 use Rattle.serve_machine.specs.SerialRun.{SerialWindows, one_more_window, windows_after}
-use Rattle.serve_machine.specs.Windows.{WindowEvents, windows_of}
 use Rattle.serve_core.specs.CoreValue.{CoreValue}
 use Rattle.serve_core.specs.Sources.{book_of, faults_of as faults_in}
 use Rattle.serve_core.specs.Stands.{Book, Stands, ExceedsAct}
@@ -34,19 +35,17 @@ use Rattle.serve_worker.specs.Instances.{Ends, feed_of, faults_of, holds_of, hel
 use Rattle.prefetch.specs.declared.stops.RenderStop.{RenderStop}
 use Rattle.prefetch.specs.declared.stops.RenderStop.TheVariants.{Stopped, Write, Memory}
 use Rattle.prefetch.specs.Clips.{pictures_from, clip_at}
-use Rattle.prefetch.specs.Rendered.{Begins}
+use Rattle.prefetch.specs.Rendered.{Begins, EndsInFrame, PutsHead}
 use Rattle.prefetch.specs.Windows.{frames_at, pictures_text, PutsFirst}
 use Rattle.prefetch.proofs.TextLemmas.{text_of_part}
 use Rattle.serve_text.specs.declared.stop.Stop.{Stop}
 use Rattle.serve_text.specs.declared.stop.Stop.TheVariants as of_stop
-use Rattle.prefetch.specs.declared.staff.Hands.{Hands}
-use Rattle.prefetch.specs.declared.stream.Whole.{Whole}
-use Rattle.prefetch.specs.ByWorkers.{IsWholeBy, IsFirstBy}
-use Rattle.prefetch.specs.Renders.{hands_at, RendersBy, StopsBy}
+use Rattle.prefetch.specs.declared.pool_size.Pool.{Pool}
+use Rattle.prefetch.specs.declared.stream.RenderedClip.{RenderedClip}
+use Rattle.prefetch.specs.Journals.{IsWholeBy, IsFirstBy, PutsCount, FailsWithin, CutsShort}
+use Rattle.prefetch.specs.Renders.{pool_at, RendersBy, StopsBy}
 use Rattle.prefetch.specs.StreamClips.{IsClipOf, SomeFailed, PutsFrames, PutsSome, StreamShows}
 use Rattle.prefetch.specs.Cores.{book_at, StandsForSources, IsTold}
-use Rattle.prefetch.specs.Journals.{PutsCount, FailsWithin, CutsShort}
-use Rattle.prefetch.specs.Parts.{EndsInFrame, PutsHead}
 use Rattle.prefetch.specs.Streamed.{IsStreamed}
 use Rattle.prefetch.specs.Streams.{HeadStops, ToldAs, TellsStop, HeadShows}
 
@@ -57,6 +56,13 @@ begins_first book plan root n few = record {
   pictures = sym (ap (λ k. take k (pictures_from book plan root 0 (frames_at plan root))) (length-map-range_with_len (λ i. key_picture book plan (frame_key root i)) 0 n)
       ∙ take-map-range_with_len (λ i. key_picture book plan (frame_key root i)) 0 (frames_at plan root) n few);
 }
+
+-- pictures of a shape that are whole
+all_of : (info : Info) (pictures : List Picture) → All (λ (x : Picture). x.shape ≡ info.shape) pictures → All IsPicture pictures → All (IsPictureOf info) pictures
+all_of info [] shapes whole = All-nil (IsPictureOf info)
+all_of info (x ∷ xs) shapes whole =
+    All-cons (IsPictureOf info) x xs (record { shape = All-head (λ (p : Picture). p.shape ≡ info.shape) x xs shapes; whole = All-head IsPicture x xs whole })
+    (all_of info xs (All-tail (λ (p : Picture). p.shape ≡ info.shape) x xs shapes) (All-tail IsPicture x xs whole))
 
 -- windows of a size go up to the last output
 abbrev GoesTo : ℕ → ℕ → ℕ → Type 0
@@ -84,7 +90,7 @@ next_after plan root capacity size total (suc k) some =
     next_of plan root capacity size total (windows_after k plan root capacity size total []) k some (next_after plan root capacity size total k some)
 
 -- the whole render begins itself
-begins_itself : (plan : List Application) (root capacity : ℕ) (by : Hands) (total : ℕ) (windows : List WindowEvents) → 0 < by.window
+begins_itself : (plan : List Application) (root capacity : ℕ) (by : Pool) (total : ℕ) (windows : List WindowEvents) → 0 < by.window
     → IsWholeBy plan root capacity by total windows → IsFirstBy plan root capacity by total windows total
 begins_itself plan root capacity by total windows some whole = record {
   alone = λ one. record {
@@ -110,22 +116,23 @@ one_failed feed faults book numbers _ x is more = absurd (cc)
 
 module _ {S K : Type 0} (of : of_source.Ghosts S) (sink : Ghosts K) (c : CoreValue (Instance S)) (old mid new : K) (window : ℕ)
     (stands : Stands (feed_of of) (faults_of of) (book_of (feed_of of) c.fixed.plan c.table) (faults_in (faults_of of) c.fixed.plan c.table) c)
-    (headed : Puts sink old mid (head (application_at c.fixed.plan c.fixed.root).info)) where
+    (headed : Puts sink old mid (head (application_at c.fixed.plan c.fixed.root).info)) (quiet : sink.faults mid ≡ sink.faults old) where
   frames_put : (n : ℕ) → n ≤ frames_at c.fixed.plan c.fixed.root → PutsFirst (held_of of) c sink mid new n
       → PutsFrames sink c.fixed.plan c.fixed.root (book_of (feed_of of) c.fixed.plan c.table) old new n
   frames_put n few first = record {
     part = record { info = (application_at c.fixed.plan c.fixed.root).info; pictures = first.pictures };
     info_is = refl;
     count = first.count;
-    shapes = first.shapes;
+    pictures = (let put = first.put in all_of (application_at c.fixed.plan c.fixed.root).info first.pictures first.shapes put.whole);
     begins = λ clip is.
         (let told = subst (λ book. Stands (feed_of of) (faults_of of) book (faults_in (faults_of of) c.fixed.plan c.table) c) is.told stands in
         let same = first.right is.pictures (faults_in (faults_of of) c.fixed.plan c.table) told in
         let part = begins_first is.pictures c.fixed.plan c.fixed.root n few in
         subst (λ whole. Begins (record { info = (application_at c.fixed.plan c.fixed.root).info; pictures = first.pictures }) whole) (sym is.clip_is)
         (subst (λ pictures. Begins (record { info = (application_at c.fixed.plan c.fixed.root).info; pictures = pictures }) (clip_at is.pictures c.fixed.plan c.fixed.root)) (sym same) part));
-    put = first.put ∙ ap (λ told. with_piece told (pictures_text first.pictures)) headed
-        ∙ with_piece_twice (sink.bytes old) (head (application_at c.fixed.plan c.fixed.root).info) (pictures_text first.pictures);
+    put = (let after = first.put in after.put ∙ ap (λ told. with_piece told (pictures_text first.pictures)) headed
+        ∙ with_piece_twice (sink.bytes old) (head (application_at c.fixed.plan c.fixed.root).info) (pictures_text first.pictures));
+    steady = (let after = first.put in after.steady ∙ quiet);
   }
 
   -- all frames, with their journal
@@ -137,13 +144,13 @@ module _ {S K : Type 0} (of : of_source.Ghosts S) (sink : Ghosts K) (c : CoreVal
       → PutsSome sink c.fixed.plan c.fixed.root (book_of (feed_of of) c.fixed.plan c.table) old new
   some_put n few first =
       let frames = frames_put n few first in
-      inr (record { part = frames.part; put = frames.put; begins = frames.begins; has_one = tt })
+      inr (record { part = frames.part; pictures = frames.pictures; put = frames.put; begins = frames.begins; has_one = tt })
 
   count_put : (n : ℕ) → n ≤ frames_at c.fixed.plan c.fixed.root → PutsFirst (held_of of) c sink mid new n
-      → PutsCount c.fixed.plan c.fixed.root c.fixed.capacity (hands_at c window) sink old new (IsClipOf c.fixed.plan c.fixed.root (book_of (feed_of of) c.fixed.plan c.table)) n
+      → PutsCount c.fixed.plan c.fixed.root c.fixed.capacity (pool_at c window) sink old new (IsClipOf c.fixed.plan c.fixed.root (book_of (feed_of of) c.fixed.plan c.table)) n
   count_put n few first =
       let frames = frames_put n few first in
-      record { part = frames.part; info_is = frames.info_is; count = frames.count; begins = frames.begins; put = frames.put }
+      record { part = frames.part; info_is = frames.info_is; pictures = frames.pictures; count = frames.count; begins = frames.begins; put = frames.put }
 
   ends_by : (x : Instance S) (frame want got n : ℕ) → n ≤ frames_at c.fixed.plan c.fixed.root → PutsFirst (held_of of) c sink mid new n
       → Ends of x frame want got → EndsInFrame sink old new frame want got
@@ -158,7 +165,7 @@ module _ {S K : Type 0} (of : of_source.Ghosts S) (sink : Ghosts K) (c : CoreVal
         want_is = ends.want_is;
         early = ends.early;
         part = frames.part;
-        shapes = rw (sym frames.info_is) at frames.shapes;
+        pictures = frames.pictures;
         put = frames.put;
       }
 
@@ -180,7 +187,7 @@ module _ {S K : Type 0} (of : of_source.Ghosts S) (sink : Ghosts K) (c : CoreVal
   within_first : (n : ℕ) → n ≤ frames_at c.fixed.plan c.fixed.root → SinkFailed sink old new
       → ((b : List (List Picture)) (numbers : List ℕ) → Stands (feed_of of) (faults_of of) (Some b) numbers c
       → PutsPrefix sink mid new (pictures_text (pictures_from b c.fixed.plan c.fixed.root 0 n)))
-      → FailsWithin c.fixed.plan c.fixed.root c.fixed.capacity (hands_at c window) sink old new (IsClipOf c.fixed.plan c.fixed.root (book_of (feed_of of) c.fixed.plan c.table)) n
+      → FailsWithin c.fixed.plan c.fixed.root c.fixed.capacity (pool_at c window) sink old new (IsClipOf c.fixed.plan c.fixed.root (book_of (feed_of of) c.fixed.plan c.table)) n
   within_first n few failed cut = record {
     failed = failed;
     cut = λ clip is.
@@ -224,21 +231,21 @@ module _ {S K : Type 0} (of : of_source.Ghosts S) (sink : Ghosts K) (c : CoreVal
 
   -- and of the journal
   cut_short : (log : Record) (d : CoreValue (Instance S)) (stop : RenderStop) (told : Stop) → IsLater sink old mid → StopsBy of c sink mid new window (windows_of log) d stop → ToldAs c.fixed.plan stop told
-      → CutsShort c.fixed.plan c.fixed.root c.fixed.capacity (hands_at c window) sink old new (IsClipOf c.fixed.plan c.fixed.root (book_of (feed_of of) c.fixed.plan c.table)) (TellsStop (Some told) c.fixed.plan) (Some log)
+      → CutsShort c.fixed.plan c.fixed.root c.fixed.capacity (pool_at c window) sink old new (IsClipOf c.fixed.plan c.fixed.root (book_of (feed_of of) c.fixed.plan c.table)) (TellsStop (Some told) c.fixed.plan) (Some log)
   cut_short log d (Stopped why) told later shown is = (Some why, tells_stop c.fixed.plan why told is, record { n = shown.count; few = shown.few; windows = shown.journal; put = inl (count_put shown.count shown.few shown.put) })
   cut_short log d Write told later shown is = (None, inr (inl (ap Some is)), record { n = shown.count; few = shown.few; windows = shown.journal; put = inr (within_first shown.count shown.few (omega (arith, later, shown.failed)) shown.cut) })
   cut_short log d Memory told later shown is = (None, inr (inr (ap Some is)), record { n = shown.count; few = shown.few; windows = shown.journal; put = inl (count_put shown.count shown.few shown.put) })
 
   -- the whole serial run begins the serial run
   whole_short : (log : Record) (d : CoreValue (Instance S)) → 0 < window → RendersBy of c sink mid new window (windows_of log) d
-      → CutsShort c.fixed.plan c.fixed.root c.fixed.capacity (hands_at c window) sink old new (IsClipOf c.fixed.plan c.fixed.root (book_of (feed_of of) c.fixed.plan c.table)) (TellsStop None c.fixed.plan) (Some log)
+      → CutsShort c.fixed.plan c.fixed.root c.fixed.capacity (pool_at c window) sink old new (IsClipOf c.fixed.plan c.fixed.root (book_of (feed_of of) c.fixed.plan c.table)) (TellsStop None c.fixed.plan) (Some log)
   whole_short log d some all = (
     None,
     inl refl,
     record {
       n = frames_at c.fixed.plan c.fixed.root;
       few = omega arith;
-      windows = begins_itself c.fixed.plan c.fixed.root c.fixed.capacity (hands_at c window) (frames_at c.fixed.plan c.fixed.root) (windows_of log) some all.journal;
+      windows = begins_itself c.fixed.plan c.fixed.root c.fixed.capacity (pool_at c window) (frames_at c.fixed.plan c.fixed.root) (windows_of log) some all.journal;
       put = inl (count_put (frames_at c.fixed.plan c.fixed.root) (omega arith) all.put);
     },
   )
@@ -254,21 +261,21 @@ module _ {S K : Type 0} (of : of_source.Ghosts S) (sink : Ghosts K) (c : CoreVal
 
   head_of_all : (log : Record) (d : CoreValue (Instance S)) (told : Option Stop) → RendersBy of c sink mid new window (windows_of log) d
       → HeadShows sink old new (λ info. info ≡ (application_at c.fixed.plan c.fixed.root).info) told (Some log)
-  head_of_all log d told all = let first = all.put in head_then (pictures_text first.pictures) first.put
+  head_of_all log d told all = let first = all.put in let put = first.put in head_then (pictures_text first.pictures) put.put
 
   head_of_stop : (log : Record) (d : CoreValue (Instance S)) (told : Option Stop) (stop : RenderStop) → StopsBy of c sink mid new window (windows_of log) d stop
       → HeadShows sink old new (λ info. info ≡ (application_at c.fixed.plan c.fixed.root).info) told (Some log)
-  head_of_stop log d told (Stopped why) shown = let first = shown.put in head_then (pictures_text first.pictures) first.put
+  head_of_stop log d told (Stopped why) shown = let first = shown.put in let put = first.put in head_then (pictures_text first.pictures) put.put
   head_of_stop log d told Write shown = let begun = shown.begun in head_then begun.0 begun.1
-  head_of_stop log d told Memory shown = let first = shown.put in head_then (pictures_text first.pictures) first.put
+  head_of_stop log d told Memory shown = let first = shown.put in let put = first.put in head_then (pictures_text first.pictures) put.put
 
-  streamed_whole : (log : Record) (d : CoreValue (Instance S)) (all : Whole) → 0 < window → all ≡ record { frames = frames_at c.fixed.plan c.fixed.root; workers = c.fixed.workers; graph = c.fixed.plan } → RendersBy of c sink mid new window (windows_of log) d
-      → IsStreamed (faults_of of) c.fixed.plan c.fixed.root c.fixed.capacity (hands_at c window) (book_at of c) sink old new (Some log) d.table (Ok all)
+  streamed_whole : (log : Record) (d : CoreValue (Instance S)) (all : RenderedClip) → 0 < window → all ≡ record { frames = frames_at c.fixed.plan c.fixed.root; workers = c.fixed.workers; graph = c.fixed.plan } → RendersBy of c sink mid new window (windows_of log) d
+      → IsStreamed (faults_of of) c.fixed.plan c.fixed.root c.fixed.capacity (pool_at c window) (book_at of c) sink old new (Some log) d.table (Ok all)
   streamed_whole log d all some is whole = record {
-    put = subst (PutsFrames sink c.fixed.plan c.fixed.root (book_at of c) old new) (sym (ap (λ (x : Whole). x.frames) is)) (all_put whole);
-    frames = ap (λ (x : Whole). x.frames) is;
-    graph = ap (λ (x : Whole). x.graph) is;
-    workers = ap (λ (x : Whole). x.workers) is;
+    put = subst (PutsFrames sink c.fixed.plan c.fixed.root (book_at of c) old new) (sym (ap (λ (x : RenderedClip). x.frames) is)) (all_put whole);
+    frames = ap (λ (x : RenderedClip). x.frames) is;
+    graph = ap (λ (x : RenderedClip). x.graph) is;
+    workers = ap (λ (x : RenderedClip). x.workers) is;
     stop = tt;
     rendered = record { log = log; there = refl; whole = whole.journal };
     cut = whole_short log d some whole;
@@ -276,7 +283,7 @@ module _ {S K : Type 0} (of : of_source.Ghosts S) (sink : Ghosts K) (c : CoreVal
   }
 
   streamed_short : (log : Record) (d : CoreValue (Instance S)) (why : RenderStop) (told : Stop) → IsLater sink old mid → ToldAs c.fixed.plan why told → StopsBy of c sink mid new window (windows_of log) d why
-      → IsStreamed (faults_of of) c.fixed.plan c.fixed.root c.fixed.capacity (hands_at c window) (book_at of c) sink old new (Some log) d.table (Err told)
+      → IsStreamed (faults_of of) c.fixed.plan c.fixed.root c.fixed.capacity (pool_at c window) (book_at of c) sink old new (Some log) d.table (Err told)
   streamed_short log d why told later is stopped = record {
     put = tt;
     frames = tt;
@@ -288,10 +295,10 @@ module _ {S K : Type 0} (of : of_source.Ghosts S) (sink : Ghosts K) (c : CoreVal
     head = head_of_stop log d (Some told) why stopped;
   }
 
-  streamed_by : (log : Record) (d : CoreValue (Instance S)) (done : Result (Unit {0}) RenderStop) (answer : Result Whole Stop) → 0 < window → IsLater sink old mid
+  streamed_by : (log : Record) (d : CoreValue (Instance S)) (done : Result (Unit {0}) RenderStop) (answer : Result RenderedClip Stop) → 0 < window → IsLater sink old mid
       → OnOk done (RendersBy of c sink mid new window (windows_of log) d) → IfErr done (StopsBy of c sink mid new window (windows_of log) d)
       → IsTold d.fixed.plan d.fixed.workers done (frames_at c.fixed.plan c.fixed.root) c.fixed.plan answer
-      → IsStreamed (faults_of of) c.fixed.plan c.fixed.root c.fixed.capacity (hands_at c window) (book_at of c) sink old new (Some log) d.table answer
+      → IsStreamed (faults_of of) c.fixed.plan c.fixed.root c.fixed.capacity (pool_at c window) (book_at of c) sink old new (Some log) d.table answer
   streamed_by log d (Ok u) (Ok all) some later whole stopped is =
       streamed_whole log d all some (is ∙ ap (λ n. record { frames = frames_at c.fixed.plan c.fixed.root; workers = n; graph = c.fixed.plan }) whole.stays.workers) whole
   streamed_by log d (Ok u) (Err told) some later whole stopped is = absurd is
@@ -330,10 +337,10 @@ module _ {K : Type 0} (sink : Ghosts K) (old new : K) where
 module _ {S K : Type 0} (of : of_source.Ghosts S) (sink : Ghosts K) (c : CoreValue (Instance S)) (window : ℕ) (info : Info) where
   -- what is left where the head was not put whole
   pub streamed_headless : (old new : K) (stop : Stop) (journal : Option Record) → info ≡ (application_at c.fixed.plan c.fixed.root).info → HeadStops sink old new (head info) stop → journal ≡ None
-      → IsStreamed (faults_of of) c.fixed.plan c.fixed.root c.fixed.capacity (hands_at c window) (book_at of c) sink old new journal c.table (Err stop)
+      → IsStreamed (faults_of of) c.fixed.plan c.fixed.root c.fixed.capacity (pool_at c window) (book_at of c) sink old new journal c.table (Err stop)
   streamed_headless old new stop journal same stopped none =
       let there = rw same at stopped in
-      subst (λ j. IsStreamed (faults_of of) c.fixed.plan c.fixed.root c.fixed.capacity (hands_at c window) (book_at of c) sink old new j c.table (Err stop)) (sym none)
+      subst (λ j. IsStreamed (faults_of of) c.fixed.plan c.fixed.root c.fixed.capacity (pool_at c window) (book_at of c) sink old new j c.table (Err stop)) (sym none)
       (record {
         put = tt;
         frames = tt;
@@ -346,10 +353,10 @@ module _ {S K : Type 0} (of : of_source.Ghosts S) (sink : Ghosts K) (c : CoreVal
       })
 
   -- what is left after the head and a render
-  pub streamed : (old mid new : K) (log : Record) (d : CoreValue (Instance S)) (done : Result (Unit {0}) RenderStop) (graph : List Application) (answer : Result Whole Stop)
-      → 0 < window → StandsForSources of c → info ≡ (application_at c.fixed.plan c.fixed.root).info → Puts sink old mid (head info) → IsLater sink old mid → graph ≡ c.fixed.plan
+  pub streamed : (old mid new : K) (log : Record) (d : CoreValue (Instance S)) (done : Result (Unit {0}) RenderStop) (graph : List Application) (answer : Result RenderedClip Stop)
+      → 0 < window → StandsForSources of c → info ≡ (application_at c.fixed.plan c.fixed.root).info → Puts sink old mid (head info) → sink.faults mid ≡ sink.faults old → IsLater sink old mid → graph ≡ c.fixed.plan
       → OnOk done (RendersBy of c sink mid new window (windows_of log) d) → IfErr done (StopsBy of c sink mid new window (windows_of log) d) → IsTold d.fixed.plan d.fixed.workers done info.frames graph answer
-      → IsStreamed (faults_of of) c.fixed.plan c.fixed.root c.fixed.capacity (hands_at c window) (book_at of c) sink old new (Some log) d.table answer
-  streamed old mid new log d done graph answer some stands same headed later graph_is whole stopped is =
-      streamed_by of sink c old mid new window stands (rw same at headed) log d done answer some later whole stopped
+      → IsStreamed (faults_of of) c.fixed.plan c.fixed.root c.fixed.capacity (pool_at c window) (book_at of c) sink old new (Some log) d.table answer
+  streamed old mid new log d done graph answer some stands same headed quiet later graph_is whole stopped is =
+      streamed_by of sink c old mid new window stands (rw same at headed) quiet log d done answer some later whole stopped
       (subst (λ frames. IsTold d.fixed.plan d.fixed.workers done frames c.fixed.plan answer) (ap (λ (i : Info). i.frames) same) (subst (λ g. IsTold d.fixed.plan d.fixed.workers done info.frames g answer) graph_is is))

@@ -8,17 +8,16 @@ use Rattle.clip_graph.specs.Plan.{Application, IsPlan}
 use Rattle.clip_graph.specs.Unfolding.{key_picture}
 use Rattle.inst_table.specs.declared.held.Held.{Ghosts as HeldGhosts}
 use Rattle.serve_machine.specs.declared.event.WindowStop.{WindowStop}
-use Rattle.serve_machine.specs.Keys.{frame_key}
+use Rattle.serve_machine.specs.Events.{frame_key}
 use Rattle.serve_core.specs.declared.answers.Finished.{Finished}
-use Rattle.serve_core.specs.Calls.{begun, ended}
+use Rattle.serve_core.specs.Calls.{after_begin, after_end}
 use Rattle.serve_core.specs.CoreValue.{CoreValue, Fixed}
 use Rattle.serve_core.specs.Sources.{shape_at, faults_of}
 use Rattle.serve_core.specs.Stands.{Book, Stands, StopFits, EndShows, CallsStand}
 use Rattle.serve_core.proofs.Standing.{calls_stand}
 use Rattle.serve_core.specs.Tables.{AllFree, held_in, counts_in}
 use Rattle.prefetch.specs.Clips.{pictures_from}
-use Rattle.prefetch.specs.OneWindow.{WindowDelivered, WindowStopped}
-use Rattle.prefetch.specs.Windows.{given, Stays}
+use Rattle.prefetch.specs.Windows.{WindowDelivered, WindowStopped, given, Stays}
 
 given_count : (frames : List (Option Picture)) → ((j : ℕ) → j < length frames → (x : Picture) × (slice_get frames j ≡ Some (Some x))) → length (given frames) ≡ length frames
 given_count [] all = refl
@@ -41,11 +40,11 @@ given_right b plan root (Some x ∷ xs) at all right =
     λ i. here i ∷ rest i
 
 module _ {I : Type 0} (of : HeldGhosts I) (c c1 c2 d : CoreValue I) (first count : ℕ) (plan : IsPlan c.fixed.plan)
-    (begins : c1 ≡ begun c first count) (same : c2.fixed ≡ c1.fixed) (ends_it : d ≡ ended c2) where
+    (begins : c1 ≡ after_begin c first count) (same : c2.fixed ≡ c1.fixed) (ends_it : d ≡ after_end c2) where
   law : CallsStand of.feed of.faults
   law = calls_stand of.feed of.faults
 
-  fixed : c2.fixed ≡ (begun c first count).fixed
+  fixed : c2.fixed ≡ (after_begin c first count).fixed
   fixed = same ∙ ap (λ (z : CoreValue I). z.fixed) begins
 
   -- the counts of faults when the window began

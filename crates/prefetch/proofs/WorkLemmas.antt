@@ -7,19 +7,14 @@ use Rattle.serve_machine.specs.declared.event.Event.{Event}
 use Rattle.serve_machine.specs.declared.event.Event.TheVariants.{Hit, Claim, Enter, Leave, Evict, Publish, Abandon, Take, Deliver, Fail}
 use Rattle.serve_machine.specs.declared.event.WindowStop.{WindowStop}
 use Rattle.serve_machine.specs.declared.event.WindowStop.TheVariants.{Read, Changed}
-use Rattle.serve_machine.specs.Events.{worker_of}
-use Rattle.serve_machine.specs.Own.{own_events, names_source}
-use Rattle.serve_machine.specs.Work.{FailedWork, failed, StoppedWork, CutWork}
-use Rattle.serve_machine.specs.Closing.{nothing}
+use Rattle.serve_machine.specs.Events.{worker_of, own_events, names_source}
+use Rattle.serve_machine.specs.Work.{FailedWork, failed, StoppedWork, CutWork, nothing, DeliversAll, IsWork}
 use Rattle.serve_machine.specs.Holdings.{Holdings, holdings_after, own_holdings, next_holdings}
-use Rattle.serve_machine.specs.Stops.{stop_of, earlier, first_stop, is_read, has_read, is_changed, has_changed}
-use Rattle.serve_machine.specs.Machine.{Machine, meets, allowed, change, replay}
-use Rattle.serve_machine.specs.State.{State}
+use Rattle.serve_machine.specs.Machine.{stop_of, earlier, first_stop, is_read, has_read, is_changed, has_changed, Machine, meets, allowed, change, replay, State}
 use Rattle.inst_table.proofs.CallerLemmas.{test}
 use Rattle.serve_machine.proofs.KeyLemmas.{left_true, right_true}
 use Rattle.serve_machine.proofs.ClosingLemmas.{work_closes}
 use Rattle.serve_machine.proofs.TruthLemmas.{or_true, some_same}
-use Rattle.serve_machine.specs.Worked.{DeliversAll, IsWork}
 
 -- STOPS
 

@@ -20,8 +20,7 @@ use Rattle.serve_core.specs.Stands.{Book}
 use Rattle.serve_machine.specs.declared.event.Event.{Event}
 use Rattle.serve_machine.specs.declared.event.WindowStop.{WindowStop}
 use Rattle.serve_machine.specs.declared.windows.Record.{Record}
-use Rattle.serve_machine.specs.Own.{names_source}
-use Rattle.serve_machine.specs.Windows.{WindowEvents, windows_of}
+use Rattle.serve_machine.specs.Events.{names_source, WindowEvents, windows_of}
 use Rattle.serve_machine.specs.Work.{FailedWork}
 use Rattle.prefetch.specs.Asked.{windows_asked}
 use Rattle.prefetch.specs.Windows.{frames_at}

@@ -3,7 +3,7 @@ use Rattle.std.specs.Prelude.{ℕ, List, [], ◌∷◌}
 use Rattle.fv_plane.specs.declared.key.Key.{Key}
 use Rattle.clip_graph.specs.Plan.{Application}
 use Rattle.serve_machine.specs.SerialRun.{serial_window}
-use Rattle.serve_machine.specs.Windows.{WindowEvents}
+use Rattle.serve_machine.specs.Events.{WindowEvents}
 
 module _ (plan : List Application) (root capacity : ℕ) where
   -- the window of an output, and the keys that are cached after it

@@ -5,7 +5,7 @@ use Rattle.fv_plane.specs.Clip.{Clip}
 use Rattle.fv_plane.specs.Picture.{Picture}
 use Rattle.clip_graph.specs.Plan.{Application, application_at}
 use Rattle.clip_graph.specs.Unfolding.{key_picture}
-use Rattle.serve_machine.specs.Keys.{frame_key}
+use Rattle.serve_machine.specs.Events.{frame_key}
 
 -- so many of the node's pictures from a number on, by the pictures of the sources
 abbrev pub pictures_from : List (List Picture) → List Application → ℕ → ℕ → ℕ → List Picture

@@ -11,8 +11,8 @@ use Rattle.serve_worker.specs.declared.instance.Instance.{Instance}
 use Rattle.serve_worker.specs.Instances.{feed_of, faults_of}
 use Rattle.prefetch.specs.declared.stops.RenderStop.{RenderStop}
 use Rattle.serve_text.specs.declared.stop.Stop.{Stop}
-use Rattle.prefetch.specs.declared.staff.Hands.{Hands}
-use Rattle.prefetch.specs.declared.stream.Whole.{Whole}
+use Rattle.prefetch.specs.declared.pool_size.Pool.{Pool}
+use Rattle.prefetch.specs.declared.stream.RenderedClip.{RenderedClip}
 use Rattle.prefetch.specs.StreamClips.{book_told}
 use Rattle.prefetch.specs.Streams.{ToldAs}
 
@@ -26,7 +26,7 @@ module _ {S : Type 0} (of : Ghosts S) (c : CoreValue (Instance S)) where
   StandsForSources = Stands (feed_of of) (faults_of of) book_at (faults_in (faults_of of) c.fixed.plan c.table) c
 
   -- a core of this graph and these sources, between windows, that has cached nothing
-  pub record IsCoreOf (plan : List Application) (root capacity : ℕ) (by : Hands) (sources : List (FrameSource S)) : Type 0 where
+  pub record IsCoreOf (plan : List Application) (root capacity : ℕ) (by : Pool) (sources : List (FrameSource S)) : Type 0 where
     pub plan_is : c.fixed.plan ≡ plan
     pub root_is : c.fixed.root ≡ root
     pub capacity_is : c.fixed.capacity ≡ capacity
@@ -39,7 +39,7 @@ module _ {S : Type 0} (of : Ghosts S) (c : CoreValue (Instance S)) where
     pub stands : StandsForSources
 
 -- how a render by so many workers that is over is told
-abbrev pub IsTold : List Application → ℕ → Result (Unit {0}) RenderStop → ℕ → List Application → Result Whole Stop → Type 0
+abbrev pub IsTold : List Application → ℕ → Result (Unit {0}) RenderStop → ℕ → List Application → Result RenderedClip Stop → Type 0
 IsTold plan workers (Ok u) frames graph (Ok all) =
     all ≡ record { frames = frames; workers = workers; graph = graph }
 IsTold plan workers (Ok u) frames graph (Err stop) = ⊥

@@ -1,5 +1,5 @@
 -- Windows by several workers: their seats at the lock, and the runs that they leave.
-use Rattle.std.specs.Prelude.{◌≡◌, ℕ, ◌+◌, ◌<◌, ◌≤◌, false, List, [], Contains, slice_get, Some, IfSome}
+use Rattle.std.specs.Prelude.{◌≡◌, ℕ, ◌+◌, ◌<◌, ◌≤◌, false, List, [], Contains, slice_get, Some, IfSome, ◌⊎◌, Option}
 use Rattle.std.specs.Map.{keys_of}
 use Rattle.clip_graph.specs.Plan.{Application}
 use Rattle.inst_table.specs.declared.held.Held.{Ghosts as HeldGhosts}
@@ -7,17 +7,21 @@ use Rattle.turn_lock.specs.declared.view.Ended.{Ended}
 use Rattle.turn_lock.specs.SeatView.{TableId}
 use Rattle.serve_machine.specs.declared.event.Event.{Event}
 use Rattle.serve_machine.specs.declared.event.WindowStop.{WindowStop}
-use Rattle.serve_machine.specs.Own.{own_events}
-use Rattle.serve_machine.specs.Windows.{WindowEvents}
-use Rattle.serve_machine.specs.State.{State}
+use Rattle.serve_machine.specs.Events.{own_events, WindowEvents}
+use Rattle.serve_machine.specs.Machine.{State}
 use Rattle.serve_core.specs.CoreValue.{CoreValue}
 use Rattle.serve_core.specs.Runs.{keys_alone}
-use Rattle.serve_core.specs.Steady.{IsSteady}
-use Rattle.serve_core.specs.Turns.{StandsFor}
+use Rattle.serve_core.specs.Turns.{IsSteady, StandsFor}
 use Rattle.serve_shared.specs.Seats.{CoreSeat, HasWorker, IsSeat}
-use Rattle.serve_machine.specs.Worked.{IsWork}
-use Rattle.serve_machine.specs.CrewJournal.{IsWholeWindow, IsCutWindow, AreWhole}
-use Rattle.prefetch.specs.Windows.{frames_at}
+use Rattle.serve_machine.specs.Work.{IsWork}
+use Rattle.serve_machine.specs.Journals.{IsWholeWindow, IsCutWindow, AreWhole}
+use Rattle.prefetch.specs.Windows.{frames_at, WindowStopped, AddsWindow, CutsWindow, given, pictures_text, PutsPictures}
+use Rattle.fv_io.specs.declared.sink.Sink.{Ghosts}
+use Rattle.fv_io.specs.Sink.{Puts, PutsPrefix, SinkFailed}
+use Rattle.fv_plane.specs.Picture.{Picture}
+use Rattle.serve_core.specs.declared.answers.Finished.{Finished}
+use Rattle.prefetch.specs.declared.stops.RenderStop.{RenderStop}
+use Rattle.prefetch.specs.declared.stops.RenderStop.TheVariants.{Stopped, Write, Memory}
 
 -- the seat of this number was joined: its events are work, by all that it had seen
 pub record HasWorked (plan : List Application) (root count w : ℕ) (ended : List (Ended Event)) : Type 0 where
@@ -97,3 +101,41 @@ module _ {I : Type 0} where
       pub whole : AreWhole c.fixed.plan c.fixed.root c.fixed.capacity c.fixed.workers (keys_of c.table) size
           (frames_at c.fixed.plan c.fixed.root) windows n (keys_alone (keys_of d.cache))
       pub places : keys_of d.table ≡ keys_of c.table
+
+-- ---- A window by several workers, while the frames of the window before it are put.
+
+module _ {I : Type 0} (of : HeldGhosts I) (c : CoreValue I) (first count : ℕ) (log longer : List WindowEvents)
+    (d : CoreValue I) where
+  -- the window is whole, and stands in the journal
+  abbrev pub AddsCrewWindow : Finished → Type 0
+  AddsCrewWindow = AddsWindow of c (IsCrewWindow c first count) (IsCutCrew c first count)
+      first count log longer d
+
+  -- it was cut short, and stands in the journal
+  abbrev pub CutsCrewWindow : WindowStop → Type 0
+  CutsCrewWindow = CutsWindow of c (IsCrewWindow c first count) (IsCutCrew c first count)
+      first count log longer d
+
+  -- it could not begin, or was cut short, and is left out of the journal
+  abbrev pub LeavesOut : Type 0
+  LeavesOut = (longer ≡ log) × ((d ≡ c) ⊎ ((why : WindowStop) × WindowStopped of c why d))
+
+  module _ {K : Type 0} (sink : Ghosts K) (before : List (Option Picture)) (old new : K) where
+    -- the frames before were put, and the window is whole: these are its frames
+    pub record MakesNext (frames : List (Option Picture)) : Type 0 where
+      pub finished : Finished
+      pub adds : AddsCrewWindow finished
+      pub frames_are : frames ≡ finished.frames.items
+      pub put : PutsPictures sink old new (given before)
+
+    -- they were not put whole, since the sink failed
+    pub record FailsBefore : Type 0 where
+      pub failed : SinkFailed sink old new
+      pub cut : PutsPrefix sink old new (pictures_text (given before))
+      pub window : ((finished : Finished) × AddsCrewWindow finished) ⊎ LeavesOut
+
+    -- they were put, and the window was cut short, or could not begin
+    abbrev pub NextShows : RenderStop → Type 0
+    NextShows (Stopped why) = CutsCrewWindow why × PutsPictures sink old new (given before)
+    NextShows Write = FailsBefore
+    NextShows Memory = (longer ≡ log) × (d ≡ c) × PutsPictures sink old new (given before)

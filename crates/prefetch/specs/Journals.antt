@@ -1,19 +1,47 @@
--- The journal of a render, and what was put beside it.
-use Rattle.std.specs.Prelude.{◌≡◌, ◌⊎◌, ℕ, ◌≤◌, length, take, List, Option, Some, None}
+-- The journal of a render, by the number of its workers: one worker makes the serial run, and several make runs of the
+-- machine in which each does whole work. The whole serial run is of such runs too.
+use Rattle.std.specs.Prelude.{◌≡◌, ℕ, ◌<◌, true, List, Option, Some, None, ◌⊎◌, ◌≤◌, length, take, All}
+use Rattle.clip_graph.specs.Plan.{Application, application_at}
+use Rattle.inst_table.specs.declared.place.Place.{Place}
+use Rattle.serve_machine.specs.declared.event.WindowStop.{WindowStop}
+use Rattle.serve_machine.specs.Events.{names_source, WindowEvents, windows_of}
+use Rattle.serve_machine.specs.Journals.{AreFirst, AreCut, IsWholeJournal, AreCrewFirst, AreCrewCut}
+use Rattle.prefetch.specs.declared.pool_size.Pool.{Pool}
 use Rattle.fv_io.specs.declared.sink.Sink.{Ghosts}
 use Rattle.fv_io.specs.Sink.{Puts, PutsPrefix, SinkFailed}
-use Rattle.fv_plane.specs.Clip.{Clip}
+use Rattle.fv_plane.specs.Clip.{Clip, IsPictureOf}
 use Rattle.y4m_stream.specs.Stream.{stream}
-use Rattle.clip_graph.specs.Plan.{Application, application_at}
-use Rattle.serve_machine.specs.declared.event.WindowStop.{WindowStop}
 use Rattle.serve_machine.specs.declared.windows.Record.{Record}
-use Rattle.serve_machine.specs.Windows.{windows_of}
 use Rattle.prefetch.specs.Rendered.{Begins}
 use Rattle.prefetch.specs.Windows.{frames_at}
-use Rattle.prefetch.specs.declared.staff.Hands.{Hands}
-use Rattle.prefetch.specs.ByWorkers.{IsWholeBy, IsJournalBy}
 
-module _ (plan : List Application) (root capacity : ℕ) (by : Hands) where
+module _ (plan : List Application) (root capacity : ℕ) (by : Pool) (total : ℕ) where
+  -- the windows of the whole render
+  pub record IsWholeBy (windows : List WindowEvents) : Type 0 where
+    pub alone : by.workers ≡ 1 → IsWholeJournal plan root capacity by.window total windows
+    pub crew : 0 < by.workers
+        → (places : List Place) × AreCrewFirst plan root capacity by.workers places by.window total windows total
+
+  -- whole windows with the first n outputs
+  pub record IsFirstBy (windows : List WindowEvents) (n : ℕ) : Type 0 where
+    pub alone : by.workers ≡ 1 → AreFirst plan root capacity by.window total windows n
+    pub crew : 0 < by.workers
+        → (places : List Place) × AreCrewFirst plan root capacity by.workers places by.window total windows n
+
+  -- and after them one that this stop cut short
+  pub record IsCutBy (why : WindowStop) (windows : List WindowEvents) (n : ℕ) : Type 0 where
+    pub named : names_source plan why ≡ true
+    pub alone : by.workers ≡ 1 → AreCut plan root capacity by.window total why windows n
+    pub crew : 0 < by.workers
+        → (places : List Place) × AreCrewCut plan root capacity by.workers places by.window total why windows n
+
+  abbrev pub IsJournalBy : Option WindowStop → List WindowEvents → ℕ → Type 0
+  IsJournalBy None windows n = IsFirstBy windows n
+  IsJournalBy (Some why) windows n = IsCutBy why windows n
+
+-- ---- The journal of a render, and what was put beside it.
+
+module _ (plan : List Application) (root capacity : ℕ) (by : Pool) where
   -- the journal is that of a whole render, from an empty cache
   pub record IsRendered (journal : Option Record) : Type 0 where
     pub log : Record
@@ -25,6 +53,7 @@ module _ (plan : List Application) (root capacity : ℕ) (by : Hands) where
     pub record PutsCount (n : ℕ) : Type 0 where
       pub part : Clip
       pub info_is : part.info ≡ (application_at plan root).info
+      pub pictures : All (IsPictureOf part.info) part.pictures
       pub count : length part.pictures ≡ n
       pub begins : (clip : Clip) → IsIts clip → Begins part clip
       pub put : Puts sink old new (stream part)

@@ -7,17 +7,15 @@ use Rattle.fv_plane.specs.Picture.{Picture}
 use Rattle.clip_graph.specs.Plan.{Application, application_at}
 use Rattle.clip_graph.specs.Unfolding.{key_picture}
 use Rattle.serve_machine.specs.declared.event.WindowStop.{WindowStop}
-use Rattle.serve_machine.specs.Keys.{frame_key}
-use Rattle.serve_machine.specs.Windows.{WindowEvents}
+use Rattle.serve_machine.specs.Events.{frame_key, WindowEvents}
 use Rattle.serve_core.specs.CoreValue.{CoreValue}
 use Rattle.serve_core.specs.Stands.{Stands}
 use Rattle.serve_worker.specs.declared.instance.Instance.{Instance}
 use Rattle.serve_worker.specs.Instances.{Ends, feed_of, faults_of, holds_of, held_of}
 use Rattle.serve_text.specs.InfoText.{clip_line}
 use Rattle.prefetch.specs.Asked.{window_asked, keys_left}
-use Rattle.prefetch.specs.OneWindow.{Keeps, CutsWindow}
+use Rattle.prefetch.specs.Windows.{Keeps, CutsWindow, frames_at}
 use Rattle.prefetch.specs.SerialWindows.{IsSerialWindow, IsCutSerial}
-use Rattle.prefetch.specs.Windows.{frames_at}
 
 -- what contracts see of one that is played
 pub record PlayedValue (I : Type 0) : Type 0 where

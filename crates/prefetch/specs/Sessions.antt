@@ -3,7 +3,7 @@ use Rattle.std.specs.Prelude.{◌≡◌, true, List, Option, Some, None, Result,
 use Rattle.fv_session.specs.declared.request.SessionFault.TheVariants as of_fault
 use Rattle.clip_graph.specs.Plan.{Application}
 use Rattle.serve_machine.specs.declared.event.WindowStop.{WindowStop}
-use Rattle.serve_machine.specs.Own.{names_source}
+use Rattle.serve_machine.specs.Events.{names_source}
 use Rattle.prefetch.specs.declared.stops.RenderStop.TheVariants as of_render
 use Rattle.serve_session.specs.declared.player.PlayStop.TheVariants as of_play
 use Rattle.serve_session.specs.declared.serving.ServeStop.{ServeStop}

@@ -3,7 +3,7 @@ use Rattle.std.specs.Prelude.{◌≡◌, ℕ, ◌≤◌, List, length, map, All,
 use Rattle.fv_io.specs.declared.source.Source as of_source
 use Rattle.fv_io.specs.declared.sink.Sink.{Ghosts}
 use Rattle.fv_io.specs.Sink.{Puts, PutsPrefix, SinkFailed}
-use Rattle.fv_plane.specs.Clip.{Clip}
+use Rattle.fv_plane.specs.Clip.{Clip, IsPictureOf}
 use Rattle.fv_plane.specs.Picture.{Picture}
 use Rattle.y4m_stream.specs.Stream.{stream}
 use Rattle.seq_source.specs.FrameSource.{FrameSource, frames_of}
@@ -15,10 +15,9 @@ use Rattle.inst_table.specs.Places.{slot_at}
 use Rattle.serve_core.specs.Sources.{all_told}
 use Rattle.serve_core.specs.Stands.{Book}
 use Rattle.prefetch.specs.Clips.{clip_at}
-use Rattle.prefetch.specs.Rendered.{Begins}
+use Rattle.prefetch.specs.Rendered.{Begins, PutsWholeFrames, EndsInFrame}
 use Rattle.serve_text.specs.declared.stop.Stop.{Stop}
 use Rattle.serve_text.specs.declared.stop.Stop.TheVariants as of_stop
-use Rattle.prefetch.specs.Parts.{PutsWholeFrames, EndsInFrame}
 
 -- the frames of each source by its number, where all are told
 abbrev pub book_told : {S : Type 0} → of_source.Ghosts S → List (FrameSource S) → Book
@@ -38,14 +37,15 @@ pub record SomeFailed {I : Type 0} (faults : I → ℕ) (table : List (Place × 
   pub failed : 1 ≤ faults instance
 
 module _ {K : Type 0} (sink : Ghosts K) (plan : List Application) (root : ℕ) (book : Book) (old new : K) where
-  -- the head and the first n frames were put
+  -- the head and the first n frames were put, and no fault of the sink was counted
   pub record PutsFrames (n : ℕ) : Type 0 where
     pub part : Clip
     pub info_is : part.info ≡ (application_at plan root).info
     pub count : length part.pictures ≡ n
-    pub shapes : All (λ p. p.shape ≡ (application_at plan root).info.shape) part.pictures
+    pub pictures : All (IsPictureOf part.info) part.pictures
     pub begins : (clip : Clip) → IsClipOf plan root book clip → Begins part clip
     pub put : Puts sink old new (stream part)
+    pub steady : sink.faults new ≡ sink.faults old
 
   abbrev pub PutsSome : Type 0
   PutsSome = PutsWholeFrames sink old new (IsClipOf plan root book) (Unit {0})

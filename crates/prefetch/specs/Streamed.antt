@@ -8,16 +8,16 @@ use Rattle.serve_core.specs.Stands.{Book}
 use Rattle.serve_machine.specs.declared.windows.Record.{Record}
 use Rattle.prefetch.specs.Windows.{frames_at}
 use Rattle.serve_text.specs.declared.stop.Stop.{Stop}
-use Rattle.prefetch.specs.declared.staff.Hands.{Hands}
-use Rattle.prefetch.specs.declared.stream.Whole.{Whole}
+use Rattle.prefetch.specs.declared.pool_size.Pool.{Pool}
+use Rattle.prefetch.specs.declared.stream.RenderedClip.{RenderedClip}
 use Rattle.prefetch.specs.StreamClips.{IsClipOf, PutsFrames, StreamShows}
 use Rattle.prefetch.specs.Journals.{IsRendered, CutsShort}
 use Rattle.prefetch.specs.Streams.{stop_in, TellsStop, HeadShows}
 
--- the stream of the clip at the root of a plan, over the frames that its sources tell, with these hands
-module _ {I K : Type 0} (faults : I → ℕ) (plan : List Application) (root capacity : ℕ) (by : Hands) (book : Book)
+-- the stream of the clip at the root of a plan, over the frames that its sources tell, with this pool of workers
+module _ {I K : Type 0} (faults : I → ℕ) (plan : List Application) (root capacity : ℕ) (by : Pool) (book : Book)
     (sink : Ghosts K) (old new : K) where
-  pub record IsStreamed (journal : Option Record) (table : List (Place × Slot I)) (done : Result Whole Stop) : Type 0 where
+  pub record IsStreamed (journal : Option Record) (table : List (Place × Slot I)) (done : Result RenderedClip Stop) : Type 0 where
     -- the head and all frames were put, or what stopped it
     pub put : IfOk done (λ all. PutsFrames sink plan root book old new all.frames)
     pub frames : IfOk done (λ all. all.frames ≡ frames_at plan root)

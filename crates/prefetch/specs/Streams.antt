@@ -10,12 +10,12 @@ use Rattle.clip_graph.specs.Plan.{Application, application_at}
 use Rattle.serve_machine.specs.declared.event.WindowStop.{WindowStop}
 use Rattle.serve_machine.specs.declared.event.WindowStop.TheVariants as worker
 use Rattle.serve_machine.specs.declared.windows.Record.{Record}
-use Rattle.serve_machine.specs.Own.{names_source}
+use Rattle.serve_machine.specs.Events.{names_source}
 use Rattle.prefetch.specs.declared.stops.RenderStop.{RenderStop}
 use Rattle.prefetch.specs.declared.stops.RenderStop.TheVariants.{Stopped, Write, Memory}
 use Rattle.serve_text.specs.declared.stop.Stop.{Stop}
 use Rattle.serve_text.specs.declared.stop.Stop.TheVariants as of_stop
-use Rattle.prefetch.specs.Parts.{PutsHead, PutsNoHead}
+use Rattle.prefetch.specs.Rendered.{PutsHead, PutsNoHead}
 
 -- why a head was not put whole
 abbrev pub HeadStops : {K : Type 0} → Ghosts K → K → K → List ℕ → Stop → Type 0

@@ -1,16 +1,16 @@
--- Windows of outputs, one after the other, and the frames that are put of them.
-use Rattle.std.specs.Prelude.{◌≡◌, ℕ, ◌≤◌, List, [], ◌∷◌, length, map, All, Option, Some, None}
+-- Windows of outputs, one after the other, and the frames that are put of them; what one window leaves.
+use Rattle.std.specs.Prelude.{◌≡◌, ℕ, ◌≤◌, List, [], ◌∷◌, length, map, All, Option, Some, None, ◌++◌, Result, OnOk, OnErr}
 use Rattle.std.specs.Map.{keys_of}
 use Rattle.fv_io.specs.declared.sink.Sink.{Ghosts}
-use Rattle.fv_io.specs.Sink.{Puts, PutsPrefix, SinkFailed}
+use Rattle.fv_io.specs.Sink.{Puts, PutsPrefix, SinkFailed, IsLater}
 use Rattle.fv_plane.specs.declared.format.Info.{Info}
 use Rattle.fv_plane.specs.Bytes.{bytes_of}
-use Rattle.fv_plane.specs.Picture.{Picture}
+use Rattle.fv_plane.specs.Picture.{Picture, IsPicture}
 use Rattle.y4m_stream.specs.Stream.{frames_text}
 use Rattle.clip_graph.specs.Plan.{Application, application_at}
 use Rattle.inst_table.specs.declared.held.Held.{Ghosts as HeldGhosts}
 use Rattle.serve_machine.specs.declared.event.WindowStop.{WindowStop}
-use Rattle.serve_machine.specs.Windows.{WindowEvents}
+use Rattle.serve_machine.specs.Events.{WindowEvents}
 use Rattle.serve_core.specs.CoreValue.{CoreValue}
 use Rattle.serve_core.specs.Sources.{shape_at}
 use Rattle.serve_core.specs.Stands.{Book, Stands, StopFits, EndShows}
@@ -18,7 +18,10 @@ use Rattle.serve_core.specs.Tables.{AllFree, held_in, counts_in}
 use Rattle.prefetch.specs.declared.stops.RenderStop.{RenderStop}
 use Rattle.prefetch.specs.declared.stops.RenderStop.TheVariants.{Stopped, Write, Memory}
 use Rattle.prefetch.specs.Clips.{pictures_from}
-use Rattle.serve_machine.specs.CrewJournal.{AreCrewFirst, AreCrewCut, IsAloneJournal, AreAloneFirst, AreAloneCut}
+use Rattle.serve_machine.specs.Journals.{AreCrewFirst, AreCrewCut, IsAloneJournal, AreAloneFirst, AreAloneCut}
+use Rattle.fv_io.specs.declared.source.Failed.{Failed}
+use Rattle.serve_machine.specs.declared.event.Event.{Event}
+use Rattle.serve_core.specs.declared.answers.Finished.{Finished}
 
 -- the frames that are there
 abbrev pub given : {A : Type 0} → List (Option A) → List A
@@ -29,6 +32,12 @@ given (Some x ∷ xs) = x ∷ given xs
 -- the texts of pictures, one after the other
 abbrev pub pictures_text : List Picture → List ℕ
 pictures_text pictures = frames_text (map bytes_of pictures)
+
+-- these pictures were put, each of them whole, and no fault of the sink was counted
+pub record PutsPictures {K : Type 0} (sink : Ghosts K) (old new : K) (pictures : List Picture) : Type 0 where
+  pub put : Puts sink old new (pictures_text pictures)
+  pub whole : All IsPicture pictures
+  pub steady : sink.faults new ≡ sink.faults old
 
 -- the number of the root's frames
 abbrev pub frames_at : List Application → ℕ → ℕ
@@ -63,7 +72,7 @@ module _ {I : Type 0} (of : HeldGhosts I) (c : CoreValue I) where
         pub shapes : All (λ (x : Picture). x.shape ≡ shape_at c.fixed.plan c.fixed.root) pictures
         pub right : (b : List (List Picture)) (numbers : List ℕ) → Stands of.feed of.faults (Some b) numbers c
             → pictures ≡ pictures_from b c.fixed.plan c.fixed.root 0 n
-        pub put : Puts sink old new (pictures_text pictures)
+        pub put : PutsPictures sink old new pictures
 
       -- all frames were put, no instance has failed, and the journal is of a kind
       pub record AllRendered (IsWhole : List WindowEvents → Type 0) (windows : List WindowEvents) (d : CoreValue I)
@@ -137,3 +146,104 @@ module _ {I : Type 0} (of : HeldGhosts I) (c : CoreValue I) where
           (frames_at c.fixed.plan c.fixed.root))
           (AreCrewCut c.fixed.plan c.fixed.root c.fixed.capacity c.fixed.workers (keys_of c.table) size
           (frames_at c.fixed.plan c.fixed.root)) windows d stop
+
+-- ---- What one window leaves, and what of it is put.
+
+-- the journal with a window more
+abbrev pub with_window : List WindowEvents → ℕ → ℕ → List Event → List WindowEvents
+with_window log first count events = log ++ record { first = first; count = count; events = events } ∷ []
+
+module _ {K : Type 0} (sink : Ghosts K) (old new : K) where
+  -- frames were put, or the sink failed before all were
+  pub record PutsFrames (frames : List (Option Picture)) (ended : Result (Unit {0}) Failed) : Type 0 where
+    pub put : OnOk ended (PutsPictures sink old new (given frames))
+    pub cut : OnErr ended (PutsPrefix sink old new (pictures_text (given frames)))
+    pub failed : OnErr ended (SinkFailed sink old new)
+    pub later : IsLater sink old new
+
+  -- the frames of a window without a stop were put
+  abbrev pub PutsFinished : Finished → Type 0
+  PutsFinished finished = (finished.stop ≡ None) × PutsPictures sink old new (given finished.frames.items)
+
+  -- why they were not: nothing is put of a window with a stop, or the sink failed
+  abbrev pub PutStops : Finished → RenderStop → Type 0
+  PutStops finished (Stopped why) = (finished.stop ≡ Some why) × (new ≡ old)
+  PutStops finished Write = (finished.stop ≡ None) × SinkFailed sink old new
+      × PutsPrefix sink old new (pictures_text (given finished.frames.items))
+  PutStops finished Memory = ⊥
+
+module _ {I : Type 0} (of : HeldGhosts I) (c : CoreValue I) where
+  -- a core between windows, which stands for what c stood, and in which each instance has failed as often as in c
+  pub record Keeps (d : CoreValue I) : Type 0 where
+    pub stays : Stays of.holds c d
+    pub stands : (book : Book) (numbers : List ℕ) → Stands of.feed of.faults book numbers c
+        → StandsStill of (λ now. Unit {0}) book d
+    pub steady : counts_in of.faults d.table ≡ counts_in of.faults c.table
+
+  -- all outputs of a window are delivered
+  pub record WindowDelivered (first count : ℕ) (finished : Finished) (d : CoreValue I) : Type 0 where
+    pub all : length (given finished.frames.items) ≡ count
+    pub shapes : All (λ (x : Picture). x.shape ≡ shape_at c.fixed.plan c.fixed.root) (given finished.frames.items)
+    pub right : (b : List (List Picture)) (numbers : List ℕ) → Stands of.feed of.faults (Some b) numbers c
+        → given finished.frames.items ≡ pictures_from b c.fixed.plan c.fixed.root first count
+    pub keeps : Keeps d
+
+  -- or it was cut short by this stop
+  pub record WindowStopped (why : WindowStop) (d : CoreValue I) : Type 0 where
+    pub stays : Stays of.holds c d
+    pub ended : EndShows of.ends d.table why
+    pub stands : (book : Book) (numbers : List ℕ) → Stands of.feed of.faults book numbers c
+        → StandsStill of (λ now. StopFits of.feed of.faults book now c.fixed.plan d.table why) book d
+
+  -- events of a window that is whole and left a core, or that was cut short, are of some kind
+  module _ (IsWhole : List Event → CoreValue I → Type 0) (IsCut : WindowStop → List Event → Type 0) (first count : ℕ)
+    where
+      abbrev pub WindowEnds : Finished → Option WindowStop → CoreValue I → Type 0
+      WindowEnds finished None d = WindowDelivered first count finished d × IsWhole finished.events.items d
+      WindowEnds finished (Some why) d = WindowStopped why d × IsCut why finished.events.items
+
+      module _ (log longer : List WindowEvents) (d : CoreValue I) where
+        -- one window more, which is whole: its events are in the journal
+        pub record AddsWindow (finished : Finished) : Type 0 where
+          pub delivered : WindowDelivered first count finished d
+          pub whole : IsWhole finished.events.items d
+          pub log_is : longer ≡ with_window log first count finished.events.items
+
+        -- one more, which was cut short
+        pub record CutsWindow (why : WindowStop) : Type 0 where
+          pub events : List Event
+          pub stopped : WindowStopped why d
+          pub cut : IsCut why events
+          pub log_is : longer ≡ with_window log first count events
+
+        -- the window is whole, and these are its frames
+        pub record MakesWindow (frames : List (Option Picture)) : Type 0 where
+          pub finished : Finished
+          pub adds : AddsWindow finished
+          pub frames_are : frames ≡ finished.frames.items
+
+        -- it was cut short, or could not begin
+        abbrev pub UnmadeWindow : RenderStop → Type 0
+        UnmadeWindow (Stopped why) = CutsWindow why
+        UnmadeWindow Write = ⊥
+        UnmadeWindow Memory = (longer ≡ log) × (d ≡ c)
+
+        module _ {K : Type 0} (sink : Ghosts K) (old new : K) where
+          -- the window is whole, and its frames were put
+          pub record PutsWindow : Type 0 where
+            pub finished : Finished
+            pub adds : AddsWindow finished
+            pub put : PutsPictures sink old new (given finished.frames.items)
+
+          -- its frames were not put whole, since the sink failed
+          pub record FailsToPut : Type 0 where
+            pub finished : Finished
+            pub adds : AddsWindow finished
+            pub failed : SinkFailed sink old new
+            pub cut : PutsPrefix sink old new (pictures_text (given finished.frames.items))
+
+          -- nothing is put of one that was cut short
+          abbrev pub WindowShows : RenderStop → Type 0
+          WindowShows (Stopped why) = CutsWindow why × (new ≡ old)
+          WindowShows Write = FailsToPut
+          WindowShows Memory = (longer ≡ log) × (new ≡ old) × (d ≡ c)

@@ -1,6 +1,6 @@
 // What the caller of a crew does before it works.
 ghost use Rattle.std.specs.Prelude.{◌≡◌};
-ghost use Rattle.prefetch.specs.OneWindow.{PutsFrames};
+ghost use Rattle.prefetch.specs.Windows.{PutsFrames};
 
 use crate::frames::put_frames;
 use fv_io::{Failed, Sink};

@@ -2,9 +2,9 @@
 ghost use Rattle.std.specs.Prelude.{◌≡◌, ◌+◌, ◌-◌, ◌<◌, ◌≤◌, min, [], OnOk, OnErr, IfOk, IfErr};
 ghost use Rattle.std.specs.Vec.{vec_capacity, vec_len};
 ghost use Rattle.fv_io.specs.Sink.{IsLater};
-ghost use Rattle.serve_machine.specs.Windows.{windows_of};
+ghost use Rattle.serve_machine.specs.Events.{windows_of};
 ghost use Rattle.prefetch.specs.declared.stops.RenderStop.TheVariants.{Write, Memory};
-ghost use Rattle.prefetch.specs.NextWindow.{MakesNext, NextShows};
+ghost use Rattle.prefetch.specs.Crew.{MakesNext, NextShows};
 ghost use Rattle.prefetch.specs.Starts.{IsAtRest, IsWindowSize, MayBegin};
 ghost use Rattle.prefetch.specs.Windows.{CrewRendersAll, CrewStops};
 

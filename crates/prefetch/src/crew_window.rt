@@ -3,9 +3,8 @@ ghost use Rattle.std.specs.Prelude.{◌≡◌, ◌+◌, ◌-◌, ◌<◌, ◌≤
 ghost use Rattle.std.specs.Arc.{arc_value};
 ghost use Rattle.std.specs.Vec.{vec_len};
 ghost use Rattle.std.specs.Thread.{IsSend, IsSync};
-ghost use Rattle.prefetch.specs.Crew.{MayWork, WorkedAt, MayGather, IsGathered, IsNew, WorkIsDone};
-ghost use Rattle.prefetch.specs.Crew.{IsCrewWindow, IsCutCrew};
-ghost use Rattle.prefetch.specs.OneWindow.{PutsFrames, WindowEnds};
+ghost use Rattle.prefetch.specs.Crew.{MayWork, WorkedAt, MayGather, IsGathered, IsNew, WorkIsDone, IsCrewWindow, IsCutCrew};
+ghost use Rattle.prefetch.specs.Windows.{PutsFrames, WindowEnds};
 ghost use Rattle.prefetch.specs.Starts.{MayBegin};
 
 use crate::chore::{Chore, PutFrames};

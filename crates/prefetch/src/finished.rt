@@ -2,8 +2,8 @@
 ghost use Rattle.std.specs.Prelude.{◌≡◌, ◌+◌, ◌<◌, ◌∷◌, ◌++◌, [], OnOk, IfErr};
 ghost use Rattle.std.specs.Vec.{vec_capacity, vec_len};
 ghost use Rattle.fv_io.specs.Sink.{IsLater};
-ghost use Rattle.serve_machine.specs.Windows.{windows_of};
-ghost use Rattle.prefetch.specs.OneWindow.{with_window, PutsFinished, PutStops};
+ghost use Rattle.serve_machine.specs.Events.{windows_of};
+ghost use Rattle.prefetch.specs.Windows.{with_window, PutsFinished, PutStops};
 
 use crate::frames::put_frames;
 use crate::stops::RenderStop;

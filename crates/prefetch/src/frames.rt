@@ -1,7 +1,7 @@
 // Frames, put one after the other.
 ghost use Rattle.std.specs.Prelude.{◌≡◌, ◌∷◌, [], OnOk, OnErr};
-ghost use Rattle.fv_io.specs.Sink.{Puts, PutsPrefix, IsLater, SinkFailed};
-ghost use Rattle.prefetch.specs.Windows.{given, pictures_text};
+ghost use Rattle.fv_io.specs.Sink.{PutsPrefix, IsLater, SinkFailed};
+ghost use Rattle.prefetch.specs.Windows.{given, pictures_text, PutsPictures};
 
 use fv_io::{Failed, Sink};
 use fv_plane::Frame;
@@ -9,7 +9,7 @@ use y4m_stream::write_frame;
 
 // Puts a frame where there is one.
 fn put_frame<K: Sink>(out: &mut K, frame: &Option<Frame>) -> Result<(), Failed>
-    ensures put { OnOk result (Puts K.Sink out.old out.new (pictures_text (given (frame.now ∷ [])))) }
+    ensures put { OnOk result (PutsPictures K.Sink out.old out.new (given (frame.now ∷ []))) }
     ensures cut { OnErr result (PutsPrefix K.Sink out.old out.new (pictures_text (given (frame.now ∷ [])))) }
     ensures failed { OnErr result (SinkFailed K.Sink out.old out.new) }
     ensures later { IsLater K.Sink out.old out.new }
@@ -22,7 +22,7 @@ fn put_frame<K: Sink>(out: &mut K, frame: &Option<Frame>) -> Result<(), Failed>
 
 /// Puts the frames that are there.
 pub(crate) fn put_frames<K: Sink>(out: &mut K, frames: &[Option<Frame>]) -> Result<(), Failed>
-    ensures put { OnOk result (Puts K.Sink out.old out.new (pictures_text (given frames.now))) }
+    ensures put { OnOk result (PutsPictures K.Sink out.old out.new (given frames.now)) }
     ensures cut { OnErr result (PutsPrefix K.Sink out.old out.new (pictures_text (given frames.now))) }
     ensures failed { OnErr result (SinkFailed K.Sink out.old out.new) }
     ensures later { IsLater K.Sink out.old out.new }

@@ -7,11 +7,11 @@ use std::sync::Arc;
 
 /// The graph of a render. Contracts see it as its plan.
 #[derive(Drop)]
-pub struct Shared {
+pub struct SharedGraph {
     graph: Arc<Graph>,
 }
 
-impl Model for Shared {
+impl Model for SharedGraph {
     ghost use Rattle.std.specs.Prelude.{List};
     ghost use Rattle.std.specs.Arc.{arc_value};
     ghost use Rattle.clip_graph.specs.Plan.{Application};
@@ -21,18 +21,18 @@ impl Model for Shared {
     ghost view = { λ s. arc_value s.graph };
 }
 
-impl From<Arc<Graph>> for Shared {
+impl From<Arc<Graph>> for SharedGraph {
     ghost use Rattle.std.specs.Prelude.{◌≡◌};
     ghost use Rattle.std.specs.Arc.{arc_value};
 
     ghost from_gives = { λ graph shared. shared ≡ arc_value graph };
 
-    fn from(graph: Arc<Graph>) -> Shared {
-        Shared { graph }
+    fn from(graph: Arc<Graph>) -> SharedGraph {
+        SharedGraph { graph }
     }
 }
 
-impl Shared {
+impl SharedGraph {
     /// The graph.
     pub fn graph(&self) -> &Graph
         ensures { result.now ≡ self.now }

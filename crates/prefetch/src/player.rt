@@ -5,7 +5,7 @@ ghost use Rattle.fv_plane.specs.Bytes.{bytes_of};
 ghost use Rattle.fv_plane.specs.Picture.{Picture};
 ghost use Rattle.fv_session.specs.Answers.{frame_text};
 ghost use Rattle.prefetch.specs.Windows.{frames_at, given};
-ghost use Rattle.serve_machine.specs.Windows.{windows_of};
+ghost use Rattle.serve_machine.specs.Events.{windows_of};
 ghost use Rattle.prefetch.specs.Played.{line_at, StandsForFrames, MakesFrame, StopsInFrame, IsFrameOf};
 
 use crate::stops::RenderStop;
@@ -34,7 +34,7 @@ pub(crate) struct Played<S: Source> {
 
 impl<S: Source> Model for Played<S> {
     ghost use Rattle.std.specs.Prelude.{◌≡◌, ◌<◌};
-    ghost use Rattle.serve_machine.specs.Windows.{windows_of};
+    ghost use Rattle.serve_machine.specs.Events.{windows_of};
     ghost use Rattle.serve_worker.specs.declared.instance.Instance as i;
     ghost use Rattle.prefetch.specs.Played.{PlayedValue};
 

@@ -1,7 +1,7 @@
 // The frames of a core, rendered by as many workers as it has.
 ghost use Rattle.std.specs.Prelude.{◌≡◌, ◌≤◌, ◌<◌, [], OnOk, IfErr};
 ghost use Rattle.fv_io.specs.Sink.{IsLater};
-ghost use Rattle.serve_machine.specs.Windows.{windows_of};
+ghost use Rattle.serve_machine.specs.Events.{windows_of};
 ghost use Rattle.serve_core.specs.Kept.{leases_out};
 ghost use Rattle.prefetch.specs.Renders.{RendersBy, StopsBy};
 

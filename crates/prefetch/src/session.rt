@@ -11,7 +11,7 @@ ghost use Rattle.prefetch.specs.StreamClips.{book_told};
 ghost use Rattle.prefetch.specs.Sessions.{StopNamed, IsToldSession};
 
 use crate::player::Played;
-use crate::staff::Hands;
+use crate::pool_size::Pool;
 use crate::stops::RenderStop;
 use crate::stream::told_stop;
 use crate::table::open_core;
@@ -88,11 +88,11 @@ pub fn answer_graph<S: Source, L: Source, K: Sink>(
     ensures later { IsLater K.Sink out.old out.new }
 {
     *journal = Some(Record::new(alloc));
-    let hands = Hands {
+    let pool = Pool {
         workers: 1,
         window: 1,
     };
-    let core = match open_core(alloc, hands, graph, root, sources, cache) {
+    let core = match open_core(alloc, pool, graph, root, sources, cache) {
         Ok((core, _)) => core,
         Err(table) => return (table, Err(SessionStop::Stopped(Stop::Memory))),
     };

@@ -9,12 +9,12 @@ ghost use Rattle.serve_core.specs.Stands.{Stands};
 ghost use Rattle.serve_core.specs.Tables.{AllFree, held_in, counts_in};
 ghost use Rattle.serve_worker.specs.Instances.{feed_of, faults_of, holds_of};
 ghost use Rattle.prefetch.specs.Windows.{frames_at};
-ghost use Rattle.prefetch.specs.Renders.{hands_at};
+ghost use Rattle.prefetch.specs.Renders.{pool_at};
 ghost use Rattle.prefetch.specs.Cores.{book_at, StandsForSources, IsTold};
 ghost use Rattle.prefetch.specs.Streamed.{IsStreamed};
 ghost use Rattle.prefetch.specs.Streams.{HeadStops, NamesSource, file_at, ToldAs, stop_in, TellsStop, HeadShows};
 
-use crate::graph::Shared;
+use crate::graph::SharedGraph;
 use crate::render::{render_alone, render_together};
 use crate::stops::RenderStop;
 use clip_graph::Graph;
@@ -34,6 +34,7 @@ use y4m_stream::print_head;
 // Puts the head of this info.
 fn put_head<K: Sink>(alloc: Global, out: &mut K, info: &Info) -> Result<(), Stop>
     ensures put { OnOk result (Puts K.Sink out.old out.new (head info.now)) }
+    ensures steady { OnOk result (K.faults out.new ≡ K.faults out.old) }
     ensures stop { IfErr result (HeadStops K.Sink out.old out.new (head info.now)) }
     ensures later { IsLater K.Sink out.old out.new }
 {
@@ -98,13 +99,13 @@ fn whole_of<S: Source>(
     core: &Core<Instance<S>>,
     done: Result<(), RenderStop>,
     frames: u32,
-    graph: Shared,
-) -> Result<Whole, Stop>
+    graph: SharedGraph,
+) -> Result<RenderedClip, Stop>
     requires named { IfErr done (NamesSource core.now.fixed.plan) }
     ensures { IsTold core.now.fixed.plan core.now.fixed.workers done frames graph result }
 {
     match done {
-        Ok(()) => Ok(Whole {
+        Ok(()) => Ok(RenderedClip {
             frames,
             workers: core.workers(),
             graph,
@@ -115,10 +116,10 @@ fn whole_of<S: Source>(
 
 /// A clip whose frames were all put: how many there are, by how many workers, and its graph, which the core shared.
 #[derive(Drop)]
-pub struct Whole {
+pub struct RenderedClip {
     pub frames: u32,
     pub workers: u32,
-    pub graph: Shared,
+    pub graph: SharedGraph,
 }
 
 /// Puts the stream of the clip of a core's root, by its one worker, in windows of so many outputs. It leaves the journal
@@ -126,11 +127,11 @@ pub struct Whole {
 pub(crate) fn put_clip_alone<S: Source, K: Sink>(
     alloc: Global,
     core: Core<Instance<S>>,
-    kept: Shared,
+    kept: SharedGraph,
     window: u32,
     out: &mut K,
     journal: &mut Option<Record>,
-) -> (Core<Instance<S>>, Result<Whole, Stop>)
+) -> (Core<Instance<S>>, Result<RenderedClip, Stop>)
     requires one { core.fixed.workers ≡ 1 }
     requires kept { kept ≡ core.fixed.plan }
     requires between { core.fixed.count ≡ 0 }
@@ -142,7 +143,7 @@ pub(crate) fn put_clip_alone<S: Source, K: Sink>(
     requires none { journal.old ≡ None }
     requires stands { StandsForSources S.Source core }
     ensures streamed { IsStreamed (faults_of S.Source) core.fixed.plan core.fixed.root core.fixed.capacity
-        (hands_at core window) (book_at S.Source core) K.Sink out.old out.new journal.new result.0.table result.1 }
+        (pool_at core window) (book_at S.Source core) K.Sink out.old out.new journal.new result.0.table result.1 }
     ensures free { AllFree result.0.table }
     ensures held { held_in holds_of result.0.table ≡ held_in holds_of core.table }
     ensures steady { OnOk result.1 (counts_in (faults_of S.Source) result.0.table ≡
@@ -168,11 +169,11 @@ pub(crate) fn put_clip_together<R: Threads + Wait + Sync, G: Gate, S: Source + S
     gate: &G,
     alloc: Global,
     core: Core<Instance<S>>,
-    kept: Shared,
+    kept: SharedGraph,
     window: u32,
     out: &mut K,
     journal: &mut Option<Record>,
-) -> (Core<Instance<S>>, Result<Whole, Stop>)
+) -> (Core<Instance<S>>, Result<RenderedClip, Stop>)
     requires kept { kept ≡ core.fixed.plan }
     requires between { core.fixed.count ≡ 0 }
     requires unclaimed { core.claims ≡ [] }
@@ -183,7 +184,7 @@ pub(crate) fn put_clip_together<R: Threads + Wait + Sync, G: Gate, S: Source + S
     requires none { journal.old ≡ None }
     requires stands { StandsForSources S.Source core }
     ensures streamed { IsStreamed (faults_of S.Source) core.fixed.plan core.fixed.root core.fixed.capacity
-        (hands_at core window) (book_at S.Source core) K.Sink out.old out.new journal.new result.0.table result.1 }
+        (pool_at core window) (book_at S.Source core) K.Sink out.old out.new journal.new result.0.table result.1 }
     ensures free { AllFree result.0.table }
     ensures held { held_in holds_of result.0.table ≡ held_in holds_of core.table }
     ensures steady { OnOk result.1 (counts_in (faults_of S.Source) result.0.table ≡

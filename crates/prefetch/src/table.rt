@@ -9,9 +9,9 @@ ghost use Rattle.prefetch.specs.StreamClips.{book_told};
 ghost use Rattle.prefetch.specs.Cores.{IsCoreOf};
 ghost use Rattle.prefetch.specs.Streamed.{IsStreamed};
 
-use crate::graph::Shared;
-use crate::staff::Hands;
-use crate::stream::{Whole, put_clip_alone, put_clip_together};
+use crate::graph::SharedGraph;
+use crate::pool_size::Pool;
+use crate::stream::{RenderedClip, put_clip_alone, put_clip_together};
 use clip_graph::Graph;
 use frame_cache::FrameCache;
 use fv_io::{Sink, Source};
@@ -30,17 +30,17 @@ use std::thread::Threads;
 /// made.
 pub(crate) fn open_core<S: Source>(
     alloc: Global,
-    hands: Hands,
+    pool: Pool,
     graph: Graph,
     root: u32,
     sources: &mut Vec<SeqSource<S>>,
     cache: u32,
-) -> Result<(Core<Instance<S>>, Shared), InstTable<Instance<S>>>
-    requires workers { 0 < hands.workers }
+) -> Result<(Core<Instance<S>>, SharedGraph), InstTable<Instance<S>>>
+    requires workers { 0 < pool.workers }
     requires root { root < length graph }
     requires sources { AreSources graph sources.old.items }
     requires cache { 0 < cache }
-    ensures core { IfOk result (λ r. IsCoreOf S.Source r.0 graph root cache hands sources.old.items) }
+    ensures core { IfOk result (λ r. IsCoreOf S.Source r.0 graph root cache pool sources.old.items) }
     ensures kept { IfOk result (λ r. r.1 ≡ graph) }
     ensures all { IfOk result (λ r. sources.old.items ≡ sources.new.items ++ sources_in r.0.table) }
     ensures free { IfErr result AllFree }
@@ -50,7 +50,7 @@ pub(crate) fn open_core<S: Source>(
     // Called for what its contract says.
     graph.len();
     let mut table = InstTable::new(alloc);
-    let Ok(_) = furnish(alloc, &mut table, &graph, sources, hands.workers) else {
+    let Ok(_) = furnish(alloc, &mut table, &graph, sources, pool.workers) else {
         return Err(table);
     };
     let Ok(frames) = FrameCache::new(alloc, cache) else {
@@ -62,30 +62,30 @@ pub(crate) fn open_core<S: Source>(
     let Ok(kept) = Arc::try_clone(&graph) else {
         return Err(table);
     };
-    let core = Core::new(alloc, graph, root, frames, hands.workers, table);
-    Ok((core, Shared::from(kept)))
+    let core = Core::new(alloc, graph, root, frames, pool.workers, table);
+    Ok((core, SharedGraph::from(kept)))
 }
 
 /// The stream of the clip at the root of a graph, put by one worker from a core over these sources, with a cache of so many
 /// frames, and the instances after it. The sources that no instance keeps are left. Where all was put, no source has failed.
 pub fn put_graph_alone<S: Source, K: Sink>(
     alloc: Global,
-    hands: Hands,
+    pool: Pool,
     graph: Graph,
     root: u32,
     sources: &mut Vec<SeqSource<S>>,
     cache: u32,
     out: &mut K,
     journal: &mut Option<Record>,
-) -> (InstTable<Instance<S>>, Result<Whole, Stop>)
-    requires one { hands.workers ≡ 1 }
-    requires some { 0 < hands.window }
-    requires few { hands.window ≤ 32 }
+) -> (InstTable<Instance<S>>, Result<RenderedClip, Stop>)
+    requires one { pool.workers ≡ 1 }
+    requires some { 0 < pool.window }
+    requires few { pool.window ≤ 32 }
     requires root { root < length graph }
     requires sources { AreSources graph sources.old.items }
     requires cache { 0 < cache }
     requires none { journal.old ≡ None }
-    ensures streamed { IsStreamed (faults_of S.Source) graph root cache hands (book_told S.Source sources.old.items)
+    ensures streamed { IsStreamed (faults_of S.Source) graph root cache pool (book_told S.Source sources.old.items)
         K.Sink out.old out.new journal.new result.0 result.1 }
     ensures free { AllFree result.0 }
     ensures all { length sources.old.items ≡ length sources.new.items + length (sources_in result.0) }
@@ -93,11 +93,11 @@ pub fn put_graph_alone<S: Source, K: Sink>(
         fault_counts S.Source sources.old.items) }
     ensures later { IsLater K.Sink out.old out.new }
 {
-    let (core, kept) = match open_core(alloc, hands, graph, root, sources, cache) {
+    let (core, kept) = match open_core(alloc, pool, graph, root, sources, cache) {
         Ok(opened) => opened,
         Err(table) => return (table, Err(Stop::Memory)),
     };
-    let (core, put) = put_clip_alone(alloc, core, kept, hands.window, out, journal);
+    let (core, put) = put_clip_alone(alloc, core, kept, pool.window, out, journal);
     (core.into_table(), put)
 }
 
@@ -106,22 +106,22 @@ pub fn put_graph_together<R: Threads + Wait + Sync, G: Gate, S: Source + Send, K
     rt: &R,
     gate: &G,
     alloc: Global,
-    hands: Hands,
+    pool: Pool,
     graph: Graph,
     root: u32,
     sources: &mut Vec<SeqSource<S>>,
     cache: u32,
     out: &mut K,
     journal: &mut Option<Record>,
-) -> (InstTable<Instance<S>>, Result<Whole, Stop>)
-    requires workers { 0 < hands.workers }
-    requires some { 0 < hands.window }
-    requires few { hands.window ≤ 32 }
+) -> (InstTable<Instance<S>>, Result<RenderedClip, Stop>)
+    requires workers { 0 < pool.workers }
+    requires some { 0 < pool.window }
+    requires few { pool.window ≤ 32 }
     requires root { root < length graph }
     requires sources { AreSources graph sources.old.items }
     requires cache { 0 < cache }
     requires none { journal.old ≡ None }
-    ensures streamed { IsStreamed (faults_of S.Source) graph root cache hands (book_told S.Source sources.old.items)
+    ensures streamed { IsStreamed (faults_of S.Source) graph root cache pool (book_told S.Source sources.old.items)
         K.Sink out.old out.new journal.new result.0 result.1 }
     ensures free { AllFree result.0 }
     ensures all { length sources.old.items ≡ length sources.new.items + length (sources_in result.0) }
@@ -129,10 +129,10 @@ pub fn put_graph_together<R: Threads + Wait + Sync, G: Gate, S: Source + Send, K
         fault_counts S.Source sources.old.items) }
     ensures later { IsLater K.Sink out.old out.new }
 {
-    let (core, kept) = match open_core(alloc, hands, graph, root, sources, cache) {
+    let (core, kept) = match open_core(alloc, pool, graph, root, sources, cache) {
         Ok(opened) => opened,
         Err(table) => return (table, Err(Stop::Memory)),
     };
-    let (core, put) = put_clip_together(rt, gate, alloc, core, kept, hands.window, out, journal);
+    let (core, put) = put_clip_together(rt, gate, alloc, core, kept, pool.window, out, journal);
     (core.into_table(), put)
 }

@@ -2,12 +2,10 @@
 ghost use Rattle.std.specs.Prelude.{◌≡◌, ◌+◌, ◌-◌, ◌<◌, ◌≤◌, ℕ, min, [], IfOk, IfErr, OnOk, OnErr};
 ghost use Rattle.std.specs.Vec.{vec_capacity, vec_len};
 ghost use Rattle.fv_io.specs.Sink.{IsLater};
-ghost use Rattle.serve_machine.specs.Windows.{windows_of};
-ghost use Rattle.prefetch.specs.AloneWindow.{PutsAlone, AloneShows};
-ghost use Rattle.prefetch.specs.OneWindow.{WindowEnds, MakesWindow, UnmadeWindow};
-ghost use Rattle.prefetch.specs.SerialWindows.{IsSerialWindow, IsAloneWindow, IsCutSerial, IsAloneCut};
+ghost use Rattle.serve_machine.specs.Events.{windows_of};
+ghost use Rattle.prefetch.specs.SerialWindows.{PutsAlone, AloneShows, IsSerialWindow, IsAloneWindow, IsCutSerial, IsAloneCut};
+ghost use Rattle.prefetch.specs.Windows.{WindowEnds, MakesWindow, UnmadeWindow, RendersAll, RenderStops};
 ghost use Rattle.prefetch.specs.Starts.{IsAtRest, IsWindowSize, MayBegin};
-ghost use Rattle.prefetch.specs.Windows.{RendersAll, RenderStops};
 
 use crate::finished::{keep_events, put_finished};
 use crate::stops::RenderStop;

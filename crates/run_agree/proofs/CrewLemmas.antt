@@ -3,10 +3,9 @@ use Rattle.std.proofs.Common.{◌≡◌, ℕ, ◌+◌, true, List, [], ◌∷◌
 use Rattle.std.proofs.lemmas.Bool.{lt-ltb, le-leb}
 use Rattle.clip_graph.specs.Plan.{Application, application_at}
 use Rattle.inst_table.specs.declared.place.Place.{Place}
-use Rattle.serve_machine.specs.Windows.{WindowEvents}
-use Rattle.serve_machine.specs.CrewJournal.{KeyCache, IsNext, AreWhole, none, also}
-use Rattle.run_text.specs.Journal.{AreFinished, is_window}
-use Rattle.run_text.specs.Journal.{none as none_finished, also as also_finished}
+use Rattle.serve_machine.specs.Events.{WindowEvents}
+use Rattle.serve_machine.specs.Journals.{KeyCache, IsNext, AreWhole, none, also}
+use Rattle.run_text.specs.Journal.{AreFinished, is_window, none as none_finished, also as also_finished}
 use Rattle.run_agree.proofs.LawfulLemmas.{whole_closes, finished_is_lawful}
 use Rattle.run_agree.specs.Crews.{IsCrew, CrewsFinish, CrewsAreLawful}
 

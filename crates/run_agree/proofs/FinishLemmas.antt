@@ -10,16 +10,12 @@ use Rattle.frame_cache.proofs.CallerLemmas.{test, left_true, right_true}
 use Rattle.inst_table.specs.declared.place.Place.{Place}
 use Rattle.serve_machine.specs.declared.event.Event.{Event}
 use Rattle.serve_machine.specs.declared.event.Event.TheVariants.{Hit, Claim, Enter, Leave, Evict, Publish, Abandon, Take, Deliver, Fail}
-use Rattle.serve_machine.specs.Events.{worker_of}
-use Rattle.serve_machine.specs.Own.{own_events}
+use Rattle.serve_machine.specs.Events.{worker_of, own_events, mode_at}
 use Rattle.serve_machine.specs.SerialRun.{eviction, leases}
-use Rattle.serve_machine.specs.Work.{Production, Deliveries, hit, made, none, also}
-use Rattle.serve_machine.specs.Keys.{mode_at}
-use Rattle.serve_machine.specs.Closing.{nothing}
+use Rattle.serve_machine.specs.Work.{Production, Deliveries, hit, made, none, also, nothing}
 use Rattle.serve_machine.specs.Holdings.{Holdings, claims_of, leases_of, holdings_of, own_holdings}
 use Rattle.serve_machine.specs.Law.{start_of}
-use Rattle.serve_machine.specs.Machine.{Machine, in_turn, meets, allowed, change, replay}
-use Rattle.serve_machine.specs.State.{State, is_open}
+use Rattle.serve_machine.specs.Machine.{Machine, in_turn, meets, allowed, change, replay, State, is_open}
 use Rattle.serve_machine.proofs.HoldingLemmas.{own_events_tell}
 use Rattle.serve_machine.proofs.ClosingLemmas.{work_closes}
 use Rattle.serve_machine.proofs.TruthLemmas.{some_same}

@@ -1,8 +1,8 @@
 -- Windows of whole work are those of a journal.
 use Rattle.std.proofs.Common.{ℕ, List, slice_get, Option, refl, ap, ◌∙◌}
 use Rattle.clip_graph.specs.Plan.{Application}
-use Rattle.serve_machine.specs.Windows.{WindowEvents}
-use Rattle.serve_machine.specs.Renders.{in_window}
+use Rattle.serve_machine.specs.Events.{WindowEvents}
+use Rattle.serve_machine.specs.Journals.{in_window}
 use Rattle.run_text.specs.Journal.{KeyCache, AreFinished, AreWindows, machine_of, places, no_window, last, none, also}
 use Rattle.run_agree.specs.Agrees.{WholeCloses, FinishedIsLawful}
 use Rattle.run_agree.proofs.FinishLemmas.{work_finishes}

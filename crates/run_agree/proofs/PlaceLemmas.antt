@@ -14,13 +14,11 @@ use Rattle.inst_table.specs.Places.{same_place}
 use Rattle.inst_table.proofs.CallerLemmas.{same_places}
 use Rattle.serve_machine.specs.declared.event.Event.{Event}
 use Rattle.serve_machine.specs.declared.event.Event.TheVariants.{Hit, Claim, Enter, Leave, Evict, Publish, Abandon, Take, Deliver, Fail}
-use Rattle.serve_machine.specs.Events.{worker_of}
-use Rattle.serve_machine.specs.Keys.{mode_at, instance_of}
+use Rattle.serve_machine.specs.Events.{worker_of, mode_at, instance_of}
 use Rattle.serve_machine.specs.Holdings.{leases_of}
 use Rattle.serve_machine.specs.Law.{start_of}
-use Rattle.serve_machine.specs.Machine.{Machine, meets, allowed, change, replay, in_turn}
-use Rattle.serve_machine.specs.Renders.{in_window}
-use Rattle.serve_machine.specs.State.{State, place_named, claims_at, is_open, is_some_and, is_by, holds_nothing, is_key, is_running, gathered}
+use Rattle.serve_machine.specs.Machine.{Machine, meets, allowed, change, replay, in_turn, State, place_named, claims_at, is_open, is_some_and, is_by, holds_nothing, is_key, is_running, gathered}
+use Rattle.serve_machine.specs.Journals.{in_window}
 use Rattle.serve_machine.proofs.HolderLemmas.{found_set, other_set}
 use Rattle.serve_machine.proofs.WorkerLists.{lease_taken, lease_back, lease_other, no_lease, lease_none, few_none}
 use Rattle.serve_machine.proofs.TruthLemmas.{some_same, open_none, held_some}

@@ -4,13 +4,11 @@ use Rattle.std.specs.List.{AllByRecursion}
 use Rattle.clip_graph.specs.Plan.{Application, IsPlan}
 use Rattle.inst_table.specs.declared.place.Place.{Place}
 use Rattle.serve_machine.specs.declared.event.Event.{Event}
-use Rattle.serve_machine.specs.Own.{own_events}
+use Rattle.serve_machine.specs.Events.{own_events, WindowEvents}
 use Rattle.serve_machine.specs.Work.{Deliveries}
 use Rattle.serve_machine.specs.Law.{start_of}
-use Rattle.serve_machine.specs.Machine.{Machine, replay}
-use Rattle.serve_machine.specs.State.{State}
-use Rattle.serve_machine.specs.Windows.{WindowEvents}
-use Rattle.serve_machine.specs.Renders.{after_window}
+use Rattle.serve_machine.specs.Machine.{Machine, replay, State}
+use Rattle.serve_machine.specs.Journals.{after_window}
 use Rattle.run_text.specs.Lines.{LineFits, journal_lines, journal_text}
 use Rattle.run_text.specs.Journal.{KeyCache, places, machine_of, is_finished, AreFinished, IsJournal}
 

@@ -3,8 +3,8 @@ use Rattle.std.specs.Prelude.{ℕ, ◌<◌, ◌≤◌, List, length}
 use Rattle.std.specs.List.{AllByRecursion}
 use Rattle.clip_graph.specs.Plan.{Application, application_at, IsPlan}
 use Rattle.inst_table.specs.declared.place.Place.{Place}
-use Rattle.serve_machine.specs.Windows.{WindowEvents}
-use Rattle.serve_machine.specs.CrewJournal.{KeyCache, AreWhole}
+use Rattle.serve_machine.specs.Events.{WindowEvents}
+use Rattle.serve_machine.specs.Journals.{KeyCache, AreWhole}
 use Rattle.run_text.specs.Lines.{LineFits, journal_lines, journal_text}
 use Rattle.run_text.specs.Journal.{AreFinished, IsJournal}
 

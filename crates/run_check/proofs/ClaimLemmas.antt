@@ -8,7 +8,7 @@ use Rattle.std.proofs.lemmas.List.{length-append}
 use Rattle.fv_plane.specs.declared.key.Key.{Key}
 use Rattle.frame_cache.specs.Cached.{same_key, at_key, without_key}
 use Rattle.frame_cache.proofs.CallerLemmas.{same_keys, key_itself, swapped, at_without, gone, length_without, differ_push, differ_without, present}
-use Rattle.serve_machine.specs.State.{claims_at}
+use Rattle.serve_machine.specs.Machine.{claims_at}
 use Rattle.run_check.specs.declared.tally.Seat.{Seat}
 use Rattle.run_check.specs.declared.claims.Claims.{Claims}
 use Rattle.run_check.specs.Tallies.{same_seat, count_at}

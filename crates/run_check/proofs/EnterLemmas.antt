@@ -10,10 +10,9 @@ use Rattle.frame_cache.specs.Cached.{same_key, at_key, has_key}
 use Rattle.frame_cache.proofs.CallerLemmas.{left_true, right_true, key_itself}
 use Rattle.inst_table.specs.declared.place.Place.{Place}
 use Rattle.inst_table.specs.Places.{same_place}
-use Rattle.serve_machine.specs.Keys.{mode_at, instance_of}
+use Rattle.serve_machine.specs.Events.{mode_at, instance_of}
 use Rattle.serve_machine.specs.Law.{worker_at}
-use Rattle.serve_machine.specs.Machine.{Machine}
-use Rattle.serve_machine.specs.State.{State, claims_at, holds_nothing, got_at, gathered, is_by, is_key, is_open, is_some_and, place_named}
+use Rattle.serve_machine.specs.Machine.{Machine, State, claims_at, holds_nothing, got_at, gathered, is_by, is_key, is_open, is_some_and, place_named}
 use Rattle.serve_machine.proofs.TruthLemmas.{by_there}
 use Rattle.run_check.specs.declared.tracker.Tracker.{Tracker}
 use Rattle.run_check.specs.Mirrors.{Mirrors}

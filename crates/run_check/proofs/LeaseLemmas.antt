@@ -9,7 +9,7 @@ use Rattle.inst_table.specs.declared.place.Place.{Place}
 use Rattle.inst_table.specs.Places.{same_place}
 use Rattle.inst_table.proofs.CallerLemmas.{same_places, place_itself}
 use Rattle.serve_machine.specs.Law.{worker_at}
-use Rattle.serve_machine.specs.State.{is_open, is_by, holds_nothing}
+use Rattle.serve_machine.specs.Machine.{is_open, is_by, holds_nothing}
 use Rattle.serve_machine.proofs.HolderLemmas.{found_set, other_set}
 use Rattle.run_check.specs.declared.tally.Seat.{Seat}
 use Rattle.run_check.specs.declared.leases.Leases.{Leases}

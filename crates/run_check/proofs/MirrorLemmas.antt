@@ -16,8 +16,7 @@ use Rattle.clip_graph.specs.Unfolding.{input_keys}
 use Rattle.frame_cache.proofs.CallerLemmas.{same_keys, at_fronted, some_push, some_without, gone}
 use Rattle.run_check.specs.Leases.{AreLeases}
 use Rattle.serve_machine.specs.declared.event.Event.TheVariants.{Hit, Publish}
-use Rattle.serve_machine.specs.Machine.{Machine, meets, change}
-use Rattle.serve_machine.specs.State.{State, got_at, gathered, with_told, noted, is_by, is_running, holds_nothing, is_key, is_some_and, is_open}
+use Rattle.serve_machine.specs.Machine.{Machine, meets, change, State, got_at, gathered, with_told, noted, is_by, is_running, holds_nothing, is_key, is_some_and, is_open}
 use Rattle.serve_machine.proofs.TruthLemmas.{by_there}
 use Rattle.run_check.specs.declared.tracker.Got.{Got}
 use Rattle.run_check.specs.declared.tracker.Tracker.{Tracker}

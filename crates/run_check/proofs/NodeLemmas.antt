@@ -7,8 +7,8 @@ use Rattle.fv_plane.specs.declared.key.Key.{Key}
 use Rattle.clip_graph.specs.Plan.{Application, application_at, no_application, is_source}
 use Rattle.clip_graph.specs.Unfolding.{IsKeyBelow}
 use Rattle.frame_cache.proofs.CallerLemmas.{left_true, right_true}
-use Rattle.serve_machine.specs.Keys.{mode_at}
-use Rattle.serve_machine.specs.State.{is_key}
+use Rattle.serve_machine.specs.Events.{mode_at}
+use Rattle.serve_machine.specs.Machine.{is_key}
 
 pub mode_past : (plan : List Application) (i : ℕ) → length plan ≤ i → mode_at plan i ≡ 1
 mode_past plan i past = ap (λ (a : Application). a.mode) (get_or_past plan i no_application past)

@@ -11,8 +11,7 @@ use Rattle.inst_table.specs.declared.place.Place.{Place}
 use Rattle.serve_machine.specs.declared.event.Event.{Event}
 use Rattle.serve_machine.specs.Events.{worker_of}
 use Rattle.serve_machine.specs.Law.{start_of}
-use Rattle.serve_machine.specs.Machine.{Machine, in_turn, meets, allowed, change}
-use Rattle.serve_machine.specs.State.{State, is_open}
+use Rattle.serve_machine.specs.Machine.{Machine, in_turn, meets, allowed, change, State, is_open}
 use Rattle.run_text.specs.declared.line.Line.TheVariants.{Workers, Window, Did}
 use Rattle.run_text.specs.Journal.{KeyCache, places, is_window, is_finished}
 use Rattle.run_text.specs.Progress.{Progress, unread, named, inside, begun, next}

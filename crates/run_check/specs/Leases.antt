@@ -5,7 +5,7 @@ use Rattle.std.specs.Map.{lookup}
 use Rattle.inst_table.specs.declared.place.Place.{Place}
 use Rattle.inst_table.specs.Places.{same_place}
 use Rattle.serve_machine.specs.Law.{worker_at}
-use Rattle.serve_machine.specs.State.{is_open, is_by}
+use Rattle.serve_machine.specs.Machine.{is_open, is_by}
 use Rattle.run_check.specs.declared.leases.Leases.{Leases}
 use Rattle.run_check.specs.Claims.{number_by}
 use Rattle.run_check.specs.Tallies.{count_at}

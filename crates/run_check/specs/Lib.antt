@@ -6,4 +6,3 @@ pub mod Stages
 pub mod Steps
 pub use Rattle.run_text.specs.Lines
 pub use Rattle.run_text.specs.Journal
-pub use Rattle.run_text.specs.Judging

@@ -8,9 +8,8 @@ use Rattle.frame_cache.specs.Cached.{same_key, at_key, has_key}
 use Rattle.inst_table.specs.declared.place.Place.{Place}
 use Rattle.inst_table.specs.Places.{same_place}
 use Rattle.serve_machine.specs.declared.event.Event.{Event}
-use Rattle.serve_machine.specs.Keys.{mode_at, instance_of}
-use Rattle.serve_machine.specs.Machine.{Machine, meets, change}
-use Rattle.serve_machine.specs.State.{State, got_at, is_entered, is_key, place_named}
+use Rattle.serve_machine.specs.Events.{mode_at, instance_of}
+use Rattle.serve_machine.specs.Machine.{Machine, meets, change, State, got_at, is_entered, is_key, place_named}
 use Rattle.run_check.specs.declared.tracker.Got.{Got}
 use Rattle.run_check.specs.declared.tracker.Tracker.{Tracker}
 use Rattle.run_check.specs.Tallies.{same_seat}

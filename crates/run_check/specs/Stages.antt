@@ -5,7 +5,7 @@ use Rattle.serve_machine.specs.declared.event.Event.{Event}
 use Rattle.serve_machine.specs.Events.{worker_of}
 use Rattle.serve_machine.specs.Law.{start_of}
 use Rattle.serve_machine.specs.Machine.{in_turn}
-use Rattle.serve_machine.specs.Renders.{in_window}
+use Rattle.serve_machine.specs.Journals.{in_window}
 use Rattle.run_text.specs.Journal.{KeyCache, places, machine_of}
 use Rattle.run_text.specs.Progress.{Progress, unread, named, inside, without_events}
 use Rattle.run_check.specs.declared.tracker.Tracker.{Tracker}

@@ -3,7 +3,7 @@ use Rattle.std.specs.Prelude.{◌≡◌, ℕ, ◌<◌, ◌≤◌, List, [], ◌�
 use Rattle.clip_graph.specs.Plan.{Application}
 use Rattle.run_text.specs.declared.line.Line.{Line}
 use Rattle.run_text.specs.Lines.{line_text, LineFits}
-use Rattle.run_text.specs.Judging.{first_line}
+use Rattle.run_text.specs.Journal.{first_line}
 use Rattle.run_text.specs.Progress.{Progress, next}
 
 module _ (plan : List Application) (root capacity : ℕ) where

@@ -1,6 +1,6 @@
 // `check_journal`: whether a text is a journal.
 ghost use Rattle.std.specs.Prelude.{◌<◌, length, IfOk};
-ghost use Rattle.run_text.specs.Judging.{Judges};
+ghost use Rattle.run_text.specs.Journal.{Judges};
 
 use crate::judging::judge;
 use crate::tracker::Tracker;

@@ -3,7 +3,7 @@ ghost use Rattle.std.specs.Prelude.{◌≡◌, ℕ, ◌==◌, List, ◌++◌, []
 ghost use Rattle.std.specs.List.{list_any};
 ghost use Rattle.fv_plane.specs.declared.key.Key.{Key};
 ghost use Rattle.frame_cache.specs.Cached.{at_key, without_key};
-ghost use Rattle.serve_machine.specs.State.{claims_at};
+ghost use Rattle.serve_machine.specs.Machine.{claims_at};
 ghost use Rattle.run_check.specs.Claims.{AreClaims};
 
 use crate::tally::{Seat, Tally, alone};

@@ -2,7 +2,7 @@
 ghost use Rattle.std.specs.Prelude.{◌≡◌, ◌==◌, ◌<◌, ◌≤◌, ℕ, length, IfOk, IfSome};
 ghost use Rattle.std.specs.List.{position};
 ghost use Rattle.clip_graph.specs.Plan.{IsPlan};
-ghost use Rattle.run_text.specs.Judging.{Judges};
+ghost use Rattle.run_text.specs.Journal.{Judges};
 ghost use Rattle.run_text.specs.Progress.{Progress, unread};
 ghost use Rattle.run_check.specs.Stages.{StandsFor};
 ghost use Rattle.run_check.specs.Steps.{StepsTo};

@@ -5,7 +5,7 @@ ghost use Rattle.std.specs.Map.{lookup, set_value};
 ghost use Rattle.inst_table.specs.declared.place.Place.{Place};
 ghost use Rattle.inst_table.specs.Places.{same_place};
 ghost use Rattle.serve_machine.specs.Law.{worker_at};
-ghost use Rattle.serve_machine.specs.State.{holds_nothing, is_open};
+ghost use Rattle.serve_machine.specs.Machine.{holds_nothing, is_open};
 ghost use Rattle.run_check.specs.Leases.{AreLeases, Holders, free};
 
 use crate::tally::{Tally, alone, next};

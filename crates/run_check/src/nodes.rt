@@ -1,9 +1,8 @@
 // What a graph says of the nodes that events name. An event of a text may name any node, one past the last too.
 ghost use Rattle.std.specs.Prelude.{◌≡◌, ◌==◌, ◌<◌, ℕ, length, not};
 ghost use Rattle.clip_graph.specs.Plan.{application_at, is_source};
-ghost use Rattle.serve_machine.specs.Keys.{mode_at, instance_of};
-ghost use Rattle.serve_machine.specs.Own.{names_source};
-ghost use Rattle.serve_machine.specs.State.{is_key, place_named};
+ghost use Rattle.serve_machine.specs.Events.{mode_at, instance_of, names_source};
+ghost use Rattle.serve_machine.specs.Machine.{is_key, place_named};
 ghost use Rattle.run_text.specs.Journal.{is_window};
 
 use clip_graph::Graph;

@@ -10,15 +10,12 @@ use Rattle.clip_graph.specs.Unfolding.{input_keys}
 use Rattle.inst_table.specs.declared.place.Place.{Place}
 use Rattle.serve_machine.specs.declared.event.Event.{Event}
 use Rattle.serve_machine.specs.declared.event.Event.TheVariants.{Hit, Claim, Enter, Leave, Evict, Publish, Abandon, Take, Deliver, Fail}
-use Rattle.serve_machine.specs.Events.{worker_of}
-use Rattle.serve_machine.specs.Keys.{frame_key, mode_at, instance_of}
-use Rattle.serve_machine.specs.Own.{own_events}
+use Rattle.serve_machine.specs.Events.{worker_of, frame_key, mode_at, instance_of, own_events}
 use Rattle.serve_machine.specs.SerialRun.{eviction, leases}
 use Rattle.serve_machine.specs.Work.{Production, hit, made, Productions, done, more, CutShort, refused, inside, entered, unpublished, CutInputs, between, within, Deliveries, none, also, CutDeliveries, untaken, taken, failed as failed_work}
 use Rattle.serve_machine.proofs.KeyLemmas.{test, left_true, right_true}
 use Rattle.serve_machine.specs.Law.{start_of}
-use Rattle.serve_machine.specs.Machine.{Machine, in_turn, meets, allowed, change, replay}
-use Rattle.serve_machine.specs.State.{State, is_running}
+use Rattle.serve_machine.specs.Machine.{Machine, in_turn, meets, allowed, change, replay, State, is_running}
 use Rattle.serve_machine.proofs.TruthLemmas.{some_same}
 use Rattle.run_moves.specs.Moves.{InWork, midway, ready}
 use Rattle.run_moves.specs.Waiting.{AllInWork}

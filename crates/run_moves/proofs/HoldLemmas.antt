@@ -8,13 +8,11 @@ use Rattle.clip_graph.specs.Unfolding.{input_keys}
 use Rattle.inst_table.specs.declared.place.Place.{Place}
 use Rattle.serve_machine.specs.declared.event.Event.{Event}
 use Rattle.serve_machine.specs.declared.event.Event.TheVariants.{Enter, Leave, Take}
-use Rattle.serve_machine.specs.Keys.{frame_key, mode_at, instance_of}
-use Rattle.serve_machine.specs.Own.{own_events}
+use Rattle.serve_machine.specs.Events.{frame_key, mode_at, instance_of, own_events}
 use Rattle.serve_machine.specs.SerialRun.{leases}
-use Rattle.serve_machine.specs.Work.{Productions, done, more, CutShort, refused, inside, entered, unpublished, CutInputs, between, within, Deliveries, untaken, taken}
-use Rattle.serve_machine.specs.State.{place_named}
+use Rattle.serve_machine.specs.Work.{Productions, done, more, CutShort, refused, inside, entered, unpublished, CutInputs, between, within, Deliveries, untaken, taken, AllPast, IsIdle, nothing}
+use Rattle.serve_machine.specs.Machine.{place_named}
 use Rattle.serve_machine.specs.Holdings.{Holdings, holdings_after, own_holdings}
-use Rattle.serve_machine.specs.Closing.{AllPast, IsIdle, nothing}
 use Rattle.serve_machine.proofs.ClosingLemmas.{holdings_after-append, work_closes}
 use Rattle.serve_machine.proofs.HoldingLemmas.{own_events_tell}
 use Rattle.run_moves.specs.Moves.{InWork, midway, ready, newest_node, WorkersHoldLittle}

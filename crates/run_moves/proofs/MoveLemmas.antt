@@ -16,17 +16,13 @@ use Rattle.inst_table.specs.declared.place.Place.{Place}
 use Rattle.inst_table.specs.Places.{same_place}
 use Rattle.serve_machine.specs.declared.event.Event.{Event}
 use Rattle.serve_machine.specs.declared.event.Event.TheVariants.{Hit, Claim, Enter, Leave, Evict, Publish, Abandon, Take, Deliver, Fail}
-use Rattle.serve_machine.specs.Events.{worker_of}
-use Rattle.serve_machine.specs.Keys.{IsKey, has, frame_key, mode_at, instance_of}
-use Rattle.serve_machine.specs.Own.{has_got, has_got_all, own_events}
+use Rattle.serve_machine.specs.Events.{worker_of, IsKey, has, frame_key, mode_at, instance_of, has_got, has_got_all, own_events}
 use Rattle.serve_machine.specs.SerialRun.{eviction}
-use Rattle.serve_machine.specs.Work.{untaken, none as no_deliveries}
+use Rattle.serve_machine.specs.Work.{untaken, none as no_deliveries, nothing}
 use Rattle.serve_machine.proofs.KeyLemmas.{test, left_true, right_true}
-use Rattle.serve_machine.specs.State.{State, is_key, place_named, claims_at, is_open, is_some_and, is_by, is_running, with_told, got_at, gathered}
-use Rattle.serve_machine.specs.Closing.{nothing}
+use Rattle.serve_machine.specs.Machine.{State, is_key, place_named, claims_at, is_open, is_some_and, is_by, is_running, with_told, got_at, gathered, Machine, meets, allowed, change, replay}
 use Rattle.serve_machine.specs.Holdings.{Holdings, claims_of, leases_of, outputs_of, holdings_of, own_holdings, IsToldBy}
 use Rattle.serve_machine.specs.Law.{start_of, worker_at}
-use Rattle.serve_machine.specs.Machine.{Machine, meets, allowed, change, replay}
 use Rattle.serve_machine.proofs.KeptLemmas.{Keys, keys_law}
 use Rattle.serve_machine.proofs.LawLemmas.{no_claims}
 use Rattle.serve_machine.proofs.TruthLemmas.{some_same, some_value}

@@ -8,15 +8,13 @@ use Rattle.clip_graph.specs.Plan.{Application, IsPlan}
 use Rattle.clip_graph.specs.Unfolding.{input_keys}
 use Rattle.serve_machine.specs.declared.event.Event.{Event}
 use Rattle.serve_machine.specs.declared.event.Event.TheVariants.{Hit, Claim, Enter, Leave, Publish, Abandon, Take, Deliver}
-use Rattle.serve_machine.specs.Keys.{IsKey, same_key, has, frame_key, mode_at, instance_of}
-use Rattle.serve_machine.specs.Own.{has_got, has_got_all}
+use Rattle.serve_machine.specs.Events.{IsKey, same_key, has, frame_key, mode_at, instance_of, has_got, has_got_all}
 use Rattle.serve_machine.specs.SerialRun.{eviction, leases}
-use Rattle.serve_machine.specs.Work.{Production, hit, made, Productions, done, more, CutShort, refused, inside, entered, unpublished, CutInputs, between, within, Deliveries, none, also, CutDeliveries, untaken, taken}
+use Rattle.serve_machine.specs.Work.{Production, hit, made, Productions, done, more, CutShort, refused, inside, entered, unpublished, CutInputs, between, within, Deliveries, none, also, CutDeliveries, untaken, taken, nothing}
 use Rattle.serve_machine.proofs.KeyLemmas.{test, key_itself}
 use Rattle.serve_machine.proofs.OwnLemmas.{now_got, all_got}
-use Rattle.serve_machine.specs.State.{place_named}
+use Rattle.serve_machine.specs.Machine.{place_named}
 use Rattle.serve_machine.specs.Holdings.{Holdings, has_number, holdings_after, own_holdings}
-use Rattle.serve_machine.specs.Closing.{nothing}
 use Rattle.serve_machine.proofs.ClosingLemmas.{holdings_after-append, now_all_got, produced_got, produced_all_got, work_closes}
 use Rattle.run_moves.specs.Moves.{InWork, midway, ready, newest_node}
 use Rattle.run_moves.specs.Waiting.{IsNewest}

@@ -11,15 +11,12 @@ use Rattle.inst_table.specs.declared.place.Place.{Place}
 use Rattle.inst_table.specs.Places.{same_place}
 use Rattle.inst_table.proofs.CallerLemmas.{same_places}
 use Rattle.serve_machine.specs.declared.event.Event.{Event}
-use Rattle.serve_machine.specs.Events.{worker_of}
-use Rattle.serve_machine.specs.Keys.{same_key, has, instance_of}
-use Rattle.serve_machine.specs.Own.{own_events}
+use Rattle.serve_machine.specs.Events.{worker_of, same_key, has, instance_of, own_events}
 use Rattle.serve_machine.specs.Work.{untaken, none}
 use Rattle.serve_machine.proofs.KeyLemmas.{test, left_true, right_true, same_keys}
 use Rattle.serve_machine.specs.Holdings.{Holdings, claims_of, leases_of, holdings_of, IsToldBy}
 use Rattle.serve_machine.specs.Law.{start_of, worker_at}
-use Rattle.serve_machine.specs.Machine.{Machine, in_turn, meets, allowed, change, replay}
-use Rattle.serve_machine.specs.State.{State, place_named, is_by}
+use Rattle.serve_machine.specs.Machine.{Machine, in_turn, meets, allowed, change, replay, State, place_named, is_by}
 use Rattle.serve_machine.proofs.HoldingLemmas.{own_events_tell}
 use Rattle.serve_machine.proofs.TruthLemmas.{some_same}
 use Rattle.run_moves.specs.Moves.{InWork, midway, newest_node}

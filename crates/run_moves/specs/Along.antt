@@ -4,8 +4,7 @@ use Rattle.fv_plane.specs.declared.key.Key.{Key}
 use Rattle.inst_table.specs.declared.place.Place.{Place}
 use Rattle.serve_machine.specs.declared.event.Event.{Event}
 use Rattle.serve_machine.specs.Law.{start_of}
-use Rattle.serve_machine.specs.Machine.{Machine, replay}
-use Rattle.serve_machine.specs.State.{State}
+use Rattle.serve_machine.specs.Machine.{Machine, replay, State}
 use Rattle.run_moves.specs.Waiting.{AllInWork}
 
 -- where all workers are somewhere in their work, they were so at each point before, unless a publication was awaited there

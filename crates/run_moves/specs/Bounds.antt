@@ -8,13 +8,11 @@ use Rattle.inst_table.specs.declared.place.Place.{Place}
 use Rattle.serve_machine.specs.declared.event.Event.{Event}
 use Rattle.serve_machine.specs.declared.event.Event.TheVariants.{Claim}
 use Rattle.serve_machine.specs.declared.event.WindowStop.{WindowStop}
-use Rattle.serve_machine.specs.Keys.{frame_key}
-use Rattle.serve_machine.specs.Own.{own_events}
+use Rattle.serve_machine.specs.Events.{frame_key, own_events}
 use Rattle.serve_machine.specs.Work.{Production, CutDeliveries, FailedWork}
 use Rattle.serve_machine.specs.Law.{start_of}
-use Rattle.serve_machine.specs.Machine.{Machine, replay}
-use Rattle.serve_machine.specs.Renders.{is_eviction}
-use Rattle.serve_machine.specs.State.{State}
+use Rattle.serve_machine.specs.Machine.{Machine, replay, State}
+use Rattle.serve_machine.specs.Journals.{is_eviction}
 use Rattle.run_moves.specs.Moves.{InWork}
 use Rattle.run_moves.specs.Waiting.{AllInWork}
 use Rattle.run_moves.specs.Moving.{CanRender, IsUnderWay, Moves}

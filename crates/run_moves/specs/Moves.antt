@@ -5,13 +5,11 @@ use Rattle.clip_graph.specs.Plan.{Application, application_at, IsPlan}
 use Rattle.inst_table.specs.declared.place.Place.{Place}
 use Rattle.serve_machine.specs.declared.event.Event.{Event}
 use Rattle.serve_machine.specs.declared.event.Event.TheVariants.{Take}
-use Rattle.serve_machine.specs.Keys.{frame_key}
-use Rattle.serve_machine.specs.Own.{own_events}
+use Rattle.serve_machine.specs.Events.{frame_key, own_events}
 use Rattle.serve_machine.specs.Work.{Production, Deliveries, CutDeliveries}
 use Rattle.serve_machine.specs.Holdings.{claims_of, leases_of, outputs_of}
 use Rattle.serve_machine.specs.Law.{start_of}
-use Rattle.serve_machine.specs.Machine.{Machine, replay}
-use Rattle.serve_machine.specs.State.{State}
+use Rattle.serve_machine.specs.Machine.{Machine, replay, State}
 
 -- a worker's own events between two turns of its work
 pub data InWork (plan : List Application) (root w : ℕ) : List Event → Type 0 where

@@ -8,13 +8,11 @@ use Rattle.inst_table.specs.declared.place.Place.{Place}
 use Rattle.inst_table.specs.Places.{same_place}
 use Rattle.serve_machine.specs.declared.event.Event.{Event}
 use Rattle.serve_machine.specs.declared.event.Event.TheVariants.{Evict, Publish}
-use Rattle.serve_machine.specs.Events.{worker_of}
-use Rattle.serve_machine.specs.Keys.{mode_at, instance_of}
-use Rattle.serve_machine.specs.Closing.{nothing}
+use Rattle.serve_machine.specs.Events.{worker_of, mode_at, instance_of}
+use Rattle.serve_machine.specs.Work.{nothing}
 use Rattle.serve_machine.specs.Holdings.{holdings_of}
 use Rattle.serve_machine.specs.Law.{start_of}
-use Rattle.serve_machine.specs.Machine.{Machine, replay}
-use Rattle.serve_machine.specs.State.{State, place_named}
+use Rattle.serve_machine.specs.Machine.{Machine, replay, State, place_named}
 use Rattle.run_moves.specs.Waiting.{AllInWork, Waits}
 
 -- one turn of a worker: an event, or an eviction and the publication that follows it

@@ -6,12 +6,10 @@ use Rattle.clip_graph.specs.Unfolding.{input_keys}
 use Rattle.frame_cache.specs.Cached.{at_key}
 use Rattle.inst_table.specs.declared.place.Place.{Place}
 use Rattle.serve_machine.specs.declared.event.Event.{Event}
-use Rattle.serve_machine.specs.Keys.{frame_key, has, instance_of}
-use Rattle.serve_machine.specs.Own.{own_events}
+use Rattle.serve_machine.specs.Events.{frame_key, has, instance_of, own_events}
 use Rattle.serve_machine.specs.Holdings.{claims_of, leases_of}
 use Rattle.serve_machine.specs.Law.{start_of, holder_of}
-use Rattle.serve_machine.specs.Machine.{Machine, replay}
-use Rattle.serve_machine.specs.State.{State, place_named}
+use Rattle.serve_machine.specs.Machine.{Machine, replay, State, place_named}
 use Rattle.run_moves.specs.Moves.{InWork, newest_node}
 
 -- the last of these claims

@@ -8,9 +8,8 @@ use Rattle.frame_cache.specs.Cached.{Differ}
 use Rattle.frame_cache.proofs.CallerLemmas.{test, right_true}
 use Rattle.inst_table.specs.declared.place.Place.{Place}
 use Rattle.inst_table.specs.Places.{same_place}
-use Rattle.serve_machine.specs.Keys.{mode_at}
-use Rattle.serve_machine.specs.Windows.{WindowEvents}
-use Rattle.serve_machine.specs.Renders.{in_window}
+use Rattle.serve_machine.specs.Events.{mode_at, WindowEvents}
+use Rattle.serve_machine.specs.Journals.{in_window}
 use Rattle.serve_machine.proofs.LawLemmas.{differ_none, runs_refine}
 use Rattle.run_text.specs.Journal.{KeyCache, places, machine_of, AreFinished, none, also}
 use Rattle.run_text.proofs.PlaceLemmas.{free, named_there}

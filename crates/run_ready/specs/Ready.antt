@@ -1,8 +1,8 @@
 -- The windows of a journal, and what workers need to go on in them.
 use Rattle.std.specs.Prelude.{◌≡◌, ℕ, ◌<◌, true, List, length}
 use Rattle.clip_graph.specs.Plan.{Application, IsPlan}
-use Rattle.serve_machine.specs.Windows.{WindowEvents}
-use Rattle.serve_machine.specs.Renders.{in_window}
+use Rattle.serve_machine.specs.Events.{WindowEvents}
+use Rattle.serve_machine.specs.Journals.{in_window}
 use Rattle.run_text.specs.Journal.{KeyCache, places, machine_of, is_window, AreFinished}
 use Rattle.run_moves.specs.Moving.{CanRender}
 

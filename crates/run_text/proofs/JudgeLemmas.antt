@@ -7,14 +7,13 @@ use Rattle.std.proofs.lemmas.Bool.{and_parts, cases_lt, cases_order}
 use Rattle.std.specs.Prelude.{◌==◌}
 use Rattle.clip_graph.specs.Plan.{Application}
 use Rattle.run_text.specs.declared.line.Line.{Line}
-use Rattle.serve_machine.specs.Windows.{WindowEvents}
+use Rattle.serve_machine.specs.Events.{WindowEvents}
 use Rattle.run_text.specs.Lines.{LineFits, line_text, lines_text, journal_lines}
 use Rattle.run_text.specs.Reading.{line_of}
 use Rattle.run_text.proofs.ReadLemmas.{line_again}
 use Rattle.run_text.specs.declared.verdict.Verdict.{Verdict}
 use Rattle.run_text.specs.declared.verdict.Verdict.TheVariants.{Yes, No}
-use Rattle.run_text.specs.Journal.{IsJournal}
-use Rattle.run_text.specs.Judging.{first_line, first_lines, IsFirstWrong, Judges, JudgedOnce}
+use Rattle.run_text.specs.Journal.{IsJournal, first_line, first_lines, IsFirstWrong, Judges, JudgedOnce}
 use Rattle.run_text.specs.Progress.{Progress, unread, next, follow}
 use Rattle.run_text.proofs.LineLemmas.{AllFit, plain, line_plain, first_line_is, first_whole, text_more, lines_text-append, cancel, first_lines_take, first_lines_past, first_lines_all}
 use Rattle.run_text.proofs.ProgressLemmas.{journal_of, follow-append, follow_front, follows_all}

@@ -17,7 +17,7 @@ use Rattle.run_text.specs.declared.line.Line.TheVariants.{Workers, Window, Did}
 use Rattle.run_text.specs.Lines.{numbers, line_text, lines_text, event_text, AreSmall, EventFits, LineFits}
 use Rattle.run_text.specs.Reading.{line_of}
 use Rattle.run_text.proofs.ReadLemmas.{line_again}
-use Rattle.run_text.specs.Judging.{first_line, after_line, first_lines}
+use Rattle.run_text.specs.Journal.{first_line, after_line, first_lines}
 
 -- NO NEWLINE IS IN A LINE
 

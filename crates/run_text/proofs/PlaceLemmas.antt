@@ -10,8 +10,8 @@ use Rattle.frame_cache.proofs.CallerLemmas.{test}
 use Rattle.inst_table.specs.declared.place.Place.{Place}
 use Rattle.inst_table.specs.Places.{same_place, own_place}
 use Rattle.inst_table.proofs.CallerLemmas.{place_itself}
-use Rattle.serve_machine.specs.Keys.{mode_at, instance_of}
-use Rattle.serve_machine.specs.State.{place_named}
+use Rattle.serve_machine.specs.Events.{mode_at, instance_of}
+use Rattle.serve_machine.specs.Machine.{place_named}
 use Rattle.run_text.specs.Journal.{places_at, places}
 
 abbrev pub free : List Place → List (Place × Option ℕ)

@@ -10,7 +10,7 @@ use Rattle.fv_io.specs.Told.{with_piece}
 use Rattle.fv_io.proofs.CallerLemmas.{with_piece_twice, with_no_piece, gets_after, gets_more}
 use Rattle.serve_machine.specs.declared.event.Event.{Event}
 use Rattle.serve_machine.specs.declared.windows.Windowed.{Windowed}
-use Rattle.serve_machine.specs.Windows.{WindowEvents, window_of}
+use Rattle.serve_machine.specs.Events.{WindowEvents, window_of}
 use Rattle.run_text.specs.declared.line.Line.{Line}
 use Rattle.run_text.specs.declared.line.Line.TheVariants.{Did}
 use Rattle.run_text.specs.Lines.{LineFits, EventFits, numbers, line_text, event_text, lines_text, window_lines}

@@ -7,16 +7,14 @@ use Rattle.std.proofs.lemmas.List.{append-nil, append_assoc, map-append}
 use Rattle.std.proofs.lemmas.Bool.{and_parts, ltb-true, leb-true, lt-ltb, le-leb}
 use Rattle.clip_graph.specs.Plan.{Application}
 use Rattle.serve_machine.specs.declared.event.Event.{Event}
-use Rattle.serve_machine.specs.Windows.{WindowEvents}
+use Rattle.serve_machine.specs.Events.{WindowEvents}
 use Rattle.serve_machine.specs.Law.{start_of}
-use Rattle.serve_machine.specs.Machine.{Machine, allowed, change, replay}
-use Rattle.serve_machine.specs.Renders.{in_window, after_window}
-use Rattle.serve_machine.specs.State.{State}
+use Rattle.serve_machine.specs.Machine.{Machine, allowed, change, replay, State}
+use Rattle.serve_machine.specs.Journals.{in_window, after_window}
 use Rattle.run_text.specs.declared.line.Line.{Line}
 use Rattle.run_text.specs.declared.line.Line.TheVariants.{Workers, Window, Did}
 use Rattle.run_text.specs.Lines.{window_lines, journal_lines, lines_text}
-use Rattle.run_text.specs.Journal.{KeyCache, places, machine_of, is_window, is_finished, IsRunTo, AreFinished, AreWindows, IsJournal}
-use Rattle.run_text.specs.Journal.{none as none_finished, also, no_window, last}
+use Rattle.run_text.specs.Journal.{KeyCache, places, machine_of, is_window, is_finished, IsRunTo, AreFinished, AreWindows, IsJournal, none as none_finished, also, no_window, last}
 use Rattle.run_text.specs.Progress.{Progress, unread, named, inside, begun, next, follow, without_events}
 use Rattle.run_text.proofs.LineLemmas.{AllFit}
 

@@ -2,7 +2,7 @@
 use Rattle.std.specs.Prelude.{◌++◌, List, ℕ, codes}
 use Rattle.serve_machine.specs.SerialExamples.{trimmed}
 use Rattle.run_text.specs.declared.verdict.Verdict.TheVariants.{Yes, No}
-use Rattle.run_text.specs.Judging.{Judges}
+use Rattle.run_text.specs.Journal.{Judges}
 
 abbrev pub front : List ℕ
 front = codes "workers 1\nwindow 0 1\ntake 0 0\nclaim 0 1 0\nclaim 0 0 2\n"

@@ -1,17 +1,17 @@
--- Which texts are journals of a plan, with a cache of so many frames.
-use Rattle.std.specs.Prelude.{◌≡◌, ℕ, ◌+◌, ◌==◌, ◌<◌, ◌≤◌, nat_lt, nat_le, Bool, true, ◌&&◌, if◌then◌else◌, List, [], ◌∷◌, ◌++◌, length, map, is_none, is_some, Some}
+-- Which texts are journals of a plan, with a cache of so many frames, and the first line at which one stops being such.
+use Rattle.std.specs.Prelude.{◌≡◌, ℕ, ◌+◌, ◌==◌, ◌<◌, ◌≤◌, nat_lt, nat_le, Bool, true, ◌&&◌, if◌then◌else◌, List, [], ◌∷◌, ◌++◌, length, map, is_none, is_some, Some, zero, suc}
 use Rattle.std.specs.List.{flat_map, range_with_len, list_all, AllByRecursion}
 use Rattle.fv_plane.specs.declared.key.Key.{Key}
 use Rattle.clip_graph.specs.Plan.{Application, application_at}
 use Rattle.inst_table.specs.declared.place.Place.{Place}
 use Rattle.inst_table.specs.Places.{shared_place, own_place}
-use Rattle.serve_machine.specs.Keys.{mode_at}
-use Rattle.serve_machine.specs.Windows.{WindowEvents}
-use Rattle.serve_machine.specs.State.{State, is_open, is_running}
-use Rattle.serve_machine.specs.Machine.{Machine}
-use Rattle.serve_machine.specs.Lifted.{keys_machine}
-use Rattle.serve_machine.specs.Renders.{after_window}
+use Rattle.serve_machine.specs.Events.{mode_at, WindowEvents}
+use Rattle.serve_machine.specs.Machine.{State, is_open, is_running, Machine}
+use Rattle.serve_machine.specs.Law.{keys_machine}
+use Rattle.serve_machine.specs.Journals.{after_window}
 use Rattle.run_text.specs.Lines.{LineFits, journal_lines, journal_text}
+use Rattle.run_text.specs.declared.verdict.Verdict.{Verdict}
+use Rattle.run_text.specs.declared.verdict.Verdict.TheVariants.{Yes, No}
 
 -- keys without their frames, the most recently used first
 abbrev pub KeyCache : Type 0
@@ -79,3 +79,34 @@ module _ (plan : List Application) (root capacity : ℕ) where
     pub fits : AllByRecursion LineFits (journal_lines workers windows)
     pub text_is : text ≡ journal_text workers windows
     pub runs : AreWindows workers windows
+
+-- ---- The first line at which a text stops being a journal.
+
+-- the first line of a text, with the newline at its end where it has one
+abbrev pub first_line : List ℕ → List ℕ
+first_line [] = []
+first_line (byte ∷ text) = if byte == 10 then byte ∷ [] else byte ∷ first_line text
+
+abbrev pub after_line : List ℕ → List ℕ
+after_line [] = []
+after_line (byte ∷ text) = if byte == 10 then text else after_line text
+
+-- the first k lines
+abbrev pub first_lines : ℕ → List ℕ → List ℕ
+first_lines zero text = []
+first_lines (suc k) text = first_line text ++ first_lines k (after_line text)
+
+module _ (plan : List Application) (root capacity : ℕ) where
+  -- the lines up to this one, counted from 1, are no journal, and those up to each line before it are
+  pub record IsFirstWrong (text : List ℕ) (line : ℕ) : Type 0 where
+    pub some : 0 < line
+    pub wrong : IsJournal plan root capacity (first_lines line text) → ⊥
+    pub before : (k : ℕ) → 0 < k → k < line → IsJournal plan root capacity (first_lines k text)
+
+  abbrev pub Judges : List ℕ → Verdict → Type 0
+  Judges text Yes = IsJournal plan root capacity text
+  Judges text (No line) = IsFirstWrong text line
+
+abbrev pub JudgedOnce : Type 0
+JudgedOnce = (plan : List Application) (root capacity : ℕ) (text : List ℕ) (one other : Verdict)
+    → Judges plan root capacity text one → Judges plan root capacity text other → one ≡ other

@@ -2,11 +2,10 @@
 use Rattle.std.specs.Prelude.{ℕ, nat_lt, nat_le, ◌&&◌, if◌then◌else◌, List, [], ◌∷◌, Option, Some, None}
 use Rattle.std.specs.Option.{option_and_then}
 use Rattle.clip_graph.specs.Plan.{Application}
-use Rattle.serve_machine.specs.Windows.{WindowEvents}
+use Rattle.serve_machine.specs.Events.{WindowEvents}
 use Rattle.serve_machine.specs.Law.{start_of}
-use Rattle.serve_machine.specs.Machine.{Machine, allowed, change}
-use Rattle.serve_machine.specs.Renders.{in_window}
-use Rattle.serve_machine.specs.State.{State}
+use Rattle.serve_machine.specs.Machine.{Machine, allowed, change, State}
+use Rattle.serve_machine.specs.Journals.{in_window}
 use Rattle.run_text.specs.declared.line.Line.{Line}
 use Rattle.run_text.specs.declared.line.Line.TheVariants.{Workers, Window, Did}
 use Rattle.run_text.specs.Journal.{KeyCache, places, machine_of, is_window, is_finished}

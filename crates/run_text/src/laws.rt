@@ -1,5 +1,5 @@
 // Laws of the definitions, each the contract of a function with an empty body.
-ghost use Rattle.run_text.specs.Judging.{JudgedOnce};
+ghost use Rattle.run_text.specs.Journal.{JudgedOnce};
 ghost use Rattle.run_text.specs.Examples.{FirstRow, SecondRow, ThirdRow};
 
 /// A text is judged in one way at most.

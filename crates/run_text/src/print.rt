@@ -2,7 +2,7 @@
 ghost use Rattle.std.specs.Prelude.{◌≡◌, ◌≤◌, ◌++◌, [], map, flat_map, OnOk, OnErr};
 ghost use Rattle.std.specs.List.{AllByRecursion};
 ghost use Rattle.fv_io.specs.Sink.{Puts, PutsPrefix, SinkFailed, IsLater};
-ghost use Rattle.serve_machine.specs.Windows.{window_of, windows_of};
+ghost use Rattle.serve_machine.specs.Events.{window_of, windows_of};
 ghost use Rattle.run_text.specs.declared.line.Line.TheVariants.{Did};
 ghost use Rattle.run_text.specs.Lines.{LineFits, lines_text, window_lines, journal_lines, journal_text};
 ghost use Rattle.run_text.specs.Gathered.{PutsAllBut};

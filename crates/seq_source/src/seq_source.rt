@@ -2,9 +2,8 @@
 ghost use Rattle.std.specs.Prelude.{◌≡◌, ◌<◌, ◌≤◌, length, Some, None, IsSome, IfSome, IfOk, IfErr, OnOk, OnErr, IsErrOf, slice_get, slice_index};
 ghost use Rattle.std.specs.Option.{ForSome};
 ghost use Rattle.fv_io.specs.Source.{IsSteady};
-ghost use Rattle.fv_plane.specs.Clip.{Clip, picture_at};
 ghost use Rattle.y4m_stream.specs.Index.{IsIndex};
-ghost use Rattle.seq_source.specs.FrameSource.{IsAt, HasFrames, KeepsFrames, end_of, frames_of};
+ghost use Rattle.seq_source.specs.FrameSource.{IsAt, KeepsFrames, end_of, frames_of};
 ghost use Rattle.seq_source.specs.Faults.{FaultShows, IsNoChange};
 
 use crate::fault::SeqFault;
@@ -93,16 +92,11 @@ impl<S: Source> SeqSource<S> {
     pub fn frame(&mut self, n: u32) -> Result<Frame, SeqFault>
         requires { n < self.old.index.info.frames }
 
-        // Over told bytes it is the frame at its offset, and no fault says that they changed if they have each frame.
+        // Over told bytes it is the frame at its offset, and no fault says that they changed if they have each frame. So over
+        // a stream it is the stream's frame (`laws::a_stream_has_its_frames`).
         ensures told { IfOk result (λ frame. ForSome (frames_of S.Source self.old) (λ frames.
             slice_get frames n ≡ Some frame)) }
         ensures kept { IsSome (frames_of S.Source self.old) → IfErr result IsNoChange }
-
-        // So over bytes that are a stream it is the stream's frame.
-        ensures frame { IfOk result (λ frame. (clip : Clip) →
-            HasFrames S.Source self.old.source self.old.index clip → frame ≡ picture_at clip n) }
-        ensures unchanged { (clip : Clip) → HasFrames S.Source self.old.source self.old.index clip →
-            IfErr result IsNoChange }
         ensures shape { IfOk result (λ frame. frame.shape ≡ self.old.index.info.shape) }
 
         // It comes only where the bytes have all of it. A fault says what happened.

@@ -10,9 +10,9 @@ use Rattle.inst_table.specs.Places.{slot_at, with_slot}
 use Rattle.inst_table.proofs.CallerLemmas.{put_again}
 use Rattle.serve_machine.specs.declared.event.Event.{Event}
 use Rattle.serve_machine.specs.declared.event.Event.TheVariants.{Claim, Enter, Leave, Abandon}
-use Rattle.serve_machine.specs.Keys.{mode_at, instance_of}
+use Rattle.serve_machine.specs.Events.{mode_at, instance_of}
 use Rattle.serve_machine.specs.SerialRun.{leases}
-use Rattle.serve_core.specs.Calls.{left, abandoned}
+use Rattle.serve_core.specs.Calls.{after_leave, after_abandon}
 use Rattle.serve_core.specs.CoreValue.{CoreValue}
 use Rattle.serve_core.specs.Sources.{place_of}
 use Rattle.serve_core.specs.Tables.{AllFree, held_in, counts_in}
@@ -52,7 +52,7 @@ module _ {I : Type 0} (holds : I → Option Info) where
   }
 
   -- a claim is made, and events later it is closed
-  pub abandon_went : (c c1 e f : CoreValue I) (k : Key) (es : List Event) → c1 ≡ record c { claims = c.claims ++ (k, 0) ∷ []; journal = c.journal ++ Claim 0 k ∷ [] } → AllFrom (k.node + 1) c.claims → Went holds c1 e es → f ≡ abandoned e 0 k
+  pub abandon_went : (c c1 e f : CoreValue I) (k : Key) (es : List Event) → c1 ≡ record c { claims = c.claims ++ (k, 0) ∷ []; journal = c.journal ++ Claim 0 k ∷ [] } → AllFrom (k.node + 1) c.claims → Went holds c1 e es → f ≡ after_abandon e 0 k
       → Went holds c f (Claim 0 k ∷ (es ++ Abandon 0 k ∷ []))
   abandon_went c c1 e f k es at above w is = subst (λ (z : CoreValue I). Went holds c z (Claim 0 k ∷ (es ++ Abandon 0 k ∷ []))) (sym is) (record {
     journal = ap (λ l. l ++ Abandon 0 k ∷ []) (w.journal ∙ ap (λ (z : CoreValue I). z.journal ++ es) at) ∙ (ap (λ l. l ++ Abandon 0 k ∷ []) (append_assoc c.journal (Claim 0 k ∷ []) es) ∙ append_assoc c.journal (Claim 0 k ∷ es) (Abandon 0 k ∷ []));
@@ -68,10 +68,10 @@ module _ {I : Type 0} (holds : I → Option Info) where
   -- an instance is out and comes back
   pub lent_went : (plan : List Application) (c c1 d : CoreValue I) (i : ℕ) (p : Place) (value : I) → c.fixed.plan ≡ plan → (mode_at plan i ≡ 1 → ⊥) → p ≡ place_of c.fixed.plan 0 i
       → c1 ≡ record c { table = with_slot (place_of c.fixed.plan 0 i) (Leased 0) c.table; journal = c.journal ++ Enter 0 i (instance_of c.fixed.plan 0 i) ∷ [] }
-      → d ≡ left c1 0 p value → AllFree c.table → (x : I) → slot_at (place_of c.fixed.plan 0 i) c.table ≡ Some (Free x) → holds value ≡ holds x → Went holds c d (leases plan 0 i)
+      → d ≡ after_leave c1 0 p value → AllFree c.table → (x : I) → slot_at (place_of c.fixed.plan 0 i) c.table ≡ Some (Free x) → holds value ≡ holds x → Went holds c d (leases plan 0 i)
   lent_went plan c c1 d i p value q m place at is free x was same =
       let there : Place = place_of c.fixed.plan 0 i in
-      let all : d ≡ left (record c { table = with_slot there (Leased 0) c.table; journal = c.journal ++ Enter 0 i (instance_of c.fixed.plan 0 i) ∷ [] }) 0 there value = is ∙ (ap (λ (z : CoreValue I). left z 0 p value) at ∙ ap (λ (z : Place). left (record c { table = with_slot there (Leased 0) c.table; journal = c.journal ++ Enter 0 i (instance_of c.fixed.plan 0 i) ∷ [] }) 0 z value) place) in
+      let all : d ≡ after_leave (record c { table = with_slot there (Leased 0) c.table; journal = c.journal ++ Enter 0 i (instance_of c.fixed.plan 0 i) ∷ [] }) 0 there value = is ∙ (ap (λ (z : CoreValue I). after_leave z 0 p value) at ∙ ap (λ (z : Place). after_leave (record c { table = with_slot there (Leased 0) c.table; journal = c.journal ++ Enter 0 i (instance_of c.fixed.plan 0 i) ∷ [] }) 0 z value) place) in
       let table : with_slot there (Free value) (with_slot there (Leased 0) c.table) ≡ with_slot there (Free value) c.table = put_again there (Leased 0) (Free value) c.table in
       let events : leases plan 0 i ≡ Enter 0 i (instance_of c.fixed.plan 0 i) ∷ Leave 0 i (instance_of c.fixed.plan 0 i) ∷ [] = subst (λ pl. (mode_at pl i ≡ 1 → ⊥) → leases pl 0 i ≡ Enter 0 i (instance_of c.fixed.plan 0 i) ∷ Leave 0 i (instance_of c.fixed.plan 0 i) ∷ []) q (λ m'. rw (ne_eqb (mode_at c.fixed.plan i) 1 m') refl) m in
       subst (λ es. Went holds c d es) (sym events) (subst (λ (z : CoreValue I). Went holds c z (Enter 0 i (instance_of c.fixed.plan 0 i) ∷ Leave 0 i (instance_of c.fixed.plan 0 i) ∷ [])) (sym all) (record {
@@ -88,7 +88,7 @@ module _ {I : Type 0} (holds : I → Option Info) where
 -- it comes back with its count of faults
 pub lent_steady : {I : Type 0} (faults : I → ℕ) (c c1 d : CoreValue I) (i : ℕ) (p : Place) (value : I) → p ≡ place_of c.fixed.plan 0 i
     → c1 ≡ record c { table = with_slot (place_of c.fixed.plan 0 i) (Leased 0) c.table; journal = c.journal ++ Enter 0 i (instance_of c.fixed.plan 0 i) ∷ [] }
-    → d ≡ left c1 0 p value → (x : I) → slot_at (place_of c.fixed.plan 0 i) c.table ≡ Some (Free x) → faults value ≡ faults x → counts_in faults d.table ≡ counts_in faults c.table
+    → d ≡ after_leave c1 0 p value → (x : I) → slot_at (place_of c.fixed.plan 0 i) c.table ≡ Some (Free x) → faults value ≡ faults x → counts_in faults d.table ≡ counts_in faults c.table
 lent_steady faults c c1 d i p value place at is x was same =
     let there : Place = place_of c.fixed.plan 0 i in
     let table : d.table ≡ with_slot there (Free value) c.table = ap (λ (z : CoreValue _). z.table) is ∙ (ap (λ (z : CoreValue _). with_slot p (Free value) z.table) at ∙ (ap (λ (z : Place). with_slot z (Free value) (with_slot there (Leased 0) c.table)) place ∙ put_again there (Leased 0) (Free value) c.table)) in

@@ -6,7 +6,7 @@ use Rattle.std.specs.Map.{keys_of}
 use Rattle.fv_plane.specs.declared.key.Key.{Key}
 use Rattle.frame_cache.specs.Cached.{same_key, at_key, has_key, without_key, fronted, put_first}
 use Rattle.frame_cache.proofs.CallerLemmas.{test, same_keys, key_itself}
-use Rattle.serve_machine.specs.Keys.{has, without}
+use Rattle.serve_machine.specs.Events.{has, without}
 use Rattle.serve_core.specs.Holds.{claims_at}
 use Rattle.serve_alone.specs.Alone.{AllFrom}
 

@@ -24,21 +24,20 @@ use Rattle.serve_machine.specs.declared.event.Event.{Event}
 use Rattle.serve_machine.specs.declared.event.Event.TheVariants.{Hit, Claim, Enter, Leave, Publish, Abandon}
 use Rattle.serve_machine.specs.declared.event.WindowStop.{WindowStop}
 use Rattle.serve_machine.specs.declared.event.WindowStop.TheVariants.{Read, Changed, Memory}
-use Rattle.serve_machine.specs.Keys.{has, mode_at, instance_of}
-use Rattle.serve_machine.specs.Own.{has_got, has_got_all, has_entered}
+use Rattle.serve_machine.specs.Events.{has, mode_at, instance_of, has_got, has_got_all, has_entered}
 use Rattle.serve_machine.specs.SerialRun.{Serial, serial_production_within, each_produced, made_after, leases, eviction, eviction_from}
 use Rattle.serve_machine.specs.Work.{Productions, CutShort, CutInputs, refused, inside, unpublished, between, within}
 use Rattle.serve_machine.proofs.OwnLemmas.{now_got, all_got, one_more_got, hit_got, publish_got, still_fails, entered_now}
 use Rattle.serve_machine.proofs.SerialLemmas.{produced_more, each_whole, whole_within}
 use Rattle.serve_core.specs.declared.answers.Admitted.TheVariants.{Leased as Lends}
 use Rattle.serve_core.specs.declared.answers.Ask.TheVariants.{Hit as Found, Claimed}
-use Rattle.serve_core.specs.Calls.{Asked, Admits, left, published, abandoned}
+use Rattle.serve_core.specs.Calls.{Asked, Admits, after_leave, after_publish, after_abandon}
 use Rattle.serve_core.specs.CoreValue.{CoreValue}
 use Rattle.serve_core.specs.Holds.{is_free_at}
 use Rattle.serve_core.specs.Kept.{AnswerIsShaped}
 use Rattle.serve_core.specs.Sources.{place_of, shape_at}
 use Rattle.serve_core.specs.Stands.{Book, Stands, IsRight, FitsAct, Fits, ExceedsAct, CallsStand}
-use Rattle.serve_core.specs.Stops.{first_stop}
+use Rattle.serve_machine.specs.Machine.{first_stop}
 use Rattle.serve_core.proofs.Standing.{calls_stand}
 use Rattle.serve_alone.specs.Alone.{Alone, AllFrom, Went, Ran}
 use Rattle.serve_core.specs.Tables.{held_in, counts_in}
@@ -73,7 +72,7 @@ module _ {I : Type 0} (of : Ghosts I) (plan : List Application) where
   stop_since c d e why keeps s = record { cause = s.cause; named = s.named; there = s.there; ended = s.ended; right = λ book numbers st. s.right book numbers (keeps book numbers st).0 }
 
   -- a claim is given up after it
-  pub stop_abandoned : (c d e : CoreValue I) (k : Key) (why : WindowStop) → StopIs of plan c why d → e ≡ abandoned d 0 k → StopIs of plan c why e
+  pub stop_abandoned : (c d e : CoreValue I) (k : Key) (why : WindowStop) → StopIs of plan c why d → e ≡ after_abandon d 0 k → StopIs of plan c why e
   stop_abandoned c d e k why s is = subst (StopIs of plan c why) (sym is) (record {
     cause = still_fails 0 why d.journal (Abandon 0 k ∷ []) s.cause;
     named = s.named;
@@ -105,7 +104,7 @@ module _ {I : Type 0} (of : Ghosts I) (plan : List Application) where
   plain_unmade c k (Err why) a is = subst (λ w. Unmade of plan c k w c) (sym is) (unmade_now c c k a refl)
 
   -- what stays when an instance was out
-  lent_stands : (c c1 e : CoreValue I) (i : ℕ) (l : Lent I) (value : I) → c.stop ≡ first_stop c.journal → Admits c 0 i (Lends l) c1 → slot_at l.place c1.table ≡ Some (Leased 0) → e ≡ left c1 0 l.place value → of.feed value ≡ of.feed l.value → of.faults l.value ≤ of.faults value
+  lent_stands : (c c1 e : CoreValue I) (i : ℕ) (l : Lent I) (value : I) → c.stop ≡ first_stop c.journal → Admits c 0 i (Lends l) c1 → slot_at l.place c1.table ≡ Some (Leased 0) → e ≡ after_leave c1 0 l.place value → of.feed value ≡ of.feed l.value → of.faults l.value ≤ of.faults value
       → Keeps of plan c e (λ book numbers. Fits of.feed of.faults book numbers c.fixed.plan l.place l.value)
   lent_stands c c1 e i l value first adm out is f g book numbers s =
       let both = law.enter book numbers c c1 0 i (Lends l) s first adm in
@@ -151,20 +150,20 @@ module _ {I : Type 0} (of : Ghosts I) (plan : List Application) where
 
   -- why none was made
 
-  entered_there : (c c1 e : CoreValue I) (i : ℕ) (l : Lent I) (value : I) → Alone plan c → i < length plan → is_source (application_at plan i).act ≡ true → Admits c 0 i (Lends l) c1 → e ≡ left c1 0 l.place value
+  entered_there : (c c1 e : CoreValue I) (i : ℕ) (l : Lent I) (value : I) → Alone plan c → i < length plan → is_source (application_at plan i).act ≡ true → Admits c 0 i (Lends l) c1 → e ≡ after_leave c1 0 l.place value
       → slot_at (shared_place i) e.table ≡ Some (Free value)
   entered_there c c1 e i l value a less is adm left_is =
       let shared : l.place ≡ shared_place i = adm.1 ∙ ap (λ pl. place_of pl 0 i) a.plan_is ∙ shared_for plan 0 i (source_mode plan i a.is_plan less is) in
       let out : slot_at l.place c1.table ≡ Some (Leased 0) = leased_now c c1 i l adm in
       ap (λ (z : CoreValue I). slot_at (shared_place i) z.table) left_is ∙ ap (λ p. slot_at p (with_slot l.place (Free value) c1.table)) (sym shared) ∙ slot_put l.place (Free value) c1.table (ap is_some out)
 
-  entered_journal : (c c1 e : CoreValue I) (i : ℕ) (l : Lent I) (value : I) → Admits c 0 i (Lends l) c1 → e ≡ left c1 0 l.place value → has_entered 0 i e.journal ≡ true
+  entered_journal : (c c1 e : CoreValue I) (i : ℕ) (l : Lent I) (value : I) → Admits c 0 i (Lends l) c1 → e ≡ after_leave c1 0 l.place value → has_entered 0 i e.journal ≡ true
   entered_journal c c1 e i l value adm is =
       let j : ℕ = instance_of c.fixed.plan 0 i in
       let last : List Event = Leave 0 l.place.node l.place.instance ∷ [] in
       ap (λ (z : CoreValue I). has_entered 0 i z.journal) is ∙ (ap (λ (z : CoreValue I). has_entered 0 i (z.journal ++ last)) adm.3 ∙ (ap (has_entered 0 i) (append_assoc c.journal (Enter 0 i j ∷ []) last) ∙ entered_now 0 i j c.journal last))
 
-  make_stop : (c c1 e : CoreValue I) (i : ℕ) (l : Lent I) (value : I) (why : WindowStop) → Alone plan c → i < length plan → c.stop ≡ first_stop c.journal → Admits c 0 i (Lends l) c1 → e ≡ left c1 0 l.place value → of.feed value ≡ of.feed l.value → of.faults l.value ≤ of.faults value
+  make_stop : (c c1 e : CoreValue I) (i : ℕ) (l : Lent I) (value : I) (why : WindowStop) → Alone plan c → i < length plan → c.stop ≡ first_stop c.journal → Admits c 0 i (Lends l) c1 → e ≡ after_leave c1 0 l.place value → of.feed value ≡ of.feed l.value → of.faults l.value ≤ of.faults value
       → MakeStops of.feed of.faults of.ends plan i l.value value why → StopIs of plan c why e
   make_stop c c1 e i l value Memory a less first adm is f g m = memory_stop c e (λ book numbers s. ((lent_stands c c1 e i l value first adm (leased_now c c1 i l adm) is f g book numbers s).0, tt))
   make_stop c c1 e i l value (Read j) a less first adm is f g m =
@@ -205,11 +204,11 @@ module _ {I : Type 0} (of : Ghosts I) (plan : List Application) where
   pub unmade_after : (c e f : CoreValue I) (k : Key) (inputs : List Picture) (x : Picture) → Made of plan c k inputs x e → f ≡ e → Unmade of plan c k Memory f
   unmade_after c e f k inputs x l is = subst (Unmade of plan c k Memory) (sym is) (record { events = leases plan 0 k.node; which = inr refl; went = l.went; stops = memory_stop c e (λ book numbers s. ((l.right book numbers s).0, tt)) })
 
-  pub published_ok : (c e f : CoreValue I) (k : Key) (inputs : List Picture) (x y : Picture) → c.fixed.plan ≡ plan → Made of plan c k inputs x e → y ≡ x → f ≡ published e 0 k y → Published of plan c k inputs x f
+  pub published_ok : (c e f : CoreValue I) (k : Key) (inputs : List Picture) (x y : Picture) → c.fixed.plan ≡ plan → Made of plan c k inputs x e → y ≡ x → f ≡ after_publish e 0 k y → Published of plan c k inputs x f
   published_ok c e f k inputs x y q l same is =
       let cap : e.fixed.capacity ≡ c.fixed.capacity = ap (λ z. z.capacity) l.went.fixed in
       let gone : eviction 0 (dropped_key e.fixed.capacity e.cache) ≡ eviction_from 0 c.fixed.capacity (keys_of c.cache) = ap (λ n. eviction 0 (dropped_key n e.cache)) cap ∙ ap (λ ps. eviction 0 (dropped_key c.fixed.capacity ps)) l.cache in
-      let whole : f ≡ published e 0 k x = is ∙ ap (published e 0 k) same in
+      let whole : f ≡ after_publish e 0 k x = is ∙ ap (after_publish e 0 k) same in
       subst (Published of plan c k inputs x) (sym whole) (record {
         journal = ap (λ es. e.journal ++ (es ++ Publish 0 k ∷ [])) gone ∙ (ap (λ es. es ++ (eviction_from 0 c.fixed.capacity (keys_of c.cache) ++ Publish 0 k ∷ [])) l.went.journal ∙ append_assoc c.journal (leases plan 0 k.node) (eviction_from 0 c.fixed.capacity (keys_of c.cache) ++ Publish 0 k ∷ []));
         keys = keys_put e.fixed.capacity k x e.cache ∙ (ap (λ n. k ∷ take (n - 1) (keys_of e.cache)) cap ∙ ap (λ ps. k ∷ take (c.fixed.capacity - 1) (keys_of ps)) l.cache);
@@ -307,7 +306,7 @@ module _ {I : Type 0} (of : Ghosts I) (plan : List Application) where
   gathered_went c e bound ks inputs g = (g.ran bound (omega arith)).went
 
   -- a stop inside the inputs
-  pub stopped_inside : (c d e f : CoreValue I) (k : Key) (why : WindowStop) → AllFrom (k.node + 1) c.claims → Asked c 0 k Claimed d → Stopped of plan d (CutInputs plan 0 (input_keys plan k)) why e → f ≡ abandoned e 0 k → Stopped of plan c (CutShort plan 0 k) why f
+  pub stopped_inside : (c d e f : CoreValue I) (k : Key) (why : WindowStop) → AllFrom (k.node + 1) c.claims → Asked c 0 k Claimed d → Stopped of plan d (CutInputs plan 0 (input_keys plan k)) why e → f ≡ after_abandon e 0 k → Stopped of plan c (CutShort plan 0 k) why f
   stopped_inside c d e f k why above asked s is = record {
     done = Claim 0 k ∷ s.done;
     closing = s.closing ++ Abandon 0 k ∷ [];
@@ -317,7 +316,7 @@ module _ {I : Type 0} (of : Ghosts I) (plan : List Application) where
   }
 
   -- a stop after the inputs
-  pub stopped_after : (c d e u f : CoreValue I) (k : Key) (inputs : List Picture) (why : WindowStop) → IsPlan plan → k.node < length plan → AllFrom (k.node + 1) c.claims → Asked c 0 k Claimed d → Gathered of plan d k.node (input_keys plan k) inputs e → Unmade of plan e k why u → f ≡ abandoned u 0 k
+  pub stopped_after : (c d e u f : CoreValue I) (k : Key) (inputs : List Picture) (why : WindowStop) → IsPlan plan → k.node < length plan → AllFrom (k.node + 1) c.claims → Asked c 0 k Claimed d → Gathered of plan d k.node (input_keys plan k) inputs e → Unmade of plan e k why u → f ≡ after_abandon u 0 k
       → Stopped of plan c (CutShort plan 0 k) why f
   stopped_after c d e u f k inputs why ok less above asked g n is =
       let es : List Event = (each_produced (serial_production_within k.node plan d.fixed.capacity) (keys_of d.cache) (input_keys plan k)).events in

@@ -12,14 +12,14 @@ use Rattle.serve_machine.specs.declared.event.Event.{Event}
 use Rattle.serve_machine.specs.declared.event.Event.TheVariants.{Take, Deliver, Fail}
 use Rattle.serve_machine.specs.declared.event.WindowStop.{WindowStop}
 use Rattle.serve_machine.specs.declared.event.WindowStop.TheVariants.{Memory}
-use Rattle.serve_machine.specs.Keys.{IsKey, frame_key}
+use Rattle.serve_machine.specs.Events.{IsKey, frame_key}
 use Rattle.serve_machine.specs.SerialRun.{Serial, serial_production, serial_production_within, serial_delivery, serial_window}
 use Rattle.serve_machine.specs.Work.{CutShort, FailedWork, Deliveries}
 use Rattle.serve_machine.proofs.SerialLemmas.{serial_is_whole, failed_between, failed_within}
-use Rattle.serve_core.specs.Calls.{TookOutput, next_output, delivered, failing}
+use Rattle.serve_core.specs.Calls.{TookOutput, next_output, after_deliver, after_fail}
 use Rattle.serve_core.specs.CoreValue.{CoreValue, Fixed, Outputs}
 use Rattle.serve_core.specs.Stands.{IsRight, StopFits, CallsStand}
-use Rattle.serve_core.specs.Stops.{kept_stop}
+use Rattle.serve_machine.specs.Machine.{kept_stop}
 use Rattle.serve_core.proofs.Standing.{calls_stand}
 use Rattle.serve_alone.specs.Alone.{Alone}
 use Rattle.serve_core.specs.Tables.{held_in, counts_in}
@@ -84,7 +84,7 @@ module _ {I : Type 0} (of : Ghosts I) (plan : List Application) where
   took_stands : (c d : CoreValue I) (n : ℕ) → TookOutput c 0 (Some n) d → Keeps of plan c d (λ book numbers. Unit {0})
   took_stands c d n took book numbers s = (law.take_output book numbers c d 0 (Some n) s took, tt)
 
-  pub step_ok : (c d e f : CoreValue I) (r n : ℕ) (x : Picture) → c.fixed.plan ≡ plan → TookOutput c 0 (Some n) d → r ≡ d.fixed.root → Produced of plan d (record { node = r; n = n }) x e → f ≡ delivered e 0 n x → Step of plan c x f
+  pub step_ok : (c d e f : CoreValue I) (r n : ℕ) (x : Picture) → c.fixed.plan ≡ plan → TookOutput c 0 (Some n) d → r ≡ d.fixed.root → Produced of plan d (record { node = r; n = n }) x e → f ≡ after_deliver e 0 n x → Step of plan c x f
   step_ok c d e f r n x q took root p is =
       let run = p.ran (suc r) (omega arith) in
       let went = run.went in
@@ -229,7 +229,7 @@ module _ {I : Type 0} (of : Ghosts I) (plan : List Application) where
       whole : served of plan c (suc i) ≡ (let z = serial_delivery (c.fixed.first + i) (serial_production plan c.fixed.capacity a.keys (frame_key c.fixed.root (c.fixed.first + i))) in record { events = a.events ++ z.events; keys = z.keys })
       whole = window_more plan c.fixed.root c.fixed.capacity (keys_of c.cache) c.fixed.first i (c.fixed.first + i) refl
 
-  pub cut_window : (c d e f : CoreValue I) (i : ℕ) (why : WindowStop) → Alone plan c → c.fixed.root < length plan → Served of plan c i d → StepCut of plan d why e → f ≡ failing e 0 why → WindowCut of plan c why f
+  pub cut_window : (c d e f : CoreValue I) (i : ℕ) (why : WindowStop) → Alone plan c → c.fixed.root < length plan → Served of plan c i d → StepCut of plan d why e → f ≡ after_fail e 0 why → WindowCut of plan c why f
   cut_window c d e f i why a root v s is = by_output s.done s.closing s.cut before
     where
       es : List Event

@@ -12,9 +12,9 @@ use Rattle.serve_machine.specs.declared.event.Event.{Event}
 use Rattle.serve_machine.specs.declared.event.Event.TheVariants.{Publish}
 use Rattle.serve_machine.specs.declared.event.WindowStop.{WindowStop}
 use Rattle.serve_machine.specs.declared.event.WindowStop.TheVariants.{Read}
-use Rattle.serve_machine.specs.Own.{has_got, has_got_all, may_fail, names_source}
+use Rattle.serve_machine.specs.Events.{has_got, has_got_all, may_fail, names_source}
 use Rattle.serve_machine.specs.SerialRun.{serial_production_within, each_produced, leases, eviction_from}
-use Rattle.serve_core.specs.Calls.{left}
+use Rattle.serve_core.specs.Calls.{after_leave}
 use Rattle.serve_core.specs.CoreValue.{CoreValue}
 use Rattle.serve_core.specs.Holds.{IsThere}
 use Rattle.serve_core.specs.Sources.{shape_at}
@@ -33,7 +33,7 @@ module _ {I : Type 0} (of : Ghosts I) (plan : List Application) where
   pub record Returned (k : Key) (inputs : List Picture) (l : Lent I) (c : CoreValue I)
       (made : Result Picture WindowStop) (d : CoreValue I) : Type 0 where
     pub value : I
-    pub core : d ≡ left c 0 l.place value
+    pub core : d ≡ after_leave c 0 l.place value
     pub feed_same : of.feed value ≡ of.feed l.value
     pub faults_more : of.faults l.value ≤ of.faults value
     pub steady : (IsErrOf made (Read k.node) → ⊥) → of.faults value ≡ of.faults l.value

@@ -7,8 +7,7 @@ use Rattle.inst_table.specs.declared.held.Held.{Ghosts}
 use Rattle.serve_machine.specs.declared.event.Event.{Event}
 use Rattle.serve_machine.specs.declared.event.Event.TheVariants.{Take}
 use Rattle.serve_machine.specs.declared.event.WindowStop.{WindowStop}
-use Rattle.serve_machine.specs.Keys.{frame_key}
-use Rattle.serve_machine.specs.Own.{names_source}
+use Rattle.serve_machine.specs.Events.{frame_key, names_source}
 use Rattle.serve_machine.specs.SerialRun.{Serial, serial_production, serial_delivery, serial_window}
 use Rattle.serve_machine.specs.Work.{CutShort, FailedWork}
 use Rattle.serve_core.specs.Calls.{next_output}

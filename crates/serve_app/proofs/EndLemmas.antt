@@ -16,35 +16,61 @@ use Rattle.command_line.specs.declared.command.Tells.{Tells}
 use Rattle.command_line.specs.declared.command.Tells.TheVariants as of_tells
 use Rattle.run_text.specs.Lines.{LineFits, journal_lines, journal_text}
 use Rattle.serve_machine.specs.declared.windows.Record.{Record}
-use Rattle.serve_machine.specs.Windows.{windows_of}
+use Rattle.serve_machine.specs.Events.{windows_of}
 use Rattle.serve_text.specs.Lines.{Says, usage_line}
-use Rattle.serve_text.specs.Report.{report}
-use Rattle.serve_text.specs.Reports.{CutsReport}
+use Rattle.serve_text.specs.Report.{report, CutsReport}
 use Rattle.serve_text.specs.declared.stop.Stop.{Stop}
 use Rattle.serve_text.specs.declared.stop.Stop.TheVariants.{Memory}
-use Rattle.prefetch.specs.Parts.{PutsHead, PutsNoHead}
 use Rattle.prefetch.specs.Streams.{stop_in, TellsStop, HeadShows}
-use Rattle.prefetch.specs.declared.staff.Staff.{Staff}
-use Rattle.prefetch.specs.declared.stream.Whole.{Whole}
+use Rattle.prefetch.specs.declared.pool_size.PoolSize.{PoolSize}
+use Rattle.prefetch.specs.declared.stream.RenderedClip.{RenderedClip}
 use Rattle.serve_app.specs.declared.entry.Telling.{Telling}
 use Rattle.serve_app.specs.declared.entry.Telling.TheVariants as telling
-use Rattle.serve_app.specs.Headline.{Quiet, Headline, JournalEnds, InfoEnds, SessionEnds, ReplayEnds, Ends}
+use Rattle.serve_app.specs.Headline.{Quiet, Headline, RenderJournal, InfoEnds, SessionEnds, SessionJournal, ReplayEnds, IsRefused, CommandEnds, CommandJournal, Ends, LeavesJournal}
 use Rattle.serve_app.specs.Journals.{cache_of, IsScriptRendered, IsRunOf, IsReport, IsJournalText, IsLawful, ScriptCuts}
-use Rattle.serve_app.specs.Playing.{PutsClip}
-use Rattle.serve_app.specs.Reads.{ReadsOnce}
-use Rattle.serve_app.specs.Renders.{IsScriptRender}
+use Rattle.serve_app.specs.Renders.{PutsUntorn, PutsClip, IsScriptRender}
+use Rattle.serve_app.specs.Meaning.{ReadsOnce}
 use Rattle.serve_app.specs.Run.{told_in, HasLog, IsToldOf, RenderDoes, Does, LeavesNone, Finishes}
 use Rattle.serve_app.specs.SelfTest.{SelfTestEnds}
 use Rattle.serve_app.specs.Stop.{HasInfo}
-use Rattle.serve_app.proofs.RunLemmas.{headline_of_whole, cut_in, headline_of_cut, headline_of_stop, info_of_whole, info_of_stop, self_test_of_whole, self_test_of_stop, journal_of_whole, journal_of_stop, unheaded, headed_of, zero_or_five, wrote_of}
+use Rattle.serve_app.proofs.RunLemmas.{headline_of_whole, cut_in, headline_of_cut, headline_of_stop, info_of_whole, info_of_stop, self_test_of_whole, self_test_of_stop, journal_of_whole, journal_of_stop, zero_or_five}
 use Rattle.serve_app.proofs.LawfulLemmas.{lawful_by}
 use Rattle.serve_app.proofs.ReplayEnds.{replay_whole, replay_stop}
 use Rattle.serve_app.proofs.SessionEnds.{session_whole, session_stop}
 
-module _ {F S K E : Type 0} (files : of_files.Ghosts F S) (sink : Ghosts K) (lines : Ghosts E) (f g : F) (out new : K) (err said : E) (by : RenderOptions → Staff) (words : List (List ℕ)) (journal : Option Record) where
+module _ {F S K E : Type 0} (files : of_files.Ghosts F S) (sink : Ghosts K) (lines : Ghosts E) (f g : F) (out new : K) (err said : E) (by : RenderOptions → PoolSize) (words : List (List ℕ)) (journal : Option Record) where
   -- what every run leaves
   abbrev Leaves : Type 0
   Leaves = KeepsFiles files f g × IsLater sink out new × IsLater lines err said
+
+  -- what every command leaves, with its journal
+  abbrev Both : ℕ → Type 0
+  Both status = Ends files sink lines f g out new err said by words status journal × LeavesJournal files sink lines f g out new err said by words status journal
+
+  abbrev OfCommand : Command → ℕ → Type 0
+  OfCommand command status = CommandEnds files sink lines f g out new err said by journal command status
+
+  abbrev LogOf : Command → ℕ → Type 0
+  LogOf command status = CommandJournal files sink lines f g out new err said by journal command status
+
+  ends_of_command : (command : Command) (status : ℕ) → command_in words ≡ Some command → OfCommand command status → LogOf command status → (status ≡ 1 → ⊥) → Leaves → Both status
+  ends_of_command command status asked ends log more leaves = (
+    record {
+      asked = λ other is. subst (λ (one : Command). OfCommand one status) (same other is) ends;
+      refused = λ none. (let both : Some command ≡ None = sym asked ∙ none in absurd (cc));
+      usage = λ one. absurd (more one);
+      keeps = leaves.0;
+      later = leaves.1;
+      later_lines = leaves.2;
+    },
+    record {
+      asked = λ other is. subst (λ (one : Command). LogOf one status) (same other is) log;
+      refused = λ none. (let both : Some command ≡ None = sym asked ∙ none in absurd (cc));
+    },
+  )
+    where
+      same : (other : Command) → command_in words ≡ Some other → command ≡ other
+      same other is = let both : Some command ≡ Some other = sym asked ∙ is in cc
 
   not_one : (status : ℕ) → (status ≡ 0) ⊎ (2 ≤ status) × (status ≤ 6) → status ≡ 1 → ⊥
   not_one status (inl zero) one = omega (arith, zero, one)
@@ -52,130 +78,28 @@ module _ {F S K E : Type 0} (files : of_files.Ghosts F S) (sink : Ghosts K) (lin
 
   ends_of_render : (script : List ℕ) (options : RenderOptions) (status : ℕ) → command_in words ≡ Some (c.Render script options)
       → Headline files sink lines f g out new err said script (cache_of options.cache) (by options) journal options.tells status
-      → JournalEnds files sink lines f g out new err said script (cache_of options.cache) (by options) journal status
-      → (journal ≡ None → PutsNoHead sink out new (HasInfo (files.world f) script) (status ≡ 5)) → ((log : Record) → journal ≡ Some log → PutsHead sink out new (HasInfo (files.world f) script)) → Leaves
-      → Ends files sink lines f g out new err said by words status journal
-  ends_of_render script options status asked ends ended no_head headed leaves = record {
-    render = λ other others is.
-        (let both : Some (c.Render script options) ≡ Some (c.Render other others) = sym asked ∙ is in
-        let same : script ≡ other = cc in
-        let alike : options ≡ others = cc in
-        subst (λ (o : RenderOptions). Headline files sink lines f g out new err said other (cache_of o.cache) (by o) journal o.tells status) alike
-        (subst (λ s. Headline files sink lines f g out new err said s (cache_of options.cache) (by options) journal options.tells status) same ends));
-    journal_of = λ other others is.
-        (let both : Some (c.Render script options) ≡ Some (c.Render other others) = sym asked ∙ is in
-        let same : script ≡ other = cc in
-        let alike : options ≡ others = cc in
-        subst (λ (o : RenderOptions). JournalEnds files sink lines f g out new err said other (cache_of o.cache) (by o) journal status) alike
-        (subst (λ s. JournalEnds files sink lines f g out new err said s (cache_of options.cache) (by options) journal status) same ended));
-    info = λ other is. (let both : Some (c.Render script options) ≡ Some (c.Info other) = sym asked ∙ is in absurd (cc));
-    session = λ other list cache is. (let both : Some (c.Render script options) ≡ Some (c.Session other list cache) = sym asked ∙ is in absurd (cc));
-    replay = λ other name cache is. (let both : Some (c.Render script options) ≡ Some (c.Replay other name cache) = sym asked ∙ is in absurd (cc));
-    self_test = λ number is. (let both : Some (c.Render script options) ≡ Some (c.SelfTest number) = sym asked ∙ is in absurd (cc));
-    refused = λ none. (let both : Some (c.Render script options) ≡ None = sym asked ∙ none in absurd (cc));
-    usage = λ one. absurd (not_one status (let causes = ends.causes in causes.known) one);
-    no_journal = λ none other others is.
-        (let both : Some (c.Render script options) ≡ Some (c.Render other others) = sym asked ∙ is in
-        let same : script ≡ other = cc in
-        subst (λ s. PutsNoHead sink out new (HasInfo (files.world f) s) (status ≡ 5)) same (no_head none));
-    some_journal = λ log there. inl (script, options, asked, headed log there);
-    keeps = leaves.0;
-    later = leaves.1;
-    later_lines = leaves.2;
-  }
+      → RenderJournal files sink lines f g out new err said script (cache_of options.cache) (by options) journal status → Leaves → Both status
+  ends_of_render script options status asked ends log leaves = ends_of_command (c.Render script options) status asked ends log (not_one status (let causes = ends.causes in causes.known)) leaves
 
-  ends_of_info : (script : List ℕ) (status : ℕ) → command_in words ≡ Some (c.Info script) → InfoEnds files sink lines f g out new err said script status → journal ≡ None → Leaves
-      → Ends files sink lines f g out new err said by words status journal
-  ends_of_info script status asked ends empty leaves = record {
-    render = λ other others is. (let both : Some (c.Info script) ≡ Some (c.Render other others) = sym asked ∙ is in absurd (cc));
-    journal_of = λ other others is. (let both : Some (c.Info script) ≡ Some (c.Render other others) = sym asked ∙ is in absurd (cc));
-    info = λ other is. (let same : script ≡ other = (let both : Some (c.Info script) ≡ Some (c.Info other) = sym asked ∙ is in cc) in
-        subst (λ s. InfoEnds files sink lines f g out new err said s status) same ends);
-    session = λ other list cache is. (let both : Some (c.Info script) ≡ Some (c.Session other list cache) = sym asked ∙ is in absurd (cc));
-    replay = λ other name cache is. (let both : Some (c.Info script) ≡ Some (c.Replay other name cache) = sym asked ∙ is in absurd (cc));
-    self_test = λ number is. (let both : Some (c.Info script) ≡ Some (c.SelfTest number) = sym asked ∙ is in absurd (cc));
-    refused = λ none. (let both : Some (c.Info script) ≡ None = sym asked ∙ none in absurd (cc));
-    usage = λ one. absurd (not_one status (let causes = ends.causes in causes.known) one);
-    no_journal = λ none other others is. (let both : Some (c.Info script) ≡ Some (c.Render other others) = sym asked ∙ is in absurd (cc));
-    some_journal = λ log there. (let both : None ≡ Some log = sym empty ∙ there in absurd (cc));
-    keeps = leaves.0;
-    later = leaves.1;
-    later_lines = leaves.2;
-  }
+  ends_of_info : (script : List ℕ) (status : ℕ) → command_in words ≡ Some (c.Info script) → InfoEnds files sink lines f g out new err said script status → journal ≡ None → Leaves → Both status
+  ends_of_info script status asked ends empty leaves = ends_of_command (c.Info script) status asked ends empty (not_one status (let causes = ends.causes in causes.known)) leaves
 
   self_not_one : (status : ℕ) → (status ≡ 0) ⊎ ((status ≡ 5) ⊎ (status ≡ 6)) → status ≡ 1 → ⊥
   self_not_one status (inl zero) one = omega (arith, zero, one)
   self_not_one status (inr (inl five)) one = omega (arith, five, one)
   self_not_one status (inr (inr six)) one = omega (arith, six, one)
 
-  ends_of_self_test : (number status : ℕ) → command_in words ≡ Some (c.SelfTest number) → SelfTestEnds sink lines out new err said number status → g ≡ f → journal ≡ None → Leaves
-      → Ends files sink lines f g out new err said by words status journal
-  ends_of_self_test number status asked ends stay empty leaves = record {
-    render = λ other others is. (let both : Some (c.SelfTest number) ≡ Some (c.Render other others) = sym asked ∙ is in absurd (cc));
-    journal_of = λ other others is. (let both : Some (c.SelfTest number) ≡ Some (c.Render other others) = sym asked ∙ is in absurd (cc));
-    info = λ other is. (let both : Some (c.SelfTest number) ≡ Some (c.Info other) = sym asked ∙ is in absurd (cc));
-    session = λ other list cache is. (let both : Some (c.SelfTest number) ≡ Some (c.Session other list cache) = sym asked ∙ is in absurd (cc));
-    replay = λ other name cache is. (let both : Some (c.SelfTest number) ≡ Some (c.Replay other name cache) = sym asked ∙ is in absurd (cc));
-    self_test = λ other is. (let same : number ≡ other = (let both : Some (c.SelfTest number) ≡ Some (c.SelfTest other) = sym asked ∙ is in cc) in
-        (subst (λ n. SelfTestEnds sink lines out new err said n status) same ends, stay));
-    refused = λ none. (let both : Some (c.SelfTest number) ≡ None = sym asked ∙ none in absurd (cc));
-    usage = λ one. absurd (self_not_one status ends.known one);
-    no_journal = λ none other others is. (let both : Some (c.SelfTest number) ≡ Some (c.Render other others) = sym asked ∙ is in absurd (cc));
-    some_journal = λ log there. (let both : None ≡ Some log = sym empty ∙ there in absurd (cc));
-    keeps = leaves.0;
-    later = leaves.1;
-    later_lines = leaves.2;
-  }
+  ends_of_self_test : (number status : ℕ) → command_in words ≡ Some (c.SelfTest number) → SelfTestEnds sink lines out new err said number status → g ≡ f → journal ≡ None → Leaves → Both status
+  ends_of_self_test number status asked ends stay empty leaves = ends_of_command (c.SelfTest number) status asked (ends, stay) empty (self_not_one status ends.known) leaves
 
-  ends_of_session : (script list : List ℕ) (cache : Option ℕ) (status : ℕ) → command_in words ≡ Some (c.Session script list cache)
-      → SessionEnds files sink lines f g out new err said script list (cache_of cache) journal status → Leaves → Ends files sink lines f g out new err said by words status journal
-  ends_of_session script list cache status asked ends leaves = record {
-    render = λ other others is. (let both : Some (c.Session script list cache) ≡ Some (c.Render other others) = sym asked ∙ is in absurd (cc));
-    journal_of = λ other others is. (let both : Some (c.Session script list cache) ≡ Some (c.Render other others) = sym asked ∙ is in absurd (cc));
-    info = λ other is. (let both : Some (c.Session script list cache) ≡ Some (c.Info other) = sym asked ∙ is in absurd (cc));
-    session = λ other names held is.
-        (let both : Some (c.Session script list cache) ≡ Some (c.Session other names held) = sym asked ∙ is in
-        let same : script ≡ other = cc in
-        let alike : list ≡ names = cc in
-        let as_much : cache ≡ held = cc in
-        subst (λ n. SessionEnds files sink lines f g out new err said other names (cache_of n) journal status) as_much
-        (subst (λ l. SessionEnds files sink lines f g out new err said other l (cache_of cache) journal status) alike
-        (subst (λ s. SessionEnds files sink lines f g out new err said s list (cache_of cache) journal status) same ends)));
-    replay = λ other name held is. (let both : Some (c.Session script list cache) ≡ Some (c.Replay other name held) = sym asked ∙ is in absurd (cc));
-    self_test = λ number is. (let both : Some (c.Session script list cache) ≡ Some (c.SelfTest number) = sym asked ∙ is in absurd (cc));
-    refused = λ none. (let both : Some (c.Session script list cache) ≡ None = sym asked ∙ none in absurd (cc));
-    usage = λ one. absurd (not_one status (let causes = ends.causes in causes.known) one);
-    no_journal = λ none other others is. (let both : Some (c.Session script list cache) ≡ Some (c.Render other others) = sym asked ∙ is in absurd (cc));
-    some_journal = λ log there. inr (script, list, cache, asked);
-    keeps = leaves.0;
-    later = leaves.1;
-    later_lines = leaves.2;
-  }
+  ends_of_session : (script list : List ℕ) (cache : Option ℕ) (status : ℕ) → command_in words ≡ Some (c.Session script list cache) → SessionEnds files sink lines f g out new err said script list status
+      × SessionJournal files sink lines f g out new err said script list (cache_of cache) journal status → Leaves → Both status
+  ends_of_session script list cache status asked (ends, log) leaves = ends_of_command (c.Session script list cache) status asked ends log (not_one status (let causes = ends.causes in causes.known)) leaves
 
-  ends_of_replay : (script name : List ℕ) (cache : Option ℕ) (status : ℕ) → command_in words ≡ Some (c.Replay script name cache)
-      → ReplayEnds files sink lines f g out new err said script name (cache_of cache) status → journal ≡ None → Leaves → Ends files sink lines f g out new err said by words status journal
-  ends_of_replay script name cache status asked ends empty leaves = record {
-    render = λ other others is. (let both : Some (c.Replay script name cache) ≡ Some (c.Render other others) = sym asked ∙ is in absurd (cc));
-    journal_of = λ other others is. (let both : Some (c.Replay script name cache) ≡ Some (c.Render other others) = sym asked ∙ is in absurd (cc));
-    info = λ other is. (let both : Some (c.Replay script name cache) ≡ Some (c.Info other) = sym asked ∙ is in absurd (cc));
-    session = λ other list held is. (let both : Some (c.Replay script name cache) ≡ Some (c.Session other list held) = sym asked ∙ is in absurd (cc));
-    replay = λ other names held is.
-        (let both : Some (c.Replay script name cache) ≡ Some (c.Replay other names held) = sym asked ∙ is in
-        let same : script ≡ other = cc in
-        let alike : name ≡ names = cc in
-        let as_much : cache ≡ held = cc in
-        subst (λ n. ReplayEnds files sink lines f g out new err said other names (cache_of n) status) as_much
-        (subst (λ l. ReplayEnds files sink lines f g out new err said other l (cache_of cache) status) alike
-        (subst (λ s. ReplayEnds files sink lines f g out new err said s name (cache_of cache) status) same ends)));
-    self_test = λ number is. (let both : Some (c.Replay script name cache) ≡ Some (c.SelfTest number) = sym asked ∙ is in absurd (cc));
-    refused = λ none. (let both : Some (c.Replay script name cache) ≡ None = sym asked ∙ none in absurd (cc));
-    usage = λ one. absurd (not_one status (let causes = ends.causes in causes.known) one);
-    no_journal = λ none other others is. (let both : Some (c.Replay script name cache) ≡ Some (c.Render other others) = sym asked ∙ is in absurd (cc));
-    some_journal = λ log there. (let both : None ≡ Some log = sym empty ∙ there in absurd (cc));
-    keeps = leaves.0;
-    later = leaves.1;
-    later_lines = leaves.2;
-  }
+  ends_of_replay : (script name : List ℕ) (cache : Option ℕ) (status : ℕ) → command_in words ≡ Some (c.Replay script name cache) → ReplayEnds files sink lines f g out new err said script name (cache_of cache) status
+      → journal ≡ None → Leaves → Both status
+  ends_of_replay script name cache status asked ends empty leaves =
+      ends_of_command (c.Replay script name cache) status asked ends empty (not_one status (let causes = ends.causes in causes.known)) leaves
 
   -- a render by what was done and what was said of it
   module _ (script : List ℕ) (options : RenderOptions) where
@@ -203,23 +127,23 @@ module _ {F S K E : Type 0} (files : of_files.Ghosts F S) (sink : Ghosts K) (lin
     abbrev Putting : ℕ → Type 0
     Putting frames = InWorld (files.world f) (λ world. PutsClip sink world script out new frames)
 
-    whole_by : (tells : Tells) (frames status : ℕ) → Putting frames → Reading → status ≡ 0 → Well tells → Rendered tells status
-    whole_by tells frames status whole reads zero well =
-        subst (Rendered tells) (sym zero) (headline_of_whole files sink lines f g out new err said script capacity (by options) journal tells frames whole reads well)
+    whole_by : (tells : Tells) (frames status : ℕ) → Putting frames → Reading → PutsUntorn sink out new → status ≡ 0 → Well tells → Rendered tells status
+    whole_by tells frames status whole reads put zero well =
+        subst (Rendered tells) (sym zero) (headline_of_whole files sink lines f g out new err said script capacity (by options) journal tells frames whole reads put well)
 
-    reported : (frames status : ℕ) (text : List ℕ) → Putting frames → Reading → Reported text → ((status ≡ 0) × Puts lines err said text) ⊎ ((status ≡ 5) × CutsReport lines err said text)
+    reported : (frames status : ℕ) (text : List ℕ) → Putting frames → Reading → PutsUntorn sink out new → Reported text → ((status ≡ 0) × Puts lines err said text) ⊎ ((status ≡ 5) × CutsReport lines err said text)
         → Rendered of_tells.Report status
-    reported frames status text whole reads is (inl put) = whole_by of_tells.Report frames status whole reads put.0 (record { text = text; is = is; put = put.1 })
-    reported frames status text whole reads is (inr cut) =
-        subst (Rendered of_tells.Report) (sym cut.0) (headline_of_cut files sink lines f g out new err said script capacity (by options) journal of_tells.Report frames whole reads
+    reported frames status text whole reads untorn is (inl put) = whole_by of_tells.Report frames status whole reads untorn put.0 (record { text = text; is = is; put = put.1 })
+    reported frames status text whole reads untorn is (inr cut) =
+        subst (Rendered of_tells.Report) (sym cut.0) (headline_of_cut files sink lines f g out new err said script capacity (by options) journal of_tells.Report frames whole reads untorn
         (inr (cut_in files sink lines f g out new err said script capacity (by options) journal Reported frames whole text is cut.1)))
 
-    printed : (frames status : ℕ) (text : List ℕ) → Putting frames → Reading → (is : Printed text) → (status ≡ 0 → IsLawful (files.world f) script capacity (by options) is)
+    printed : (frames status : ℕ) (text : List ℕ) → Putting frames → Reading → PutsUntorn sink out new → (is : Printed text) → (status ≡ 0 → IsLawful (files.world f) script capacity (by options) is)
         → ((status ≡ 0) × Puts lines err said text) ⊎ ((status ≡ 5) × CutsReport lines err said text) → Rendered of_tells.Journal status
-    printed frames status text whole reads is lawful (inl put) =
-        whole_by of_tells.Journal frames status whole reads put.0 (record { text = text; is = is; put = put.1; lawful = lawful put.0 })
-    printed frames status text whole reads is lawful (inr cut) =
-        subst (Rendered of_tells.Journal) (sym cut.0) (headline_of_cut files sink lines f g out new err said script capacity (by options) journal of_tells.Journal frames whole reads
+    printed frames status text whole reads untorn is lawful (inl put) =
+        whole_by of_tells.Journal frames status whole reads untorn put.0 (record { text = text; is = is; put = put.1; lawful = lawful put.0 })
+    printed frames status text whole reads untorn is lawful (inr cut) =
+        subst (Rendered of_tells.Journal) (sym cut.0) (headline_of_cut files sink lines f g out new err said script capacity (by options) journal of_tells.Journal frames whole reads untorn
         (inr (cut_in files sink lines f g out new err said script capacity (by options) journal Printed frames whole text is cut.1)))
 
     same_log : (log : Record) → journal ≡ Some log → (run : IsScriptRendered (files.world f) script capacity (by options) journal) → log ≡ (let serial = run.rendered in serial.log)
@@ -242,16 +166,16 @@ module _ {F S K E : Type 0} (files : of_files.Ghosts F S) (sink : Ghosts K) (lin
         lawful_by (files.world f) script capacity (by options) journal is.run workers (windows_of log) is.workers_are (ap windows_of (same_log log there is.run)) fits
 
     -- what was told
-    tells_of : (tells : Telling) (frames : ℕ) (log : Option Record) (status : ℕ) → journal ≡ log → Putting frames → Reading → IsToldOf files sink f g out new journal script options (by options) tells
+    tells_of : (tells : Telling) (frames : ℕ) (log : Option Record) (status : ℕ) → journal ≡ log → Putting frames → Reading → PutsUntorn sink out new → IsToldOf files sink f g out new journal script options (by options) tells
         → Finishes lines err said (Ok tells) log status → Rendered options.tells status
-    tells_of telling.Nothing frames log status there whole reads (asked, serial) (zero, quiet) =
-        subst (λ t. Rendered t status) (sym asked) (whole_by of_tells.Nothing frames status whole reads zero quiet)
-    tells_of (telling.Report plan) frames None status there whole reads of said_so = absurd said_so
-    tells_of (telling.Report plan) frames (Some log) status there whole reads (asked, workers, is) said_so =
-        subst (λ t. Rendered t status) (sym asked) (reported frames status (report plan (windows_of log)) whole reads (report_is log plan workers there is) said_so.ends)
-    tells_of (telling.Journal workers) frames None status there whole reads of said_so = absurd said_so
-    tells_of (telling.Journal workers) frames (Some log) status there whole reads (asked, plan, is) said_so =
-        subst (λ t. Rendered t status) (sym asked) (printed frames status (journal_text workers (windows_of log)) whole reads (text_is log plan workers there is)
+    tells_of telling.Nothing frames log status there whole reads untorn (asked, serial) (zero, quiet) =
+        subst (λ t. Rendered t status) (sym asked) (whole_by of_tells.Nothing frames status whole reads untorn zero quiet)
+    tells_of (telling.Report plan) frames None status there whole reads untorn of said_so = absurd said_so
+    tells_of (telling.Report plan) frames (Some log) status there whole reads untorn (asked, workers, is) said_so =
+        subst (λ t. Rendered t status) (sym asked) (reported frames status (report plan (windows_of log)) whole reads untorn (report_is log plan workers there is) said_so.ends)
+    tells_of (telling.Journal workers) frames None status there whole reads untorn of said_so = absurd said_so
+    tells_of (telling.Journal workers) frames (Some log) status there whole reads untorn (asked, plan, is) said_so =
+        subst (λ t. Rendered t status) (sym asked) (printed frames status (journal_text workers (windows_of log)) whole reads untorn (text_is log plan workers there is)
         (λ zero. lawful_is log plan workers there is (said_so.fits zero)) (let put = said_so.put in put.ends))
 
     run_of : (tells : Telling) → IsToldOf files sink f g out new journal script options (by options) tells → IsScriptRendered (files.world f) script capacity (by options) journal
@@ -270,19 +194,17 @@ module _ {F S K E : Type 0} (files : of_files.Ghosts F S) (sink : Ghosts K) (lin
   ends_of_done : (script : List ℕ) (options : RenderOptions) (done : Result Telling Stop) (log : Option Record) (status : ℕ) → journal ≡ log → command_in words ≡ Some (c.Render script options)
       → RenderDoes files sink f g out new journal script options (by options) done → ScriptCuts (files.world f) script (cache_of options.cache) (by options) sink out new (TellsStop (stop_in done)) journal
       → HeadShows sink out new (HasInfo (files.world f) script) (stop_in done) journal
-      → Finishes lines err said done log status → Leaves → Ends files sink lines f g out new err said by words status journal
-  ends_of_done script options (Ok tells) log status there asked (whole, reads, of) cut head said_so leaves =
-      ends_of_render script options status asked (tells_of script options tells whole.0 log status there whole.1 reads of said_so)
-      (journal_of_whole files sink lines f g out new err said script (cache_of options.cache) (by options) journal status (zero_or_cut tells log status said_so) (run_of script options tells of) cut)
-      (unheaded sink out new _ None journal status head (λ bad. absurd (cc))) (headed_of sink out new _ None journal head) leaves
+      → Finishes lines err said done log status → Leaves → Both status
+  ends_of_done script options (Ok tells) log status there asked (whole, reads, untorn, of) cut head said_so leaves =
+      ends_of_render script options status asked (tells_of script options tells whole.0 log status there whole.1 reads untorn of said_so)
+      (journal_of_whole files sink lines f g out new err said script (cache_of options.cache) (by options) journal status (zero_or_cut tells log status said_so) (run_of script options tells of) cut head) leaves
   ends_of_done script options (Err stop) log status there asked shown cut head (is, says) leaves =
       ends_of_render script options status asked (subst (Rendered script options options.tells) (sym is) (headline_of_stop files sink lines f g out new err said script (cache_of options.cache) (by options) journal options.tells stop shown says))
-      (journal_of_stop files sink lines f g out new err said script (cache_of options.cache) (by options) journal stop status is says cut)
-      (unheaded sink out new _ (Some stop) journal status head (wrote_of stop status is)) (headed_of sink out new _ (Some stop) journal head) leaves
+      (journal_of_stop files sink lines f g out new err said script (cache_of options.cache) (by options) journal stop status is says cut head) leaves
 
   -- by what was done and what was said of it
   pub ends_of : (command : Command) (done : Result Telling Stop) (status : ℕ) → command_in words ≡ Some command → Does files sink f g out new journal by command done → LeavesNone command journal
-      → Finishes lines err said done journal status → Leaves → Ends files sink lines f g out new err said by words status journal
+      → Finishes lines err said done journal status → Leaves → Both status
   ends_of (c.Render script options) done status asked (does, cut, head) empty said_so leaves = ends_of_done script options done journal status refl asked does cut head said_so leaves
   ends_of (c.Info script) (Ok telling.Nothing) status asked done empty said_so leaves =
       ends_of_info script status asked (subst (λ n. InfoEnds files sink lines f g out new err said script n) (sym said_so.0)
@@ -301,12 +223,12 @@ module _ {F S K E : Type 0} (files : of_files.Ghosts F S) (sink : Ghosts K) (lin
       ends_of_self_test number status asked (subst (λ n. SelfTestEnds sink lines out new err said number n) (sym said_so.0)
       (self_test_of_stop sink lines out new err said number stop done.0 said_so.1)) done.1 empty leaves
   ends_of (c.Session script list cache) (Ok telling.Nothing) status asked done empty said_so leaves =
-      ends_of_session script list cache status asked (subst (λ n. SessionEnds files sink lines f g out new err said script list (cache_of cache) journal n) (sym said_so.0)
+      ends_of_session script list cache status asked (subst (λ n. SessionEnds files sink lines f g out new err said script list n × SessionJournal files sink lines f g out new err said script list (cache_of cache) journal n) (sym said_so.0)
       (session_whole files sink lines f g out new err said script list (cache_of cache) journal done said_so.1)) leaves
   ends_of (c.Session script list cache) (Ok (telling.Report plan)) status asked done empty said_so leaves = absurd done
   ends_of (c.Session script list cache) (Ok (telling.Journal workers)) status asked done empty said_so leaves = absurd done
   ends_of (c.Session script list cache) (Err stop) status asked done empty said_so leaves =
-      ends_of_session script list cache status asked (subst (λ n. SessionEnds files sink lines f g out new err said script list (cache_of cache) journal n) (sym said_so.0)
+      ends_of_session script list cache status asked (subst (λ n. SessionEnds files sink lines f g out new err said script list n × SessionJournal files sink lines f g out new err said script list (cache_of cache) journal n) (sym said_so.0)
       (session_stop files sink lines f g out new err said script list (cache_of cache) journal stop done said_so.1)) leaves
   ends_of (c.Replay script name cache) (Ok telling.Nothing) status asked done empty said_so leaves =
       ends_of_replay script name cache status asked (subst (λ n. ReplayEnds files sink lines f g out new err said script name (cache_of cache) n) (sym said_so.0)
@@ -318,21 +240,21 @@ module _ {F S K E : Type 0} (files : of_files.Ghosts F S) (sink : Ghosts K) (lin
       (replay_stop files sink lines f g out new err said script name (cache_of cache) stop done said_so.1)) empty leaves
 
 -- what a render leaves is what the command shows
-module _ {F S K : Type 0} (files : of_files.Ghosts F S) (sink : Ghosts K) (f g : F) (out new : K) (journal : Option Record) (by : RenderOptions → Staff) where
-  by_telling : (script : List ℕ) (options : RenderOptions) (tells : Tells) (done : Result Whole Stop) → options.tells ≡ tells
+module _ {F S K : Type 0} (files : of_files.Ghosts F S) (sink : Ghosts K) (f g : F) (out new : K) (journal : Option Record) (by : RenderOptions → PoolSize) where
+  by_telling : (script : List ℕ) (options : RenderOptions) (tells : Tells) (done : Result RenderedClip Stop) → options.tells ≡ tells
       → IsScriptRender (files.world f) script (cache_of options.cache) (by options) (FilesFailed files f g) sink out new journal done
       → OnOk done (ReadsOnce (files.world f) script (files.faults f) (files.faults g) (files.fetched f) (files.fetched g))
       → RenderDoes files sink f g out new journal script options (by options) (told_in tells done)
-  by_telling script options of_tells.Nothing (Ok all) asked is reads = ((all.frames, is.whole), reads, (asked, (let of = is.rendered in of.run)))
-  by_telling script options of_tells.Report (Ok all) asked is reads = ((all.frames, is.whole), reads, (asked, all.workers, is.rendered))
-  by_telling script options of_tells.Journal (Ok all) asked is reads = ((all.frames, is.whole), reads, (asked, all.graph, is.rendered))
+  by_telling script options of_tells.Nothing (Ok all) asked is reads = ((all.frames, is.whole), reads, is.untorn, (asked, (let of = is.rendered in of.run)))
+  by_telling script options of_tells.Report (Ok all) asked is reads = ((all.frames, is.whole), reads, is.untorn, (asked, all.workers, is.rendered))
+  by_telling script options of_tells.Journal (Ok all) asked is reads = ((all.frames, is.whole), reads, is.untorn, (asked, all.graph, is.rendered))
   by_telling script options tells (Err stop) asked is reads = is.stop
 
-  same_stop : (tells : Tells) (done : Result Whole Stop) → stop_in done ≡ stop_in (told_in tells done)
+  same_stop : (tells : Tells) (done : Result RenderedClip Stop) → stop_in done ≡ stop_in (told_in tells done)
   same_stop tells (Ok all) = refl
   same_stop tells (Err stop) = refl
 
-  pub render_does : (script : List ℕ) (options : RenderOptions) (done : Result Whole Stop)
+  pub render_does : (script : List ℕ) (options : RenderOptions) (done : Result RenderedClip Stop)
       → IsScriptRender (files.world f) script (cache_of options.cache) (by options) (FilesFailed files f g) sink out new journal done
       → OnOk done (ReadsOnce (files.world f) script (files.faults f) (files.faults g) (files.fetched f) (files.fetched g))
       → Does files sink f g out new journal by (c.Render script options) (told_in options.tells done)
@@ -344,7 +266,7 @@ module _ {F S K : Type 0} (files : of_files.Ghosts F S) (sink : Ghosts K) (f g :
       )
 
 -- a report or a journal is told only where there is a journal
-module _ {F S K : Type 0} (files : of_files.Ghosts F S) (sink : Ghosts K) (f g : F) (out new : K) (journal : Option Record) (by : RenderOptions → Staff) where
+module _ {F S K : Type 0} (files : of_files.Ghosts F S) (sink : Ghosts K) (f g : F) (out new : K) (journal : Option Record) (by : RenderOptions → PoolSize) where
   abbrev IsSome : Type 0
   IsSome = (log : Record) × (journal ≡ Some log)
 
@@ -353,14 +275,14 @@ module _ {F S K : Type 0} (files : of_files.Ghosts F S) (sink : Ghosts K) (f g :
   some_log (telling.Report plan) (log, there) = subst (HasLog (Ok (telling.Report plan))) (sym there) tt
   some_log (telling.Journal workers) (log, there) = subst (HasLog (Ok (telling.Journal workers))) (sym there) tt
 
-  log_of : {told : Option World} {script : List ℕ} {capacity : ℕ} {staff : Staff} → IsScriptRendered told script capacity staff journal → IsSome
+  log_of : {told : Option World} {script : List ℕ} {capacity : ℕ} {pool_size : PoolSize} → IsScriptRendered told script capacity pool_size journal → IsSome
   log_of run = let serial = run.rendered in (serial.log, serial.there)
 
   pub has_log : (command : Command) (done : Result Telling Stop) → Does files sink f g out new journal by command done → HasLog done journal
   has_log command (Ok telling.Nothing) does = tt
   has_log command (Err stop) does = tt
-  has_log (c.Render script options) (Ok (telling.Report plan)) ((whole, reads, (asked, workers, is)), cut, head) = some_log (telling.Report plan) (log_of is.run)
-  has_log (c.Render script options) (Ok (telling.Journal workers)) ((whole, reads, (asked, plan, is)), cut, head) = some_log (telling.Journal workers) (log_of is.run)
+  has_log (c.Render script options) (Ok (telling.Report plan)) ((whole, reads, untorn, (asked, workers, is)), cut, head) = some_log (telling.Report plan) (log_of is.run)
+  has_log (c.Render script options) (Ok (telling.Journal workers)) ((whole, reads, untorn, (asked, plan, is)), cut, head) = some_log (telling.Journal workers) (log_of is.run)
   has_log (c.Info script) (Ok (telling.Report plan)) does = absurd does
   has_log (c.Info script) (Ok (telling.Journal workers)) does = absurd does
   has_log (c.SelfTest number) (Ok (telling.Report plan)) does = absurd does
@@ -370,7 +292,7 @@ module _ {F S K : Type 0} (files : of_files.Ghosts F S) (sink : Ghosts K) (f g :
   has_log (c.Replay script name cache) (Ok (telling.Report plan)) does = absurd does
   has_log (c.Replay script name cache) (Ok (telling.Journal workers)) does = absurd does
 
-module _ {F S K E : Type 0} (files : of_files.Ghosts F S) (sink : Ghosts K) (lines : Ghosts E) (f : F) (out : K) (err said : E) (by : RenderOptions → Staff) (words : List (List ℕ)) where
+module _ {F S K E : Type 0} (files : of_files.Ghosts F S) (sink : Ghosts K) (lines : Ghosts E) (f : F) (out : K) (err said : E) (by : RenderOptions → PoolSize) (words : List (List ℕ)) where
   -- what is left untouched
   untouched : KeepsFiles files f f
   untouched = record { world = refl; given = refl; fetched = omega arith; later = omega arith }
@@ -406,40 +328,28 @@ module _ {F S K E : Type 0} (files : of_files.Ghosts F S) (sink : Ghosts K) (lin
   none_left (c.Session script list cache) = tt
   none_left (c.Replay script name cache) = refl
 
+  -- the words break the rules, or there was no memory to read them
+  ends_of_none : command_in words ≡ None → (status : ℕ) → IsRefused files sink lines f f out out err said status → IsLater lines err said
+      → Ends files sink lines f f out out err said by words status None × LeavesJournal files sink lines f f out out err said by words status None
+  ends_of_none none status refused later = (
+    record {
+      asked = λ other is. (let both : None ≡ Some other = sym none ∙ is in absurd (cc));
+      refused = λ is. refused;
+      usage = λ one. none;
+      keeps = untouched;
+      later = omega arith;
+      later_lines = later;
+    },
+    record { asked = λ other is. (let both : None ≡ Some other = sym none ∙ is in absurd (cc)); refused = λ is. refl },
+  )
+
   pub ends_of_memory : (command : Option Command) → command_in words ≡ command → (status : ℕ) → Finishes lines err said (Err Memory) None status
-      → Ends files sink lines f f out out err said by words status None
-  ends_of_memory None none status said_so = record {
-    render = λ other others is. (let both : None ≡ Some (c.Render other others) = sym none ∙ is in absurd (cc));
-    journal_of = λ other others is. (let both : None ≡ Some (c.Render other others) = sym none ∙ is in absurd (cc));
-    info = λ other is. (let both : None ≡ Some (c.Info other) = sym none ∙ is in absurd (cc));
-    session = λ other list cache is. (let both : None ≡ Some (c.Session other list cache) = sym none ∙ is in absurd (cc));
-    replay = λ other name cache is. (let both : None ≡ Some (c.Replay other name cache) = sym none ∙ is in absurd (cc));
-    self_test = λ number is. (let both : None ≡ Some (c.SelfTest number) = sym none ∙ is in absurd (cc));
-    refused = λ is. record { line = inr said_so; files_stay = refl; out_stays = refl };
-    usage = λ one. none;
-    no_journal = λ empty other others is. (let both : None ≡ Some (c.Render other others) = sym none ∙ is in absurd (cc));
-    some_journal = λ log there. absurd (cc);
-    keeps = untouched;
-    later = omega arith;
-    later_lines = (let says = said_so.1 in says.later);
-  }
+      → Ends files sink lines f f out out err said by words status None × LeavesJournal files sink lines f f out out err said by words status None
+  ends_of_memory None none status said_so = ends_of_none none status (record { line = inr said_so; files_stay = refl; out_stays = refl }) (let says = said_so.1 in says.later)
   ends_of_memory (Some command) asked status said_so =
       ends_of files sink lines f f out out err said by words None command (Err Memory) status asked (memory_done command) (none_left command) said_so
       (untouched, omega arith, (let says = said_so.1 in says.later))
 
-  pub ends_of_usage : command_in words ≡ None → Says lines err said usage_line → Ends files sink lines f f out out err said by words 1 None
-  ends_of_usage none says = record {
-    render = λ other others is. (let both : None ≡ Some (c.Render other others) = sym none ∙ is in absurd (cc));
-    journal_of = λ other others is. (let both : None ≡ Some (c.Render other others) = sym none ∙ is in absurd (cc));
-    info = λ other is. (let both : None ≡ Some (c.Info other) = sym none ∙ is in absurd (cc));
-    session = λ other list cache is. (let both : None ≡ Some (c.Session other list cache) = sym none ∙ is in absurd (cc));
-    replay = λ other name cache is. (let both : None ≡ Some (c.Replay other name cache) = sym none ∙ is in absurd (cc));
-    self_test = λ number is. (let both : None ≡ Some (c.SelfTest number) = sym none ∙ is in absurd (cc));
-    refused = λ is. record { line = inl (refl, says); files_stay = refl; out_stays = refl };
-    usage = λ one. none;
-    no_journal = λ empty other others is. (let both : None ≡ Some (c.Render other others) = sym none ∙ is in absurd (cc));
-    some_journal = λ log there. absurd (cc);
-    keeps = untouched;
-    later = omega arith;
-    later_lines = says.later;
-  }
+  pub ends_of_usage : command_in words ≡ None → Says lines err said usage_line
+      → Ends files sink lines f f out out err said by words 1 None × LeavesJournal files sink lines f f out out err said by words 1 None
+  ends_of_usage none says = ends_of_none none 1 (record { line = inl (refl, says); files_stay = refl; out_stays = refl }) says.later

@@ -3,6 +3,7 @@ mod ClosingLemmas
 mod EndLemmas
 mod LawfulLemmas
 mod MeaningLemmas
+mod OpeningLemmas
 mod OptionLemmas
 mod PickLemmas
 mod PlayLemmas

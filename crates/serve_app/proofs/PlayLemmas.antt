@@ -26,7 +26,7 @@ use Rattle.inst_table.specs.declared.place.Slot.{Slot}
 use Rattle.serve_text.specs.InfoText.{info_text}
 use Rattle.avs_meaning.specs.Crews.{Numbers, workers, window}
 use Rattle.serve_machine.specs.declared.windows.Record.{Record}
-use Rattle.serve_machine.specs.Keys.{frame_key}
+use Rattle.serve_machine.specs.Events.{frame_key}
 use Rattle.prefetch.specs.Clips.{clip_at}
 use Rattle.avs_eval.specs.Evaluates.{Evaluates}
 use Rattle.avs_eval.specs.declared.evaluation.Opened.{Opened}
@@ -43,17 +43,17 @@ use Rattle.serve_text.specs.declared.stop.Stop.{Stop}
 use Rattle.serve_text.specs.declared.stop.Stop.TheVariants as of_stop
 use Rattle.serve_text.specs.StopKinds.{stop_of}
 use Rattle.serve_app.specs.Meaning.{meaning_in, HasPictures, IsBookOf, MeansClip}
-use Rattle.serve_app.specs.Info.{IsInfoOf, IsToldInfo, InfoShows}
+use Rattle.serve_app.specs.Info.{IsInfoOf, IsToldInfo, InfoShows, PutsInfo}
 use Rattle.prefetch.specs.StreamClips.{book_told, IsClipOf, SomeFailed, PutsFrames, PutsSome, StreamShows}
-use Rattle.prefetch.specs.declared.staff.Staff.{Staff}
-use Rattle.prefetch.specs.declared.stream.Whole.{Whole}
-use Rattle.prefetch.specs.Staff.{hands}
+use Rattle.prefetch.specs.declared.pool_size.PoolSize.{PoolSize}
+use Rattle.prefetch.specs.declared.stream.RenderedClip.{RenderedClip}
+use Rattle.prefetch.specs.Pool.{pool}
 use Rattle.prefetch.specs.Streamed.{IsStreamed}
 use Rattle.prefetch.specs.Journals.{IsRendered, PutsCount, FailsWithin, CutsShort}
-use Rattle.serve_app.specs.Journals.{AreHands, IsPlanOf, IsScriptRendered, IsRunOf, ScriptCuts}
-use Rattle.serve_app.specs.Renders.{IsScriptRender}
-use Rattle.serve_app.specs.Playing.{Tells, EndsBefore, PutsClip, PutsInfo}
-use Rattle.prefetch.specs.Parts.{PutsWholeFrames}
+use Rattle.serve_app.specs.Journals.{IsPool, IsPlanOf, IsScriptRendered, IsRunOf, ScriptCuts}
+use Rattle.serve_app.specs.Renders.{IsScriptRender, PutsClip}
+use Rattle.serve_app.specs.Opening.{Tells, EndsBefore}
+use Rattle.prefetch.specs.Rendered.{PutsWholeFrames}
 use Rattle.serve_app.specs.Stop.{IsOfScript, ScriptHasClip, HasInfo, RenderShows}
 use Rattle.prefetch.specs.Streams.{TellsStop, HeadShows}
 use Rattle.serve_app.proofs.MeaningLemmas.{same_plan, same_root, same_crew}
@@ -198,28 +198,9 @@ module _ {S : Type 0} (of : of_source.Ghosts S) (told : Bool) (world : World) (s
           frames_are = all ∙ ap (λ (c : Clip). c.info.frames) (sym (let is = one.1 in is.clip_is));
         }))
 
-    -- the text of the plan is what is known of the clip
-    told_info : (text : List ℕ) → text ≡ info_text plan root (workers crew) (window crew) → IsTrue told → IsInfoOf world script text
-    told_info text is tells = record { plan = plan; root = root; crew = crew; means = means tells; text_is = is }
-
-    pub info_put : (text : List ℕ) → text ≡ info_text plan root (workers crew) (window crew) → Puts sink out put text → InWorld (told_of told world) (λ w. PutsInfo sink w script out put)
-    info_put text is puts = in_told told world (λ w. PutsInfo sink w script out put) (λ tells. record { text = text; info = told_info text is tells; put = puts })
-
-    pub info_cut : (text : List ℕ) → text ≡ info_text plan root (workers crew) (window crew) → PutsPrefix sink out put text → (other : List ℕ) → IsToldInfo (told_of told world) script other → PutsPrefix sink out put other
-    info_cut text is cut other too =
-        let both = told_same told world too.world too.told_is in
-        let info : IsInfoOf world script other = rw (sym both.1) at too.info in
-        let same = sym info.means ∙ means both.0 in
-        let plans = same_plan info.plan plan info.root root info.crew crew same in
-        let roots = same_root info.plan plan info.root root info.crew crew same in
-        let crews = same_crew info.plan plan info.root root info.crew crew same in
-        let texts : text ≡ other = is ∙ ap₂ (λ p r. info_text p r (workers crew) (window crew)) (sym plans) (sym roots)
-        ∙ ap (λ c. info_text info.plan info.root (workers c) (window c)) (sym crews) ∙ sym info.text_is in
-        rw texts at cut
-
     some_frames : PutsSome sink plan root (book_told of sources) out put → PutsWholeFrames sink out put (IsOfScript (told_of told world) script) (ScriptHasClip (told_of told world) script)
     some_frames (inl none) = inl none
-    some_frames (inr frames) = inr (record { part = frames.part; put = frames.put; begins = λ clip is. frames.begins clip (of_script clip is); has_one = has_one })
+    some_frames (inr frames) = inr (record { part = frames.part; pictures = frames.pictures; put = frames.put; begins = λ clip is. frames.begins clip (of_script clip is); has_one = has_one })
 
     pub none_of : ((pictures : List (List Picture)) → book_told of sources ≡ Some pictures → ⊥) → IsTrue told → ⊥
     none_of none tells =
@@ -240,30 +221,30 @@ module _ {S : Type 0} (of : of_source.Ghosts S) (told : Bool) (world : World) (s
     pub plan_of : IsPlan plan → root < length plan → IsPlanOf (told_of told world) script plan root
     plan_of is inside = record { is_plan = is; inside = inside; crew = crew; means = in_told told world (λ w. meaning_in w script ≡ m.clip plan root crew) means }
 
-    module _ (capacity : ℕ) (staff : Staff) where
+    module _ (capacity : ℕ) (pool_size : PoolSize) where
       -- and of the journal
-      script_rendered : (journal : Option Record) → IsPlan plan → root < length plan → AreHands (hands staff crew) → IsRendered plan root capacity (hands staff crew) journal
-          → IsScriptRendered (told_of told world) script capacity staff journal
+      script_rendered : (journal : Option Record) → IsPlan plan → root < length plan → IsPool (pool pool_size crew) → IsRendered plan root capacity (pool pool_size crew) journal
+          → IsScriptRendered (told_of told world) script capacity pool_size journal
       unfolding plan_of
-      script_rendered journal is inside are_hands rendered = record { plan = plan; root = root; is_plan = plan_of is inside; are_hands = are_hands; rendered = rendered }
+      script_rendered journal is inside is_pool rendered = record { plan = plan; root = root; is_plan = plan_of is inside; is_pool = is_pool; rendered = rendered }
 
       -- and of the graph that was kept, and of the workers
-      pub script_run : (journal : Option Record) → IsPlan plan → root < length plan → AreHands (hands staff crew) → IsRendered plan root capacity (hands staff crew) journal
-          → (kept : List Application) → kept ≡ plan → (workers : ℕ) → workers ≡ (hands staff crew).workers
-          → IsRunOf (told_of told world) script capacity staff journal kept workers
+      pub script_run : (journal : Option Record) → IsPlan plan → root < length plan → IsPool (pool pool_size crew) → IsRendered plan root capacity (pool pool_size crew) journal
+          → (kept : List Application) → kept ≡ plan → (workers : ℕ) → workers ≡ (pool pool_size crew).workers
+          → IsRunOf (told_of told world) script capacity pool_size journal kept workers
       unfolding script_rendered plan_of
-      script_run journal is inside are_hands rendered kept is_kept workers are_workers =
-          record { run = script_rendered journal is inside are_hands rendered; plan_is = sym is_kept; workers_are = sym are_workers }
+      script_run journal is inside is_pool rendered kept is_kept workers are_workers =
+          record { run = script_rendered journal is inside is_pool rendered; plan_is = sym is_kept; workers_are = sym are_workers }
 
       count_of : (n : ℕ)
-          → PutsCount plan root capacity (hands staff crew) sink out put (IsClipOf plan root (book_told of sources)) n ⊎ FailsWithin plan root capacity (hands staff crew) sink out put (IsClipOf plan root (book_told of sources)) n
-          → PutsCount plan root capacity (hands staff crew) sink out put (IsOfScript (told_of told world) script) n ⊎ FailsWithin plan root capacity (hands staff crew) sink out put (IsOfScript (told_of told world) script) n
-      count_of n (inl some) = inl (record { part = some.part; info_is = some.info_is; count = some.count; begins = λ clip is. some.begins clip (of_script clip is); put = some.put })
+          → PutsCount plan root capacity (pool pool_size crew) sink out put (IsClipOf plan root (book_told of sources)) n ⊎ FailsWithin plan root capacity (pool pool_size crew) sink out put (IsClipOf plan root (book_told of sources)) n
+          → PutsCount plan root capacity (pool pool_size crew) sink out put (IsOfScript (told_of told world) script) n ⊎ FailsWithin plan root capacity (pool pool_size crew) sink out put (IsOfScript (told_of told world) script) n
+      count_of n (inl some) = inl (record { part = some.part; info_is = some.info_is; pictures = some.pictures; count = some.count; begins = λ clip is. some.begins clip (of_script clip is); put = some.put })
       count_of n (inr cut) = inr (record { failed = cut.failed; cut = λ clip is. cut.cut clip (of_script clip is) })
 
       pub script_cuts : (answer : Option Stop) (journal : Option Record) → IsPlan plan → root < length plan
-          → CutsShort plan root capacity (hands staff crew) sink out put (IsClipOf plan root (book_told of sources)) (TellsStop answer plan) journal
-          → ScriptCuts (told_of told world) script capacity staff sink out put (TellsStop answer) journal
+          → CutsShort plan root capacity (pool pool_size crew) sink out put (IsClipOf plan root (book_told of sources)) (TellsStop answer plan) journal
+          → ScriptCuts (told_of told world) script capacity pool_size sink out put (TellsStop answer) journal
       unfolding plan_of
       script_cuts answer None is inside cut = tt
       script_cuts answer (Some log) is inside cut =
@@ -285,21 +266,23 @@ module _ {S : Type 0} (of : of_source.Ghosts S) (told : Bool) (world : World) (s
 
     -- all of it
     pub script_render : {I : Type 0} (faults : I → ℕ) (table : List (Place × Slot I)) (failed : Type 0) → (SomeFailed faults table → failed)
-        → (capacity : ℕ) (staff : Staff) (journal : Option Record) (done : Result Whole Stop) → IsPlan plan → root < length plan → AreHands (hands staff crew)
-        → IsStreamed faults plan root capacity (hands staff crew) (book_told of sources) sink out put journal table done
-        → IsScriptRender (told_of told world) script capacity staff failed sink out put journal done
-    script_render faults table failed fails capacity staff journal (Ok all) is inside are_hands streamed = record {
+        → (capacity : ℕ) (pool_size : PoolSize) (journal : Option Record) (done : Result RenderedClip Stop) → IsPlan plan → root < length plan → IsPool (pool pool_size crew)
+        → IsStreamed faults plan root capacity (pool pool_size crew) (book_told of sources) sink out put journal table done
+        → IsScriptRender (told_of told world) script capacity pool_size failed sink out put journal done
+    script_render faults table failed fails capacity pool_size journal (Ok all) is inside is_pool streamed = record {
       whole = all_frames all.frames streamed.frames streamed.put;
       stop = tt;
-      rendered = script_run capacity staff journal is inside are_hands streamed.rendered all.graph streamed.graph all.workers streamed.workers;
-      cut = script_cuts capacity staff None journal is inside streamed.cut;
+      untorn = (let put = streamed.put in record { frames = record { part = put.part; pictures = put.pictures; put = put.put }; steady = put.steady });
+      rendered = script_run capacity pool_size journal is inside is_pool streamed.rendered all.graph streamed.graph all.workers streamed.workers;
+      cut = script_cuts capacity pool_size None journal is inside streamed.cut;
       head = script_head None journal streamed.head;
     }
-    script_render faults table failed fails capacity staff journal (Err stop) is inside are_hands streamed = record {
+    script_render faults table failed fails capacity pool_size journal (Err stop) is inside is_pool streamed = record {
       whole = tt;
       stop = stream_shown faults table failed fails stop streamed.stop;
+      untorn = tt;
       rendered = tt;
-      cut = script_cuts capacity staff (Some stop) journal is inside streamed.cut;
+      cut = script_cuts capacity pool_size (Some stop) journal is inside streamed.cut;
       head = script_head (Some stop) journal streamed.head;
     }
 
@@ -311,38 +294,3 @@ told_as meaning (of_text.Fault kind name line) is = is
 told_as meaning (of_text.Input name fault) is = is
 told_as meaning of_text.Read is = tt
 told_as meaning of_text.Memory is = tt
-
--- what a stop before anything is put shows
-pub before_stops : {K : Type 0} (told : Bool) (world : World) (script : List ℕ) (sink : Ghosts K) (out : K) (failed : Type 0) (before now : ℕ) (stop : Stop)
-    → (IsTrue told → Tells (meaning_in world script) (Err stop)) → EndsBefore {X = Opened} before now (Err stop) → (HasRisen before now → failed)
-    → RenderShows failed sink (told_of told world) script out out stop
-before_stops told world script sink out failed before now (of_stop.Script kind name line) tells ends fails =
-    (in_told told world (λ w. meaning_in w script ≡ m.wrong (f.script kind name line)) tells, refl)
-before_stops told world script sink out failed before now (of_stop.Input name fault) tells ends fails =
-    (in_told told world (λ w. meaning_in w script ≡ m.wrong (input name fault)) tells, refl)
-before_stops told world script sink out failed before now (of_stop.Changed name frame want got) tells ends fails = absurd ends
-before_stops told world script sink out failed before now (of_stop.File name fault) tells ends fails = absurd ends
-before_stops told world script sink out failed before now of_stop.Read tells ends fails = (fails ends, inl refl)
-before_stops told world script sink out failed before now of_stop.Write tells ends fails = absurd ends
-before_stops told world script sink out failed before now of_stop.Memory tells ends fails = inl refl
-
--- the same, where the text of the clip was to be put
-pub before_tells : {K : Type 0} (told : Bool) (world : World) (script : List ℕ) (sink : Ghosts K) (out : K) (failed : Type 0) (before now : ℕ) (stop : Stop)
-    → (IsTrue told → Tells (meaning_in world script) (Err stop)) → EndsBefore {X = Opened} before now (Err stop) → (HasRisen before now → failed)
-    → InfoShows failed sink (told_of told world) script out out stop
-before_tells told world script sink out failed before now (of_stop.Script kind name line) tells ends fails =
-    before_stops told world script sink out failed before now (of_stop.Script kind name line) tells ends fails
-before_tells told world script sink out failed before now (of_stop.Input name fault) tells ends fails =
-    before_stops told world script sink out failed before now (of_stop.Input name fault) tells ends fails
-before_tells told world script sink out failed before now (of_stop.Changed name frame want got) tells ends fails = absurd ends
-before_tells told world script sink out failed before now (of_stop.File name fault) tells ends fails = absurd ends
-before_tells told world script sink out failed before now of_stop.Read tells ends fails = (fails ends, refl)
-before_tells told world script sink out failed before now of_stop.Write tells ends fails = absurd ends
-before_tells told world script sink out failed before now of_stop.Memory tells ends fails = refl
-
--- ---- what the render leaves
-
--- a script that was not evaluated leaves no journal
-pub before_render : {K : Type 0} (told : Bool) (world : World) (script : List ℕ) (sink : Ghosts K) (out : K) (failed : Type 0) (capacity : ℕ) (staff : Staff) (stop : Stop)
-    → RenderShows failed sink (told_of told world) script out out stop → IsScriptRender (told_of told world) script capacity staff failed sink out out None (Err stop)
-before_render told world script sink out failed capacity staff stop shown = record { whole = tt; stop = shown; rendered = tt; cut = tt; head = inl refl }

@@ -1,5 +1,5 @@
 -- What the evaluation of a script reads of a host, and how a fault of its file is told.
-use Rattle.std.proofs.Common.{◌≡◌, ◌∙◌, ℕ, ◌+◌, ◌++◌, if◌then◌else◌, arith, Bool, IsTrue, List, length, Result, Ok, Err, OnOk, refl, sym, ap}
+use Rattle.std.proofs.Common.{◌≡◌, ◌∙◌, ℕ, ◌+◌, ◌++◌, if◌then◌else◌, arith, Bool, IsTrue, List, length, Option, Result, Ok, Err, OnOk, refl, sym, ap}
 use Rattle.std.proofs.lemmas.List.Recursion.{is_count_by}
 use Rattle.fv_io.specs.World.{World}
 use Rattle.fv_io.specs.declared.source.Source.{Ghosts}
@@ -24,13 +24,13 @@ use Rattle.avs_state.specs.declared.host.HostFault.{HostFault}
 use Rattle.avs_state.specs.declared.host.HostFault.TheVariants as h
 use Rattle.avs_eval.specs.Evaluates.{Evaluates}
 use Rattle.avs_eval.specs.declared.evaluation.Opened.{Opened}
-use Rattle.avs_files.specs.Closed.{CountsFaults}
-use Rattle.avs_files.specs.Opened.{told_of, AreOpened}
+use Rattle.avs_files.specs.Closed.{CountsFaults, faults_among}
+use Rattle.avs_files.specs.Opened.{told_of}
 use Rattle.serve_text.specs.StopKinds.{stop_of}
-use Rattle.serve_app.specs.Playing.{Tells}
+use Rattle.serve_app.specs.Opening.{Tells}
 use Rattle.serve_text.specs.declared.stop.Stop.{Stop}
-use Rattle.serve_app.specs.Reads.{files_in, ReadsOnce}
-use Rattle.serve_app.proofs.ClosingLemmas.{none_failed, count_stays}
+use Rattle.serve_app.specs.Meaning.{files_in, ReadsOnce}
+use Rattle.serve_app.proofs.ClosingLemmas.{count_stays}
 use Rattle.serve_app.proofs.PlayLemmas.{told_as, in_told}
 
 -- ---- the file of the script
@@ -70,16 +70,20 @@ all_read outside name text opened given before mid now there means same first re
 
 -- ---- all of it
 
-module _ (told : Bool) (world : World) (name : List ℕ) (faults after fetched fetched_after : ℕ) where
-  -- no fault was counted, and the files that were fetched are those of the world
-  pub reads_once : after ≡ faults → (IsTrue told → fetched_after ≡ fetched + files_in world name) → ReadsOnce (told_of told world) name faults after fetched fetched_after
-  reads_once steady all = record { steady = steady; fetched = in_told told world (λ w. fetched_after ≡ fetched + files_in w name) all }
+-- no fault was counted, and the files that were fetched are those of the world
+pub reads_once : (told : Bool) (world : World) (name : List ℕ) (faults after fetched fetched_after : ℕ) → after ≡ faults → (IsTrue told → fetched_after ≡ fetched + files_in world name)
+    → ReadsOnce (told_of told world) name faults after fetched fetched_after
+reads_once told world name faults after fetched fetched_after steady all =
+    record { steady = steady; fetched = in_told told world (λ w. fetched_after ≡ fetched + files_in w name) all }
 
-  module _ {S : Type 0} (source : Ghosts S) (listed : List SourceClip) (sources left : List (FrameSource S)) (table : List (Place × Slot (Instance S))) (mid between : ℕ)
-      (are : AreOpened source told world listed sources) (same : mid ≡ faults) (all : IsTrue told → fetched_after ≡ fetched + files_in world name)
-      (counts : CountsFaults source (sources_of_table table) mid between) (last : CountsFaults source left between after) where
-    -- the sources of a stream that was put whole have not failed, so their closing counts no fault
-    pub stream_reads : {X : Type 0} (put : Result X Stop) → OnOk put (fault_counts source (left ++ sources_of_table table) ≡ fault_counts source sources)
-        → OnOk put (ReadsOnce (told_of told world) name faults after fetched fetched_after)
-    stream_reads (Ok whole) steady = reads_once (count_stays source table left sources mid between after steady (none_failed source told world listed sources are) counts last ∙ same) all
-    stream_reads (Err stop) steady = tt
+module _ {S : Type 0} (source : Ghosts S) (told : Option World) (name : List ℕ) (faults mid between after fetched fetched_mid fetched_after : ℕ) (sources left : List (FrameSource S))
+    (table : List (Place × Slot (Instance S))) (none : faults_among source sources ≡ 0) (was : ReadsOnce told name faults mid fetched fetched_mid) (same : fetched_after ≡ fetched_mid)
+    (counts : CountsFaults source (sources_of_table table) mid between) (last : CountsFaults source left between after) where
+  -- the sources of a stream that was put whole have not failed, so their closing counts no fault
+  pub stream_reads : {X : Type 0} (put : Result X Stop) → OnOk put (fault_counts source (left ++ sources_of_table table) ≡ fault_counts source sources)
+      → OnOk put (ReadsOnce told name faults after fetched fetched_after)
+  stream_reads (Ok whole) steady = record {
+    steady = count_stays source table left sources mid between after steady none counts last ∙ was.steady;
+    fetched = λ w is. same ∙ was.fetched w is;
+  }
+  stream_reads (Err stop) steady = tt

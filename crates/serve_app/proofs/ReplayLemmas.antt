@@ -1,19 +1,15 @@
 -- What is read for a replay, and what it shows.
-use Rattle.std.proofs.Common.{◌≡◌, ◌∙◌, ℕ, ◌<◌, ◌≤◌, Bool, IsTrue, List, length, Option, Some, None, Result, Ok, Err, IfOk, IfErr, OnOk, refl, sym, ap}
+use Rattle.std.proofs.Common.{◌≡◌, ◌∙◌, ℕ, ◌<◌, ◌≤◌, List, length, Option, Some, None, Result, Ok, Err, IfOk, IfErr, OnOk, refl, sym, ap}
 use Rattle.std.specs.Prelude.{IsErrOf, Vec}
 use Rattle.std.specs.FinMap.{get}
 use Rattle.std.specs.Option.{ForSome}
 use Rattle.std.specs.declared.alloc.Global.{Global}
-use Rattle.fv_io.specs.Faults.{HasRisen}
 use Rattle.fv_io.specs.World.{World, InWorld}
 use Rattle.fv_io.specs.declared.files.FetchFault.{FetchFault}
 use Rattle.fv_io.specs.declared.files.FetchFault.TheVariants as of_fetch
 use Rattle.fv_io.specs.declared.sink.Sink.{Ghosts}
 use Rattle.prefetch.specs.Rendered.{PutsNothing}
 use Rattle.avs_eval.specs.declared.evaluation.Opened.{Opened}
-use Rattle.avs_files.specs.Opened.{told_of}
-use Rattle.avs_meaning.specs.Faults as f
-use Rattle.avs_meaning.specs.Faults.{input}
 use Rattle.avs_meaning.specs.Meaning as m
 use Rattle.serve_replay.specs.Texts.{longest}
 use Rattle.serve_replay.specs.Verdicts.{IsSaidOf, PutsDue, DueStops}
@@ -23,31 +19,30 @@ use Rattle.serve_text.specs.declared.stop.Stop.{Stop}
 use Rattle.serve_text.specs.declared.stop.Stop.TheVariants as of_stop
 use Rattle.serve_app.specs.declared.replay.Charge.{Charge}
 use Rattle.serve_app.specs.Meaning.{meaning_in}
-use Rattle.serve_app.specs.Playing.{Tells, EndsBefore}
-use Rattle.serve_app.specs.Replays.{IsChargeOf, HasText, IsToldVerdict, charge_with, ReadingShows, IsCharge, ReplayShows, IsScriptReplay}
+use Rattle.serve_app.specs.Opening.{OpeningShows}
+use Rattle.serve_app.specs.Replays.{HasText, IsToldVerdict, charge_with, ReadingShows, IsCharge, ReplayShows, IsScriptReplay}
 use Rattle.serve_app.specs.Sessions.{fetch_stop}
 use Rattle.serve_app.specs.Stop.{ScriptHasClip}
 use Rattle.serve_app.proofs.MeaningLemmas.{same_plan, same_root}
-use Rattle.serve_app.proofs.PlayLemmas.{in_told}
-use Rattle.serve_app.proofs.SessionLemmas.{given, told_some}
+use Rattle.serve_app.proofs.SessionLemmas.{given}
 
-module _ (told : Bool) (world : World) (script name : List ℕ) (failed : Type 0) where
+module _ (told : Option World) (script name : List ℕ) (failed : Type 0) where
   abbrev Shown : Stop → Type 0
-  Shown stop = ReadingShows (told_of told world) script name failed stop
+  Shown stop = ReadingShows told script name failed stop
 
   -- the script was not evaluated
-  pub before_reads : (before now : ℕ) (stop : Stop) → (IsTrue told → Tells (meaning_in world script) (Err stop)) → EndsBefore {X = Opened} before now (Err stop) → (HasRisen before now → failed) → Shown stop
-  before_reads before now (of_stop.Script kind text line) tells ends fails = in_told told world (λ w. meaning_in w script ≡ m.wrong (f.script kind text line)) tells
-  before_reads before now (of_stop.Input file fault) tells ends fails = in_told told world (λ w. meaning_in w script ≡ m.wrong (input file fault)) tells
-  before_reads before now (of_stop.Changed file frame want got) tells ends fails = absurd ends
-  before_reads before now (of_stop.File file fault) tells ends fails = absurd ends
-  before_reads before now of_stop.Read tells ends fails = fails ends
-  before_reads before now of_stop.Write tells ends fails = absurd ends
-  before_reads before now of_stop.Memory tells ends fails = tt
+  pub before_reads : (stop : Stop) → OpeningShows told script failed stop → Shown stop
+  before_reads (of_stop.Script kind text line) shown = shown
+  before_reads (of_stop.Input file fault) shown = shown
+  before_reads (of_stop.Changed file frame want got) shown = shown
+  before_reads (of_stop.File file fault) shown = absurd shown
+  before_reads of_stop.Read shown = shown
+  before_reads of_stop.Write shown = shown
+  before_reads of_stop.Memory shown = shown
 
   -- the file was not opened
-  pub unopened_journal : {X : Type 0} (fault : FetchFault) → ScriptHasClip (told_of told world) script
-      → (IsErrOf {T = X} (Err fault) of_fetch.NotThere → InWorld (told_of told world) (λ w. get w name ≡ None)) → (IsErrOf {T = X} (Err fault) of_fetch.Failed → failed) → Shown (fetch_stop name fault)
+  pub unopened_journal : {X : Type 0} (fault : FetchFault) → ScriptHasClip told script
+      → (IsErrOf {T = X} (Err fault) of_fetch.NotThere → InWorld told (λ w. get w name ≡ None)) → (IsErrOf {T = X} (Err fault) of_fetch.Failed → failed) → Shown (fetch_stop name fault)
   unopened_journal of_fetch.NotThere has none fails = (refl, (has, none refl))
   unopened_journal of_fetch.Failed has none fails = fails refl
   unopened_journal of_fetch.Memory has none fails = tt
@@ -55,33 +50,31 @@ module _ (told : Bool) (world : World) (script name : List ℕ) (failed : Type 0
   -- it was opened, and its bytes were read
   module _ (opened : Opened) (bytes : Option (List ℕ)) (done : Result (Vec ℕ Global) JournalStop) where
     abbrev Told : Type 0
-    Told = InWorld (told_of told world) (λ w. bytes ≡ get w name)
+    Told = InWorld told (λ w. bytes ≡ get w name)
 
     abbrev Longer : Type 0
     Longer = ForSome bytes (λ text. longest < length text)
 
-    pub charged : Told → InWorld (told_of told world) (λ w. get w name ≡ None → ⊥) → (IsTrue told → meaning_in world script ≡ m.clip opened.graph opened.root opened.prefetch) → opened.root < length opened.graph
-        → IfOk done (λ text. ForSome bytes (λ all. text.items ≡ all)) → IfOk done (λ text. length text.items ≤ longest) → IfOk (charge_with opened name done) (IsCharge (told_of told world) script name)
+    pub charged : Told → InWorld told (λ w. get w name ≡ None → ⊥) → InWorld told (λ w. meaning_in w script ≡ m.clip opened.graph opened.root opened.prefetch) → opened.root < length opened.graph
+        → IfOk done (λ text. ForSome bytes (λ all. text.items ≡ all)) → IfOk done (λ text. length text.items ≤ longest) → IfOk (charge_with opened name done) (IsCharge told script name)
     charged tells there means inside same short = by_done done same short
       where
-        text_is : (text : Vec ℕ Global) → ForSome bytes (λ all. text.items ≡ all) → IsTrue told → get world name ≡ Some text.items
-        text_is text all known =
-            let is = told_some told world known in
-            let some = given (get world name) (there world is) in
-            let here : bytes ≡ Some some.0 = tells world is ∙ some.1 in
+        text_is : (text : Vec ℕ Global) → ForSome bytes (λ all. text.items ≡ all) → InWorld told (λ w. get w name ≡ Some text.items)
+        text_is text all w is =
+            let some = given (get w name) (there w is) in
+            let here : bytes ≡ Some some.0 = tells w is ∙ some.1 in
             let items : text.items ≡ some.0 = all some.0 here in
             rw items some.1
 
         by_done : (over : Result (Vec ℕ Global) JournalStop) → IfOk over (λ text. ForSome bytes (λ all. text.items ≡ all)) → IfOk over (λ text. length text.items ≤ longest)
-            → IfOk (charge_with opened name over) (IsCharge (told_of told world) script name)
+            → IfOk (charge_with opened name over) (IsCharge told script name)
         by_done (Ok text) all few = record {
           inside = inside;
-          told_is = in_told told world (λ w. IsChargeOf w script name opened.graph opened.root text.items)
-              (λ known. record { crew = opened.prefetch; means = means known; text_is = text_is text all known; few = few });
+          told_is = λ w is. record { crew = opened.prefetch; means = means w is; text_is = text_is text all w is; few = few };
         }
         by_done (Err why) all few = tt
 
-    pub unread_journal : Told → ScriptHasClip (told_of told world) script → (IsErrOf done of_journal.TooLong → Longer) → (IsErrOf done of_journal.Read → failed) → IfErr (charge_with opened name done) Shown
+    pub unread_journal : Told → ScriptHasClip told script → (IsErrOf done of_journal.TooLong → Longer) → (IsErrOf done of_journal.Read → failed) → IfErr (charge_with opened name done) Shown
     unread_journal tells has long fails = by_done done long fails
       where
         by_done : (over : Result (Vec ℕ Global) JournalStop) → (IsErrOf over of_journal.TooLong → Longer) → (IsErrOf over of_journal.Read → failed) → IfErr (charge_with opened name over) Shown

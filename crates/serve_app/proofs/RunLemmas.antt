@@ -17,31 +17,28 @@ use Rattle.serve_text.specs.declared.stop.FileFault.{FileFault}
 use Rattle.serve_text.specs.declared.stop.Stop.TheVariants as of_stop
 use Rattle.serve_text.specs.declared.stop.Stop.TheVariants.{Script, Input, Changed, Read, Write, Memory}
 use Rattle.serve_text.specs.StopKinds.{status_of_stop}
-use Rattle.serve_app.specs.Info.{IsInfoOf, IsToldInfo, InfoShows}
-use Rattle.serve_app.specs.Playing.{PutsClip, PutsInfo}
-use Rattle.serve_app.specs.Reads.{ReadsOnce}
-use Rattle.serve_app.specs.Meaning.{Meaning, a_clip, a_fault, MeansClip, Means, status_of, status_of_fault, script_status}
-use Rattle.prefetch.specs.Rendered.{PutsNothing}
-use Rattle.prefetch.specs.Parts.{PutsWholeFrames, EndsInFrame, PutsHead, PutsNoHead}
-use Rattle.serve_app.specs.Stop.{IsOfScript, ScriptHasClip, HasFault, HasChanged, IsScriptFault, RenderShows}
+use Rattle.serve_app.specs.Info.{IsInfoOf, IsToldInfo, InfoShows, PutsInfo}
+use Rattle.serve_app.specs.Renders.{PutsClip, PutsUntorn}
+use Rattle.serve_app.specs.Meaning.{ReadsOnce, Meaning, a_clip, a_fault, MeansClip, Means, status_of, status_of_fault, script_status}
+use Rattle.prefetch.specs.Rendered.{PutsNothing, PutsWholeFrames, EndsInFrame, PutsHead, PutsNoHead, IsUntorn}
+use Rattle.serve_app.specs.Stop.{IsOfScript, ScriptHasClip, HasInfo, HasFault, HasChanged, IsScriptFault, RenderShows}
 use Rattle.prefetch.specs.Streams.{file_at, TellsStop, HeadShows}
 use Rattle.serve_text.specs.Lines.{Says, stop_line, read_line, memory_line}
-use Rattle.prefetch.specs.declared.staff.Staff.{Staff}
+use Rattle.prefetch.specs.declared.pool_size.PoolSize.{PoolSize}
 use Rattle.command_line.specs.declared.command.Tells.{Tells}
 use Rattle.command_line.specs.declared.command.Tells.TheVariants as of_tells
 use Rattle.serve_app.specs.declared.entry.Telling.{Telling}
 use Rattle.serve_app.specs.declared.entry.Telling.TheVariants as telling
-use Rattle.serve_app.specs.Headline.{EndsByScript, EndsByInput, EndsByChange, EndsBy, WriteFails, Causes, PutsWhole, EndsInText, Quiet, Unwritten, Headline, JournalEnds, InfoEnds}
+use Rattle.serve_app.specs.Headline.{EndsByScript, EndsByInput, EndsByChange, EndsBy, WriteFails, Causes, PutsWhole, EndsInText, Quiet, Unwritten, Headline, RenderJournal, InfoEnds}
 use Rattle.serve_app.specs.Journals.{IsScriptRendered, ScriptCuts}
-use Rattle.serve_text.specs.Reports.{CutsReport, Reports}
+use Rattle.serve_text.specs.Report.{CutsReport, Reports, report}
 use Rattle.serve_app.specs.SelfTest.{IsLineOf, IsSelfLine, PutsSelfLine, SelfTestShows, SelfTestEnds}
 use Rattle.serve_app.specs.Run.{Prints, Finishes}
 use Rattle.clip_graph.specs.Plan.{Application}
-use Rattle.serve_text.specs.Report.{report}
 use Rattle.serve_machine.specs.declared.event.WindowStop.{WindowStop}
 use Rattle.serve_machine.specs.declared.event.WindowStop.TheVariants as worker
 use Rattle.serve_machine.specs.declared.windows.Record.{Record}
-use Rattle.serve_machine.specs.Windows.{windows_of}
+use Rattle.serve_machine.specs.Events.{windows_of}
 use Rattle.serve_text.specs.InfoText.{info_text}
 use Rattle.avs_meaning.specs.Crews.{workers, window}
 use Rattle.self_test.specs.Digested.{digest_line}
@@ -219,40 +216,42 @@ module _ {F S K E : Type 0} (files : of_files.Ghosts F S) (sink : Ghosts K) (lin
   abbrev InputFails : Type 0
   InputFails = EndsByInput files sink lines f g out new err said script ⊎ EndsByChange files sink lines f g out new err said script (EndsInFrame sink out new)
 
-  module _ (capacity : ℕ) (staff : Staff) (journal : Option Record) where
+  module _ (capacity : ℕ) (pool_size : PoolSize) (journal : Option Record) where
     abbrev Well : Tells → Type 0
-    Well asked = Quiet files sink lines f g out new err said script capacity staff journal asked
+    Well asked = Quiet files sink lines f g out new err said script capacity pool_size journal asked
 
     abbrev pub Failed : Tells → Type 0
-    Failed asked = Unwritten files sink lines f g out new err said script capacity staff journal asked
+    Failed asked = Unwritten files sink lines f g out new err said script capacity pool_size journal asked
 
     abbrev Ended : Tells → ℕ → Type 0
-    Ended asked status = Headline files sink lines f g out new err said script capacity staff journal asked status
+    Ended asked status = Headline files sink lines f g out new err said script capacity pool_size journal asked status
 
     -- the whole text was put, and what is on `err` shows the status
-    headline_by : (asked : Tells) (status frames : ℕ) → InWorld (files.world f) (λ world. PutsClip sink world script out new frames) → ReadsThem → ((status ≡ 0) ⊎ (status ≡ 5))
+    headline_by : (asked : Tells) (status frames : ℕ) → InWorld (files.world f) (λ world. PutsClip sink world script out new frames) → ReadsThem → PutsUntorn sink out new → ((status ≡ 0) ⊎ (status ≡ 5))
         → Caused (Well asked) InputFails (Failed asked) status → Ended asked status
-    headline_by asked status frames whole reads which causes = record {
+    headline_by asked status frames whole reads put which causes = record {
       whole = λ zero. whole_of frames whole;
       prefix = prefix_of_whole frames whole;
       nothing = λ world is none. (let one = whole world is in absurd (none one.clip one.means));
       whole_frames = λ other. absurd (omega (arith, which, other));
+      untorn = λ other. inr put.frames;
       steady = λ zero. reads.steady;
+      unfailed = λ zero. put.steady;
       fetched = λ zero. reads.fetched;
       causes = causes;
     }
 
-    pub headline_of_whole : (asked : Tells) (frames : ℕ) → InWorld (files.world f) (λ world. PutsClip sink world script out new frames) → ReadsThem → Well asked → Ended asked 0
-    headline_of_whole asked frames whole reads quiet = headline_by asked 0 frames whole reads (inl refl)
+    pub headline_of_whole : (asked : Tells) (frames : ℕ) → InWorld (files.world f) (λ world. PutsClip sink world script out new frames) → ReadsThem → PutsUntorn sink out new → Well asked → Ended asked 0
+    headline_of_whole asked frames whole reads put quiet = headline_by asked 0 frames whole reads put (inl refl)
         (causes_of_whole (Well asked) InputFails (Failed asked) script_status (zero_due (Well asked) InputFails (Failed asked) (has_clip frames whole)) quiet)
 
     -- a text was cut short after it
     pub cut_in : (IsText : List ℕ → Type 0) (frames : ℕ) → InWorld (files.world f) (λ world. PutsClip sink world script out new frames) → (text : List ℕ) → IsText text → CutsReport lines err said text
-        → EndsInText files sink lines f g out new err said script capacity staff journal IsText
+        → EndsInText files sink lines f g out new err said script capacity pool_size journal IsText
     cut_in IsText frames whole text is cut = record { whole = whole_of frames whole; text = text; is = is; cut = cut }
 
-    pub headline_of_cut : (asked : Tells) (frames : ℕ) → InWorld (files.world f) (λ world. PutsClip sink world script out new frames) → ReadsThem → Failed asked → Ended asked 5
-    headline_of_cut asked frames whole reads failed = headline_by asked 5 frames whole reads (inr refl) (causes_of_cut (Well asked) InputFails (Failed asked) failed)
+    pub headline_of_cut : (asked : Tells) (frames : ℕ) → InWorld (files.world f) (λ world. PutsClip sink world script out new frames) → ReadsThem → PutsUntorn sink out new → Failed asked → Ended asked 5
+    headline_of_cut asked frames whole reads put failed = headline_by asked 5 frames whole reads put (inr refl) (causes_of_cut (Well asked) InputFails (Failed asked) failed)
 
   module _ (stop : Stop) where
     abbrev Shown : Type 0
@@ -313,21 +312,36 @@ module _ {F S K E : Type 0} (files : of_files.Ghosts F S) (sink : Ghosts K) (lin
   frames_of Write shown which = absurd (omega (arith, which))
   frames_of Memory shown which = shown
 
-  module _ (capacity : ℕ) (staff : Staff) (journal : Option Record) where
-    fails_by : (asked : Tells) → Fails → Failed capacity staff journal asked
+  part_is_whole : PutsWholeFrames sink out new (IsOfScript (files.world f) script) (ScriptHasClip (files.world f) script) → IsUntorn sink out new
+  part_is_whole (inl none) = inl none
+  part_is_whole (inr some) = inr (record { part = some.part; pictures = some.pictures; put = some.put })
+
+  untorn_of : (stop : Stop) → Shown stop → (status_of_stop stop ≡ 5 → ⊥) → IsUntorn sink out new
+  untorn_of (Script kind name line) shown other = inl shown.1
+  untorn_of (Input name fault) shown other = inl shown.1
+  untorn_of (Changed name frame want got) shown other = (let ended = shown.1 in inr (record { part = ended.part; pictures = ended.pictures; put = ended.put }))
+  untorn_of (of_stop.File name fault) shown other = absurd shown
+  untorn_of Read shown other = part_is_whole shown.1
+  untorn_of Write shown other = absurd (other refl)
+  untorn_of Memory shown other = part_is_whole shown
+
+  module _ (capacity : ℕ) (pool_size : PoolSize) (journal : Option Record) where
+    fails_by : (asked : Tells) → Fails → Failed capacity pool_size journal asked
     fails_by of_tells.Nothing failed = failed
     fails_by of_tells.Report failed = inl failed
     fails_by of_tells.Journal failed = inl failed
 
-    pub headline_of_stop : (asked : Tells) (stop : Stop) → Shown stop → Says lines err said (stop_line stop) → Ended capacity staff journal asked (status_of_stop stop)
+    pub headline_of_stop : (asked : Tells) (stop : Stop) → Shown stop → Says lines err said (stop_line stop) → Ended capacity pool_size journal asked (status_of_stop stop)
     headline_of_stop asked stop shown says = record {
       whole = λ zero. absurd (never_zero stop zero);
       prefix = prefix_of stop shown;
       nothing = nothing_of stop shown;
       whole_frames = frames_of stop shown;
+      untorn = untorn_of stop shown;
       steady = λ zero. absurd (never_zero stop zero);
+      unfailed = λ zero. absurd (never_zero stop zero);
       fetched = λ zero. absurd (never_zero stop zero);
-      causes = script_causes (Well capacity staff journal asked) InputFails (Failed capacity staff journal asked) (fails_by asked) stop (cause_of stop shown) says (input_of stop shown says);
+      causes = script_causes (Well capacity pool_size journal asked) InputFails (Failed capacity pool_size journal asked) (fails_by asked) stop (cause_of stop shown) says (input_of stop shown says);
     }
 
   -- ---- what is known of the clip
@@ -490,6 +504,21 @@ said_later lines err said (Ok (telling.Journal workers)) None status is = absurd
 said_later lines err said (Ok (telling.Journal workers)) (Some log) status is = let put = is.put in put.later
 said_later lines err said (Err stop) journal status is = let says = is.1 in says.later
 
+-- a head that was not put whole, and one that was
+module _ {K : Type 0} (sink : Ghosts K) (out new : K) (IsIts : Info → Type 0) where
+  pub unheaded : (told : Option Stop) (journal : Option Record) (status : ℕ) → HeadShows sink out new IsIts told journal → (told ≡ Some Write → status ≡ 5) → journal ≡ None → PutsNoHead sink out new IsIts (status ≡ 5)
+  unheaded told None status (inl nothing) wrote none = inl nothing
+  unheaded told None status (inr (failed, cut)) wrote none = inr (wrote failed, cut)
+  unheaded told (Some log) status headed wrote none = absurd (cc)
+
+  pub headed_of : (told : Option Stop) (journal : Option Record) → HeadShows sink out new IsIts told journal → (log : Record) → journal ≡ Some log → PutsHead sink out new IsIts
+  headed_of told None shown log there = absurd (cc)
+  headed_of told (Some other) shown log there = shown
+
+-- a failed write has its status
+pub wrote_of : (stop : Stop) (status : ℕ) → status ≡ status_of_stop stop → Some stop ≡ Some Write → status ≡ 5
+wrote_of stop status is told = let same : stop ≡ Write = cc in is ∙ ap status_of_stop same
+
 -- the line of a stream that a digest holds
 pub self_line : {K : Type 0} (sink : Ghosts K) (world : World) (script : List ℕ) (out new : K) (frames : ℕ) (bytes line : List ℕ)
     → PutsClip sink world script out new frames → sink.bytes out ≡ Some [] → sink.bytes new ≡ Some bytes → line ≡ digest_line frames bytes → IsLineOf world script line
@@ -522,41 +551,39 @@ module _ {F S K E : Type 0} (files : of_files.Ghosts F S) (sink : Ghosts K) (lin
   ends_whole plan (Some (worker.Changed node frame want got)) status five (inr is) = absurd (cc)
   ends_whole plan (Some worker.Memory) status five is = absurd (cc)
 
-  module _ (capacity : ℕ) (staff : Staff) (journal : Option Record) where
+  module _ (capacity : ℕ) (pool_size : PoolSize) (journal : Option Record) where
     abbrev Left : ℕ → Type 0
-    Left status = JournalEnds files sink lines f g out new err said script capacity staff journal status
+    Left status = RenderJournal files sink lines f g out new err said script capacity pool_size journal status
 
     cuts_by : (One Other : List Application → Option WindowStop → Type 0) → ((plan : List Application) (stop : Option WindowStop) → One plan stop → Other plan stop) → (log : Option Record)
-        → ScriptCuts (files.world f) script capacity staff sink out new One log → ScriptCuts (files.world f) script capacity staff sink out new Other log
+        → ScriptCuts (files.world f) script capacity pool_size sink out new One log → ScriptCuts (files.world f) script capacity pool_size sink out new Other log
     cuts_by One Other so None cut = tt
     cuts_by One Other so (Some log) cut = record { plan = cut.plan; root = cut.root; is_plan = cut.is_plan; stop = cut.stop; ends = so cut.plan cut.stop cut.ends; cut = cut.cut }
 
+    abbrev Heads : Option Stop → Type 0
+    Heads told = HeadShows sink out new (HasInfo (files.world f) script) told journal
+
     -- the journal of a whole render, and of one that stopped
-    pub journal_of_whole : (status : ℕ) → (status ≡ 0) ⊎ (status ≡ 5) → IsScriptRendered (files.world f) script capacity staff journal → ScriptCuts (files.world f) script capacity staff sink out new (TellsStop None) journal → Left status
-    journal_of_whole status (inl zero) serial cut = record { rendered = λ is. serial; cut = λ more. absurd (more zero) }
-    journal_of_whole status (inr five) serial cut = record { rendered = λ is. serial; cut = λ more. cuts_by (TellsStop None) (Ending status) (λ plan stop. ends_whole plan stop status five) journal cut }
-
-    pub journal_of_stop : (stop : Stop) (status : ℕ) → status ≡ status_of_stop stop → Says lines err said (stop_line stop) → ScriptCuts (files.world f) script capacity staff sink out new (TellsStop (Some stop)) journal → Left status
-    journal_of_stop stop status is says cut = record {
-      rendered = λ zero. absurd (never_zero stop (sym is ∙ zero));
-      cut = λ more. subst (λ s. ScriptCuts (files.world f) script capacity staff sink out new (Ending s) journal) (sym is) (cuts_by (TellsStop (Some stop)) (Ending (status_of_stop stop)) (λ plan cut_by. ends_by stop plan cut_by says) journal cut);
+    pub journal_of_whole : (status : ℕ) → (status ≡ 0) ⊎ (status ≡ 5) → IsScriptRendered (files.world f) script capacity pool_size journal → ScriptCuts (files.world f) script capacity pool_size sink out new (TellsStop None) journal → Heads None → Left status
+    journal_of_whole status which serial cut head = record {
+      rendered = λ is. serial;
+      cut = λ more. (let five = not_zero status which more in cuts_by (TellsStop None) (Ending status) (λ plan stop. ends_whole plan stop status five) journal cut);
+      headed = headed_of sink out new _ None journal head;
+      unheaded = unheaded sink out new _ None journal status head (λ bad. absurd (cc));
     }
+      where
+        not_zero : (status : ℕ) → (status ≡ 0) ⊎ (status ≡ 5) → (status ≡ 0 → ⊥) → status ≡ 5
+        not_zero status (inl zero) more = absurd (more zero)
+        not_zero status (inr five) more = five
 
--- a head that was not put whole, and one that was
-module _ {K : Type 0} (sink : Ghosts K) (out new : K) (IsIts : Info → Type 0) where
-  pub unheaded : (told : Option Stop) (journal : Option Record) (status : ℕ) → HeadShows sink out new IsIts told journal → (told ≡ Some Write → status ≡ 5) → journal ≡ None → PutsNoHead sink out new IsIts (status ≡ 5)
-  unheaded told None status (inl nothing) wrote none = inl nothing
-  unheaded told None status (inr (failed, cut)) wrote none = inr (wrote failed, cut)
-  unheaded told (Some log) status headed wrote none = absurd (cc)
-
-  pub headed_of : (told : Option Stop) (journal : Option Record) → HeadShows sink out new IsIts told journal → (log : Record) → journal ≡ Some log → PutsHead sink out new IsIts
-  headed_of told None shown log there = absurd (cc)
-  headed_of told (Some other) shown log there = shown
+    pub journal_of_stop : (stop : Stop) (status : ℕ) → status ≡ status_of_stop stop → Says lines err said (stop_line stop) → ScriptCuts (files.world f) script capacity pool_size sink out new (TellsStop (Some stop)) journal → Heads (Some stop) → Left status
+    journal_of_stop stop status is says cut head = record {
+      rendered = λ zero. absurd (never_zero stop (sym is ∙ zero));
+      cut = λ more. subst (λ s. ScriptCuts (files.world f) script capacity pool_size sink out new (Ending s) journal) (sym is) (cuts_by (TellsStop (Some stop)) (Ending (status_of_stop stop)) (λ plan cut_by. ends_by stop plan cut_by says) journal cut);
+      headed = headed_of sink out new _ (Some stop) journal head;
+      unheaded = unheaded sink out new _ (Some stop) journal status head (wrote_of stop status is);
+    }
 
 pub zero_or_five : (status : ℕ) (P Q : Type 0) → ((status ≡ 0) × P) ⊎ ((status ≡ 5) × Q) → (status ≡ 0) ⊎ (status ≡ 5)
 zero_or_five status P Q (inl put) = inl put.0
 zero_or_five status P Q (inr cut) = inr cut.0
-
--- a failed write has its status
-pub wrote_of : (stop : Stop) (status : ℕ) → status ≡ status_of_stop stop → Some stop ≡ Some Write → status ≡ 5
-wrote_of stop status is told = let same : stop ≡ Write = cc in is ∙ ap status_of_stop same

@@ -19,7 +19,7 @@ use Rattle.serve_text.specs.declared.stop.Stop.TheVariants as of_stop
 use Rattle.serve_text.specs.declared.stop.Stop.TheVariants.{Script, Input, Changed, Read, Write, Memory}
 use Rattle.prefetch.specs.Answered.{EndsEarly}
 use Rattle.fv_io.specs.Files.{FilesFailed}
-use Rattle.serve_app.specs.Headline.{EndsByInput, EndsByChange, EndsByList, EndsSession, SessionEnds}
+use Rattle.serve_app.specs.Headline.{EndsByInput, EndsByChange, EndsByList, EndsSession, SessionEnds, SessionJournal}
 use Rattle.serve_app.specs.Meaning.{Meaning, a_clip, Means}
 use Rattle.serve_app.specs.Run.{SessionDoes}
 use Rattle.serve_app.specs.Sessions.{IsAnswersOf, AnswersList, IsListFault, SessionShows, SessionCuts, TellsCut, status_of_end, status_of_list, session_status}
@@ -29,7 +29,7 @@ use Rattle.serve_app.proofs.RunLemmas.{never_zero, known_of, Cause, Fails, cause
 
 module _ {F S K E : Type 0} (files : of_files.Ghosts F S) (sink : Ghosts K) (lines : Ghosts E) (f g : F) (out new : K) (err said : E) (script list : List ℕ) (capacity : ℕ) (journal : Option Record) where
   abbrev Ended : ℕ → Type 0
-  Ended status = SessionEnds files sink lines f g out new err said script list capacity journal status
+  Ended status = SessionEnds files sink lines f g out new err said script list status × SessionJournal files sink lines f g out new err said script list capacity journal status
 
   abbrev Did : Result (Unit {0}) Stop → Type 0
   Did done = SessionDoes files sink f g out new journal script list capacity done
@@ -75,7 +75,7 @@ module _ {F S K E : Type 0} (files : of_files.Ghosts F S) (sink : Ghosts K) (lin
 
   abbrev InputFails : Type 0
   InputFails = EndsByInput files sink lines f g out new err said script
-      ⊎ (EndsByList files sink lines f g out new err said script list capacity journal ⊎ EndsByChange files sink lines f g out new err said script EndsEarly)
+      ⊎ (EndsByList files sink lines f g out new err said script list ⊎ EndsByChange files sink lines f g out new err said script EndsEarly)
 
   input_of : (stop : Stop) → Shows stop → Says lines err said (stop_line stop) → status_of_stop stop ≡ 3 → InputFails
   input_of (Script kind name line) shown says is = absurd (omega (arith, is))
@@ -88,7 +88,7 @@ module _ {F S K E : Type 0} (files : of_files.Ghosts F S) (sink : Ghosts K) (lin
 
   -- how the last window ended
   ends_at : (stop : Stop) → Says lines err said (stop_line stop) → (plan : List Application) (cut : Option WindowStop) → TellsCut stop plan cut
-      → EndsSession files sink lines f g out new err said script list capacity journal (status_of_stop stop) plan cut
+      → EndsSession files sink lines f g out new err said script list (status_of_stop stop) plan cut
   ends_at stop says plan None least = (least, at_most (known_of stop))
     where
       at_most : (status_of_stop stop ≡ 0) ⊎ (2 ≤ status_of_stop stop) × (status_of_stop stop ≤ 6) → status_of_stop stop ≤ 6
@@ -97,7 +97,7 @@ module _ {F S K E : Type 0} (files : of_files.Ghosts F S) (sink : Ghosts K) (lin
   ends_at stop says plan (Some why) tells = ends_by files sink lines f g out new err said script stop plan (Some why) says tells
 
   cuts_at : (stop : Stop) → Says lines err said (stop_line stop) → (log : Option Record) → SessionCuts (files.world f) script list capacity (TellsCut stop) log
-      → SessionCuts (files.world f) script list capacity (EndsSession files sink lines f g out new err said script list capacity journal (status_of_stop stop)) log
+      → SessionCuts (files.world f) script list capacity (EndsSession files sink lines f g out new err said script list (status_of_stop stop)) log
   cuts_at stop says None cut = tt
   cuts_at stop says (Some log) cut = record { plan = cut.plan; root = cut.root; is_plan = cut.is_plan; stop = cut.stop; ends = ends_at stop says cut.plan cut.stop cut.ends; windows_are = cut.windows_are }
 
@@ -111,19 +111,22 @@ module _ {F S K E : Type 0} (files : of_files.Ghosts F S) (sink : Ghosts K) (lin
   pub session_whole : Did (Ok tt) → said ≡ err → Ended 0
   session_whole did quiet =
       let session = did.session in
-      let run = session.run in
-      record {
-        whole = λ zero. session.whole;
-        prefix = session.prefix;
-        nothing = nothing_of (Ok tt) did journal refl;
-        steady = λ zero. did.steady;
-        listed = session.listed;
-        fetched = did.fetched;
-        unlisted = λ none. (let both : Some run.log ≡ None = sym run.there ∙ none in absurd (cc));
-        run = λ zero. run;
-        cut = λ more. absurd (more refl);
-        causes = causes_of_whole files sink lines f g out new err said script (said ≡ err) InputFails (Fails files sink lines f g out new err said script) due (by_end None session.whole) quiet;
-      }
+      let run = session.run in (
+        record {
+          whole = λ zero. session.whole;
+          prefix = session.prefix;
+          nothing = nothing_of (Ok tt) did journal refl;
+          steady = λ zero. did.steady;
+          causes = causes_of_whole files sink lines f g out new err said script (said ≡ err) InputFails (Fails files sink lines f g out new err said script) due (by_end None session.whole) quiet;
+        },
+        record {
+          run = λ zero. run;
+          cut = λ more. absurd (more refl);
+          listed = session.listed;
+          fetched = did.fetched;
+          unlisted = λ none. (let both : Some run.log ≡ None = sym run.there ∙ none in absurd (cc));
+        },
+      )
 
   excused : (stop : Stop) → (stop ≡ Read) ⊎ (stop ≡ Memory) → (status_of_stop stop ≡ 4) ⊎ (status_of_stop stop ≡ 6)
   excused stop (inl is) = inl (ap status_of_stop is)
@@ -131,17 +134,20 @@ module _ {F S K E : Type 0} (files : of_files.Ghosts F S) (sink : Ghosts K) (lin
 
   pub session_stop : (stop : Stop) → Did (Err stop) → Says lines err said (stop_line stop) → Ended (status_of_stop stop)
   session_stop stop did says =
-      let session = did.session in
-      record {
-        whole = λ zero. absurd (never_zero stop zero);
-        prefix = session.prefix;
-        nothing = nothing_of (Err stop) did journal refl;
-        steady = λ zero. absurd (never_zero stop zero);
-        listed = session.listed;
-        fetched = did.fetched;
-        unlisted = λ none. (let unlisted = session.unlisted none in (unlisted.put, λ world told text is. excused stop (unlisted.why world told text is)));
-        run = λ zero. absurd (never_zero stop zero);
-        cut = λ more. cuts_at stop says journal session.cut;
-        causes = causes_of files sink lines f g out new err said script OfList due (λ world fault. refl) of_list_is (said ≡ err) InputFails (Fails files sink lines f g out new err said script) (λ failed. failed)
-            stop (cause_of stop session.stop) says (input_of stop session.stop says);
-      }
+      let session = did.session in (
+        record {
+          whole = λ zero. absurd (never_zero stop zero);
+          prefix = session.prefix;
+          nothing = nothing_of (Err stop) did journal refl;
+          steady = λ zero. absurd (never_zero stop zero);
+          causes = causes_of files sink lines f g out new err said script OfList due (λ world fault. refl) of_list_is (said ≡ err) InputFails (Fails files sink lines f g out new err said script) (λ failed. failed)
+              stop (cause_of stop session.stop) says (input_of stop session.stop says);
+        },
+        record {
+          run = λ zero. absurd (never_zero stop zero);
+          cut = λ more. cuts_at stop says journal session.cut;
+          listed = session.listed;
+          fetched = did.fetched;
+          unlisted = λ none. (let unlisted = session.unlisted none in (unlisted.put, λ world told text is. excused stop (unlisted.why world told text is)));
+        },
+      )

@@ -30,11 +30,9 @@ use Rattle.inst_table.specs.declared.place.Place.{Place}
 use Rattle.inst_table.specs.declared.place.Slot.{Slot}
 use Rattle.serve_machine.specs.declared.event.WindowStop.{WindowStop}
 use Rattle.serve_machine.specs.declared.windows.Record.{Record}
-use Rattle.serve_machine.specs.Keys.{frame_key}
-use Rattle.serve_machine.specs.Windows.{WindowEvents, windows_of}
+use Rattle.serve_machine.specs.Events.{frame_key, WindowEvents, windows_of}
 use Rattle.prefetch.specs.Clips.{clip_at}
 use Rattle.prefetch.specs.Windows.{frames_at}
-use Rattle.avs_eval.specs.declared.evaluation.Opened.{Opened}
 use Rattle.avs_meaning.specs.Crews.{Numbers}
 use Rattle.avs_meaning.specs.Faults as f
 use Rattle.avs_meaning.specs.Faults.{input}
@@ -53,9 +51,9 @@ use Rattle.prefetch.specs.declared.session.SessionStop.{SessionStop}
 use Rattle.prefetch.specs.declared.session.SessionStop.TheVariants.{Stopped, ListFault}
 use Rattle.serve_app.specs.Journals.{IsPlanOf}
 use Rattle.serve_app.specs.Meaning.{meaning_in}
-use Rattle.serve_app.specs.Playing.{Tells, EndsBefore}
+use Rattle.serve_app.specs.Opening.{OpeningShows}
 use Rattle.serve_app.specs.Sessions.{answers_of, IsAnswersOf, IsToldAnswers, HasAnswers, InList, AnswersList, SessionCuts, fetch_stop, stop_with, ended_with, TellsCut, SessionShows, IsScriptSession}
-use Rattle.serve_app.specs.Stop.{ScriptHasClip}
+use Rattle.serve_app.specs.Stop.{ScriptHasClip, HasFault}
 use Rattle.serve_app.proofs.PlayLemmas.{in_told, told_same, a_clip_at, of_means, none_of, plan_of, has_one}
 
 -- ---- answers over a clip
@@ -241,14 +239,14 @@ module _ {S : Type 0} (of : of_source.Ghosts S) (told : Bool) (world : World) (s
 
 -- ---- a list that was not opened
 
-module _ {K : Type 0} (told : Bool) (world : World) (script name : List ℕ) (sink : Ghosts K) (out : K) (failed : Type 0) (capacity : ℕ) where
+module _ {K : Type 0} (told : Option World) (script name : List ℕ) (sink : Ghosts K) (out : K) (failed : Type 0) (capacity : ℕ) where
   abbrev Shown : Stop → Type 0
-  Shown stop = SessionShows (told_of told world) script name sink out out failed stop
+  Shown stop = SessionShows told script name sink out out failed stop
 
   abbrev Excused : Stop → Type 0
-  Excused stop = InWorld (told_of told world) (λ w. (text : List ℕ) → IsAnswersOf w script name text → (stop ≡ of_stop.Read) ⊎ (stop ≡ of_stop.Memory))
+  Excused stop = InWorld told (λ w. (text : List ℕ) → IsAnswersOf w script name text → (stop ≡ of_stop.Read) ⊎ (stop ≡ of_stop.Memory))
 
-  nothing_yet : (stop : Stop) → Shown stop → Excused stop → IsScriptSession (told_of told world) script name sink out out failed capacity None (Err stop)
+  nothing_yet : (stop : Stop) → Shown stop → Excused stop → IsScriptSession told script name sink out out failed capacity None (Err stop)
   nothing_yet stop shows why = record {
     whole = tt;
     stop = shows;
@@ -260,27 +258,26 @@ module _ {K : Type 0} (told : Bool) (world : World) (script name : List ℕ) (si
   }
 
   -- a script that means a fault has no answers
-  no_answers : (fault : f.Fault) (stop : Stop) → (IsTrue told → meaning_in world script ≡ m.wrong fault) → Excused stop
-  no_answers fault stop wrong = in_told told world (λ w. (text : List ℕ) → IsAnswersOf w script name text → (stop ≡ of_stop.Read) ⊎ (stop ≡ of_stop.Memory))
-      (λ known text is. let means = is.means in let both : m.wrong fault ≡ m.clip means.plan means.root means.crew = sym (wrong known) ∙ means.means in absurd (cc))
+  no_answers : (fault : f.Fault) (stop : Stop) → HasFault told script fault → Excused stop
+  no_answers fault stop wrong w there text is =
+      let means = is.means in
+      let both : m.wrong fault ≡ m.clip means.plan means.root means.crew = sym (wrong w there) ∙ means.means in
+      absurd (cc)
 
   -- the script was not evaluated
-  pub unevaluated : (before now : ℕ) (stop : Stop) → (IsTrue told → Tells (meaning_in world script) (Err stop)) → EndsBefore {X = Opened} before now (Err stop) → (HasRisen before now → failed)
-      → IsScriptSession (told_of told world) script name sink out out failed capacity None (Err stop)
-  unevaluated before now (of_stop.Script kind text line) tells ends fails =
-      nothing_yet (of_stop.Script kind text line) (in_told told world (λ w. meaning_in w script ≡ m.wrong (f.script kind text line)) tells, refl) (no_answers (f.script kind text line) _ tells)
-  unevaluated before now (of_stop.Input file fault) tells ends fails =
-      nothing_yet (of_stop.Input file fault) (in_told told world (λ w. meaning_in w script ≡ m.wrong (input file fault)) tells, refl) (no_answers (input file fault) _ tells)
-  unevaluated before now (of_stop.Changed file frame want got) tells ends fails = absurd ends
-  unevaluated before now (of_stop.File file fault) tells ends fails = absurd ends
-  unevaluated before now of_stop.Read tells ends fails = nothing_yet of_stop.Read (fails ends) (λ w is text answers. inl refl)
-  unevaluated before now of_stop.Write tells ends fails = absurd ends
-  unevaluated before now of_stop.Memory tells ends fails = nothing_yet of_stop.Memory tt (λ w is text answers. inr refl)
+  pub unevaluated : (stop : Stop) → OpeningShows told script failed stop → IsScriptSession told script name sink out out failed capacity None (Err stop)
+  unevaluated (of_stop.Script kind text line) shown = nothing_yet (of_stop.Script kind text line) (shown, refl) (no_answers (f.script kind text line) _ shown)
+  unevaluated (of_stop.Input file fault) shown = nothing_yet (of_stop.Input file fault) (shown, refl) (no_answers (input file fault) _ shown)
+  unevaluated (of_stop.Changed file frame want got) shown = absurd shown
+  unevaluated (of_stop.File file fault) shown = absurd shown
+  unevaluated of_stop.Read shown = nothing_yet of_stop.Read shown (λ w is text answers. inl refl)
+  unevaluated of_stop.Write shown = absurd shown
+  unevaluated of_stop.Memory shown = nothing_yet of_stop.Memory tt (λ w is text answers. inr refl)
 
   -- the file of the list was not opened
-  pub unopened_list : {X : Type 0} (fault : FetchFault) → ScriptHasClip (told_of told world) script
-      → (IsErrOf {T = X} (Err fault) of_fetch.NotThere → InWorld (told_of told world) (λ w. get w name ≡ None)) → (IsErrOf {T = X} (Err fault) of_fetch.Failed → failed)
-      → IsScriptSession (told_of told world) script name sink out out failed capacity None (Err (fetch_stop name fault))
+  pub unopened_list : {X : Type 0} (fault : FetchFault) → ScriptHasClip told script
+      → (IsErrOf {T = X} (Err fault) of_fetch.NotThere → InWorld told (λ w. get w name ≡ None)) → (IsErrOf {T = X} (Err fault) of_fetch.Failed → failed)
+      → IsScriptSession told script name sink out out failed capacity None (Err (fetch_stop name fault))
   unopened_list of_fetch.NotThere has none fails =
       nothing_yet (of_stop.File name of_file.NotThere) (refl, (has, none refl, refl)) (λ w is text answers. let both : None ≡ Some answers.bytes = sym (none refl w is) ∙ answers.bytes_are in absurd (cc))
   unopened_list of_fetch.Failed has none fails = nothing_yet of_stop.Read (fails refl) (λ w is text answers. inl refl)

@@ -6,12 +6,12 @@ use Rattle.fv_io.proofs.CallerLemmas.{gets_none, gets_all, gets_more}
 use Rattle.fv_plane.specs.Clip.{Clip}
 use Rattle.y4m_stream.specs.Stream.{stream}
 use Rattle.prefetch.proofs.TextLemmas.{text_of_part}
-use Rattle.prefetch.specs.Parts.{PutsPart, PutsWholeFrames}
+use Rattle.prefetch.specs.Rendered.{PutsPart, PutsWholeFrames}
 
 module _ {K : Type 0} (sink : Ghosts K) (old new : K) (Its More : Clip → Type 0) (One Any : Type 0) (narrows : (clip : Clip) → More clip → Its clip) (widens : One → Any) where
   pub whole_frames_of : PutsWholeFrames sink old new Its One → PutsWholeFrames sink old new More Any
   whole_frames_of (inl none) = inl none
-  whole_frames_of (inr some) = inr (record { part = some.part; put = some.put; begins = λ clip is. some.begins clip (narrows clip is); has_one = widens some.has_one })
+  whole_frames_of (inr some) = inr (record { part = some.part; pictures = some.pictures; put = some.put; begins = λ clip is. some.begins clip (narrows clip is); has_one = widens some.has_one })
 
 module _ {K : Type 0} (sink : Ghosts K) (old new : K) (clip : Clip) where
   -- nothing is a prefix

@@ -14,6 +14,8 @@ use Rattle.avs_meaning.specs.Faults.{input}
 use Rattle.avs_meaning.specs.declared.fault.InputFault.{InputFault}
 use Rattle.avs_meaning.specs.declared.fault.ScriptKind.{ScriptKind}
 use Rattle.command_line.specs.Command.{command_in}
+use Rattle.command_line.specs.declared.command.Command.{Command}
+use Rattle.command_line.specs.declared.command.Command.TheVariants.{Render, Info, SelfTest, Session, Replay}
 use Rattle.command_line.specs.declared.command.RenderOptions.{RenderOptions}
 use Rattle.command_line.specs.declared.command.Tells.{Tells}
 use Rattle.command_line.specs.declared.command.Tells.TheVariants as of_tells
@@ -21,18 +23,15 @@ use Rattle.clip_graph.specs.Plan.{Application}
 use Rattle.serve_machine.specs.declared.event.WindowStop.{WindowStop}
 use Rattle.serve_machine.specs.declared.event.WindowStop.TheVariants.{Read, Changed, Memory}
 use Rattle.serve_machine.specs.declared.windows.Record.{Record}
-use Rattle.prefetch.specs.declared.staff.Staff.{Staff}
-use Rattle.serve_app.specs.Words.{IsRender, IsInfo, IsSelfTest, IsSession, IsReplay}
-use Rattle.serve_app.specs.Meaning.{Meaning, MeansClip, Means, script_status}
+use Rattle.prefetch.specs.declared.pool_size.PoolSize.{PoolSize}
+use Rattle.serve_app.specs.Meaning.{Meaning, MeansClip, Means, script_status, files_in}
 use Rattle.serve_app.specs.Info.{IsInfoOf, IsToldInfo}
 use Rattle.serve_app.specs.Journals.{cache_of, IsScriptRendered, IsReport, IsJournalText, IsLawful, ScriptCuts}
-use Rattle.serve_app.specs.Reads.{files_in}
 use Rattle.serve_app.specs.Replays.{HasText, IsVerdictOf, IsToldVerdict, IsJournalFault, replay_status}
-use Rattle.serve_text.specs.Reports.{CutsReport}
+use Rattle.serve_text.specs.Report.{CutsReport}
 use Rattle.serve_app.specs.SelfTest.{SelfTestEnds}
 use Rattle.serve_app.specs.Sessions.{IsAnswersOf, IsToldAnswers, HasAnswers, AnswersList, IsListFault, IsSessionRun, SessionCuts, FetchesList, session_status}
-use Rattle.prefetch.specs.Rendered.{PutsNothing}
-use Rattle.prefetch.specs.Parts.{PutsWholeFrames, EndsInFrame, PutsHead, PutsNoHead}
+use Rattle.prefetch.specs.Rendered.{PutsNothing, PutsWholeFrames, EndsInFrame, IsUntorn, PutsHead, PutsNoHead}
 use Rattle.serve_app.specs.Stop.{IsOfScript, ScriptHasClip, HasInfo, HasFault, HasChanged, IsScriptFault}
 use Rattle.prefetch.specs.Answered.{EndsEarly}
 use Rattle.prefetch.specs.Streams.{file_at}
@@ -102,20 +101,20 @@ module _ {F S K E : Type 0} (files : of_files.Ghosts F S) (sink : Ghosts K) (lin
     PutsWhole = InWorld (files.world f) (λ world.
         (clip : Clip) × MeansClip world script clip × Puts sink out new (stream clip))
 
-    -- a render of the script, with a cache of so many frames and this staff, that leaves this journal
-    module _ (capacity : ℕ) (staff : Staff) (journal : Option Record) where
+    -- a render of the script, with a cache of so many frames and a pool of this size, that leaves this journal
+    module _ (capacity : ℕ) (pool_size : PoolSize) (journal : Option Record) where
       -- the report of the journal was put
       pub record PutsReport : Type 0 where
         pub text : List ℕ
-        pub is : IsReport (files.world f) script capacity staff journal text
+        pub is : IsReport (files.world f) script capacity pool_size journal text
         pub put : Puts lines err said text
 
       -- the text of the journal was put, and it is a journal of the script's plan, with the same cache
       pub record PutsJournal : Type 0 where
         pub text : List ℕ
-        pub is : IsJournalText (files.world f) script capacity staff journal text
+        pub is : IsJournalText (files.world f) script capacity pool_size journal text
         pub put : Puts lines err said text
-        pub lawful : IsLawful (files.world f) script capacity staff is
+        pub lawful : IsLawful (files.world f) script capacity pool_size is
 
       -- the whole text of the clip was put, and then a text of this kind was cut short
       pub record EndsInText (IsText : List ℕ → Type 0) : Type 0 where
@@ -133,8 +132,8 @@ module _ {F S K E : Type 0} (files : of_files.Ghosts F S) (sink : Ghosts K) (lin
       -- and what shows that a write failed
       abbrev pub Unwritten : Tells → Type 0
       Unwritten of_tells.Nothing = WriteFails
-      Unwritten of_tells.Report = WriteFails ⊎ EndsInText (IsReport (files.world f) script capacity staff journal)
-      Unwritten of_tells.Journal = WriteFails ⊎ EndsInText (IsJournalText (files.world f) script capacity staff journal)
+      Unwritten of_tells.Report = WriteFails ⊎ EndsInText (IsReport (files.world f) script capacity pool_size journal)
+      Unwritten of_tells.Journal = WriteFails ⊎ EndsInText (IsJournalText (files.world f) script capacity pool_size journal)
 
       pub record Headline (tells : Tells) (status : ℕ) : Type 0 where
         -- the text: the whole, or a prefix; nothing where there is no clip; whole frames where no write failed
@@ -144,8 +143,11 @@ module _ {F S K E : Type 0} (files : of_files.Ghosts F S) (sink : Ghosts K) (lin
             ((clip : Clip) → MeansClip world script clip → ⊥) → PutsNothing sink out new)
         pub whole_frames : (status ≡ 4) ⊎ (status ≡ 6)
             → PutsWholeFrames sink out new (IsOfScript (files.world f) script) (ScriptHasClip (files.world f) script)
+        -- whatever the files hold, no frame is torn where no write failed: nothing is put, or a head and whole frames
+        pub untorn : (status ≡ 5 → ⊥) → IsUntorn sink out new
         -- no fault was counted, so nothing that failed was tried again; as many files were fetched as the script reads
         pub steady : status ≡ 0 → files.faults g ≡ files.faults f
+        pub unfailed : status ≡ 0 → sink.faults new ≡ sink.faults out
         pub fetched : status ≡ 0 → InWorld (files.world f) (λ world.
             files.fetched g ≡ files.fetched f + files_in world script)
         -- an input that changed did so after whole frames and a part of one
@@ -153,9 +155,12 @@ module _ {F S K E : Type 0} (files : of_files.Ghosts F S) (sink : Ghosts K) (lin
             script_status status
 
       -- the journal: that of the whole render, or the beginning of it up to a stop, which the status and the line tell
-      pub record JournalEnds (status : ℕ) : Type 0 where
-        pub rendered : status ≡ 0 → IsScriptRendered (files.world f) script capacity staff journal
-        pub cut : (status ≡ 0 → ⊥) → ScriptCuts (files.world f) script capacity staff sink out new (EndsBy status) journal
+      pub record RenderJournal (status : ℕ) : Type 0 where
+        pub rendered : status ≡ 0 → IsScriptRendered (files.world f) script capacity pool_size journal
+        pub cut : (status ≡ 0 → ⊥) → ScriptCuts (files.world f) script capacity pool_size sink out new (EndsBy status) journal
+        -- there is one only where the head was put whole, and none only where it was not
+        pub headed : (log : Record) → journal ≡ Some log → PutsHead sink out new (HasInfo (files.world f) script)
+        pub unheaded : journal ≡ None → PutsNoHead sink out new (HasInfo (files.world f) script) (status ≡ 5)
 
     -- what is known of the script's clip
     pub record InfoEnds (status : ℕ) : Type 0 where
@@ -173,18 +178,13 @@ module _ {F S K E : Type 0} (files : of_files.Ghosts F S) (sink : Ghosts K) (lin
       -- no input changes
       pub causes : Causes (said ≡ err) EndsByInput WriteFails script_status status
 
-    -- a session with this list and a cache of so many frames, that leaves this journal
-    module _ (list : List ℕ) (capacity : ℕ) (journal : Option Record) where
+    -- a session with this list
+    module _ (list : List ℕ) where
       -- the list isn't there, or ends with a fault after requests that were answered, and its line is put
       pub record EndsByList : Type 0 where
         pub fault : FileFault
         pub is : IsListFault (files.world f) script list sink out new fault
         pub line : Says lines err said (file_line list (file_kind fault))
-
-      -- by the stop that cut the last window short, as in a render. Where none did, any but a fault of the script
-      abbrev pub EndsSession : ℕ → List Application → Option WindowStop → Type 0
-      EndsSession status plan None = (3 ≤ status) × (status ≤ 6)
-      EndsSession status plan (Some why) = EndsBy status plan (Some why)
 
       pub record SessionEnds (status : ℕ) : Type 0 where
         -- the answers: to all requests, or a prefix; nothing where there is no clip or no list
@@ -194,17 +194,26 @@ module _ {F S K E : Type 0} (files : of_files.Ghosts F S) (sink : Ghosts K) (lin
             ((text : List ℕ) → IsAnswersOf world script list text → ⊥) → PutsNothing sink out new)
         -- no fault was counted, so nothing that failed was tried again
         pub steady : status ≡ 0 → files.faults g ≡ files.faults f
-        -- there is a journal where there are a clip and a list and the list was fetched, as the counts of fetches show
-        pub listed : (log : Record) → journal ≡ Some log → HasAnswers (files.world f) script list
-        pub fetched : FetchesList (files.world f) script journal (files.fetched f) (files.fetched g)
-        -- and none where nothing was put: there is no clip or no list, or a read failed, or memory ran out
-        pub unlisted : journal ≡ None → PutsNothing sink out new × InWorld (files.world f) (λ world. (text : List ℕ)
-            → IsAnswersOf world script list text → (status ≡ 4) ⊎ (status ≡ 6))
-        -- the journal: that of all requests, or the beginning of it up to a stop
-        pub run : status ≡ 0 → IsSessionRun (files.world f) script list capacity journal
-        pub cut : (status ≡ 0 → ⊥) → SessionCuts (files.world f) script list capacity (EndsSession status) journal
         pub causes : Causes (said ≡ err) (EndsByInput ⊎ (EndsByList ⊎ EndsByChange EndsEarly)) WriteFails
             (session_status list) status
+
+      -- by the stop that cut the last window short, as in a render. Where none did, any but a fault of the script
+      abbrev pub EndsSession : ℕ → List Application → Option WindowStop → Type 0
+      EndsSession status plan None = (3 ≤ status) × (status ≤ 6)
+      EndsSession status plan (Some why) = EndsBy status plan (Some why)
+
+      -- its journal, with a cache of so many frames
+      module _ (capacity : ℕ) (journal : Option Record) where
+        pub record SessionJournal (status : ℕ) : Type 0 where
+          -- that of all requests, or the beginning of it up to a stop
+          pub run : status ≡ 0 → IsSessionRun (files.world f) script list capacity journal
+          pub cut : (status ≡ 0 → ⊥) → SessionCuts (files.world f) script list capacity (EndsSession status) journal
+          -- there is one where there are a clip and a list and the list was fetched, as the counts of fetches show
+          pub listed : (log : Record) → journal ≡ Some log → HasAnswers (files.world f) script list
+          pub fetched : FetchesList (files.world f) script journal (files.fetched f) (files.fetched g)
+          -- and none where nothing was put: there is no clip or no list, or a read failed, or memory ran out
+          pub unlisted : journal ≡ None → PutsNothing sink out new × InWorld (files.world f) (λ world. (text : List ℕ)
+              → IsAnswersOf world script list text → (status ≡ 4) ⊎ (status ≡ 6))
 
     -- a replay of the file of this name, with a cache of so many frames
     module _ (name : List ℕ) (capacity : ℕ) where
@@ -237,35 +246,35 @@ module _ {F S K E : Type 0} (files : of_files.Ghosts F S) (sink : Ghosts K) (lin
     pub files_stay : g ≡ f
     pub out_stays : new ≡ out
 
-  -- the words ask for a render, and its head was put whole
-  abbrev pub HasHeaded : List (List ℕ) → Type 0
-  HasHeaded words = (script : List ℕ) × (options : RenderOptions)
-      × IsRender words script options × PutsHead sink out new (HasInfo (files.world f) script)
+  -- what a command leaves, by who decides how many workers a render has
+  module _ (pool_size : RenderOptions → PoolSize) (journal : Option Record) where
+    abbrev pub CommandEnds : Command → ℕ → Type 0
+    CommandEnds (Render script options) status =
+        Headline script (cache_of options.cache) (pool_size options) journal options.tells status
+    CommandEnds (Info script) status = InfoEnds script status
+    CommandEnds (SelfTest number) status = SelfTestEnds sink lines out new err said number status × (g ≡ f)
+    CommandEnds (Session script list cache) status = SessionEnds script list status
+    CommandEnds (Replay script name cache) status = ReplayEnds script name (cache_of cache) status
 
-  -- the words ask for a session
-  abbrev pub AskSession : List (List ℕ) → Type 0
-  AskSession words = (script : List ℕ) × (list : List ℕ) × (cache : Option ℕ) × IsSession words script list cache
+    -- and its journal: only a render and a session leave one
+    abbrev pub CommandJournal : Command → ℕ → Type 0
+    CommandJournal (Render script options) status =
+        RenderJournal script (cache_of options.cache) (pool_size options) journal status
+    CommandJournal (Session script list cache) status = SessionJournal script list (cache_of cache) journal status
+    CommandJournal _ status = journal ≡ None
 
-  -- what a run leaves, by what the words ask for, and by who decides how many workers a render has
-  pub record Ends (staff : RenderOptions → Staff) (words : List (List ℕ)) (status : ℕ) (journal : Option Record) : Type 0 where
-    pub render : (script : List ℕ) (options : RenderOptions) → IsRender words script options
-        → Headline script (cache_of options.cache) (staff options) journal options.tells status
-    pub journal_of : (script : List ℕ) (options : RenderOptions) → IsRender words script options
-        → JournalEnds script (cache_of options.cache) (staff options) journal status
-    pub info : (script : List ℕ) → IsInfo words script → InfoEnds script status
-    pub session : (script list : List ℕ) (cache : Option ℕ) → IsSession words script list cache
-        → SessionEnds script list (cache_of cache) journal status
-    pub replay : (script name : List ℕ) (cache : Option ℕ) → IsReplay words script name cache
-        → ReplayEnds script name (cache_of cache) status
-    pub self_test : (number : ℕ) → IsSelfTest words number → SelfTestEnds sink lines out new err said number status × (g ≡ f)
+  -- what a run leaves, by what the words ask for
+  pub record Ends (pool_size : RenderOptions → PoolSize) (words : List (List ℕ)) (status : ℕ) (journal : Option Record) : Type 0 where
+    pub asked : (command : Command) → command_in words ≡ Some command → CommandEnds pool_size journal command status
     pub refused : command_in words ≡ None → IsRefused status
     pub usage : status ≡ 1 → command_in words ≡ None
-    -- a render leaves no journal only where no whole head was put
-    pub no_journal : journal ≡ None → (script : List ℕ) (options : RenderOptions) → IsRender words script options
-        → PutsNoHead sink out new (HasInfo (files.world f) script) (status ≡ 5)
-    -- and there is a journal only of a render whose head was put whole, or of a session
-    pub some_journal : (log : Record) → journal ≡ Some log → HasHeaded words ⊎ AskSession words
     -- each file that was fetched is closed, and no count of faults falls
     pub keeps : KeepsFiles files f g
     pub later : IsLater sink out new
     pub later_lines : IsLater lines err said
+
+  -- and which journal
+  pub record LeavesJournal (pool_size : RenderOptions → PoolSize) (words : List (List ℕ)) (status : ℕ) (journal : Option Record)
+      : Type 0 where
+    pub asked : (command : Command) → command_in words ≡ Some command → CommandJournal pool_size journal command status
+    pub refused : command_in words ≡ None → journal ≡ None

@@ -1,7 +1,7 @@
 -- What is known of the clip of a script, as a text.
 use Rattle.std.specs.Prelude.{◌≡◌, ℕ, List, Option, Some}
 use Rattle.fv_io.specs.declared.sink.Sink.{Ghosts}
-use Rattle.fv_io.specs.Sink.{PutsPrefix, SinkFailed}
+use Rattle.fv_io.specs.Sink.{Puts, PutsPrefix, SinkFailed}
 use Rattle.fv_io.specs.World.{World}
 use Rattle.clip_graph.specs.Plan.{Application}
 use Rattle.prefetch.specs.Rendered.{PutsNothing}
@@ -40,3 +40,9 @@ InfoShows failed sink told script old new of_stop.Read = failed × PutsNothing s
 InfoShows failed sink told script old new of_stop.Write = SinkFailed sink old new × ScriptHasClip told script
     × ((text : List ℕ) → IsToldInfo told script text → PutsPrefix sink old new text)
 InfoShows failed sink told script old new of_stop.Memory = PutsNothing sink old new
+
+-- what is known of the clip that the script means in this world was put
+pub record PutsInfo {K : Type 0} (sink : Ghosts K) (world : World) (script : List ℕ) (old new : K) : Type 0 where
+  pub text : List ℕ
+  pub info : IsInfoOf world script text
+  pub put : Puts sink old new text

@@ -5,13 +5,13 @@ use Rattle.fv_io.specs.World.{World, InWorld}
 use Rattle.clip_graph.specs.Plan.{Application, IsPlan}
 use Rattle.serve_machine.specs.declared.event.WindowStop.{WindowStop}
 use Rattle.serve_machine.specs.declared.windows.Record.{Record}
-use Rattle.serve_machine.specs.Windows.{windows_of}
+use Rattle.serve_machine.specs.Events.{windows_of}
 use Rattle.serve_text.specs.Report.{report}
 use Rattle.run_text.specs.Lines.{journal_text}
 use Rattle.run_text.specs.Journal.{IsJournal}
-use Rattle.prefetch.specs.declared.staff.Hands.{Hands}
-use Rattle.prefetch.specs.declared.staff.Staff.{Staff}
-use Rattle.prefetch.specs.Staff.{hands}
+use Rattle.prefetch.specs.declared.pool_size.Pool.{Pool}
+use Rattle.prefetch.specs.declared.pool_size.PoolSize.{PoolSize}
+use Rattle.prefetch.specs.Pool.{pool}
 use Rattle.prefetch.specs.Journals.{IsRendered, IsCutShort}
 use Rattle.avs_meaning.specs.Crews.{Numbers}
 use Rattle.avs_meaning.specs.Meaning as m
@@ -31,24 +31,24 @@ pub record IsPlanOf (told : Option World) (script : List ℕ) (plan : List Appli
   pub means : InWorld told (λ world. meaning_in world script ≡ m.clip plan root crew)
 
 -- 1 to 16 workers, and windows of 1 to 32 outputs
-pub record AreHands (by : Hands) : Type 0 where
+pub record IsPool (by : Pool) : Type 0 where
   pub some : 0 < by.workers
   pub few : by.workers ≤ 16
   pub some_outputs : 0 < by.window
   pub few_outputs : by.window ≤ 32
 
-module _ (told : Option World) (script : List ℕ) (capacity : ℕ) (staff : Staff) where
+module _ (told : Option World) (script : List ℕ) (capacity : ℕ) (pool_size : PoolSize) where
   -- the journal is that of a whole render of the script's plan, by the workers that it has
   pub record IsScriptRendered (journal : Option Record) : Type 0 where
     pub plan : List Application
     pub root : ℕ
     pub is_plan : IsPlanOf told script plan root
-    pub are_hands : AreHands (hands staff is_plan.crew)
-    pub rendered : IsRendered plan root capacity (hands staff is_plan.crew) journal
+    pub is_pool : IsPool (pool pool_size is_plan.crew)
+    pub rendered : IsRendered plan root capacity (pool pool_size is_plan.crew) journal
 
   -- the number of the workers of a render
   abbrev pub workers_of : {journal : Option Record} → IsScriptRendered journal → ℕ
-  workers_of run = (hands staff run.is_plan.crew).workers
+  workers_of run = (pool pool_size run.is_plan.crew).workers
 
   -- it is that of this plan, by so many workers
   pub record IsRunOf (journal : Option Record) (plan : List Application) (workers : ℕ) : Type 0 where
@@ -79,7 +79,7 @@ module _ (told : Option World) (script : List ℕ) (capacity : ℕ) (staff : Sta
       pub is_plan : IsPlanOf told script plan root
       pub stop : Option WindowStop
       pub ends : IsEnd plan stop
-      pub cut : IsCutShort plan root capacity (hands staff is_plan.crew) sink old new (IsOfScript told script) stop log
+      pub cut : IsCutShort plan root capacity (pool pool_size is_plan.crew) sink old new (IsOfScript told script) stop log
 
     abbrev pub ScriptCuts : Option Record → Type 0
     ScriptCuts None = Unit {0}

@@ -1,10 +1,8 @@
-pub mod Words
-pub mod Meaning
 pub mod Stop
+pub mod Opening
 pub mod Journals
 pub mod Renders
-pub mod Playing
-pub mod Reads
+pub mod Meaning
 pub mod Info
 pub mod SelfTest
 pub mod Sessions

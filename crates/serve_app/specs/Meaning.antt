@@ -1,6 +1,6 @@
 -- What a script means in a world of files: a clip, or its first fault.
-use Rattle.std.specs.Prelude.{◌≡◌, ℕ, List, length, slice_get, slice_index_or, [], Option, Some}
-use Rattle.fv_io.specs.World.{World}
+use Rattle.std.specs.Prelude.{◌≡◌, ℕ, List, length, slice_get, slice_index_or, [], Option, Some, ◌+◌}
+use Rattle.fv_io.specs.World.{World, InWorld}
 use Rattle.fv_plane.specs.Clip.{Clip}
 use Rattle.fv_plane.specs.Picture.{Picture}
 use Rattle.clip_graph.specs.Plan.{Application}
@@ -8,11 +8,11 @@ use Rattle.prefetch.specs.Clips.{clip_at}
 use Rattle.avs_parse.specs.Load.{script_of}
 use Rattle.avs_meaning.specs.Faults.{Fault, script, input}
 use Rattle.avs_meaning.specs.Crews.{Numbers}
-use Rattle.avs_meaning.specs.Meaning as m
 use Rattle.avs_meaning.specs.Outside.{outside_of}
 use Rattle.avs_meaning.specs.declared.state.SourceClip.{SourceClip}
 use Rattle.avs_state.specs.Sources.{sources_of}
 use Rattle.avs_files.specs.Opened.{IsFileOf}
+use Rattle.avs_meaning.specs.Meaning as m
 
 -- the plan of a script and the place of its clip, or its first fault, by the files of a world
 abbrev pub meaning_in : World → List ℕ → m.Meaning
@@ -73,3 +73,16 @@ status_of (a_fault fault) = status_of_fault fault
 -- the same in each world
 abbrev pub script_status : World → Meaning → ℕ
 script_status world meaning = status_of meaning
+
+-- ---- What a run that ended well has read of the files.
+
+-- how many files a script reads: itself, each script that it imports as often as it does, and a file for each source
+abbrev pub files_in : World → List ℕ → ℕ
+files_in world name = m.files_of (outside_of script_of world) name
+
+-- By the counts of faults and of fetches before and now: no fault was counted, so nothing that failed was tried again. Where
+-- the files tell what they hold, as many were fetched as the script reads.
+pub record ReadsOnce (told : Option World) (name : List ℕ) (faults faults_now fetches fetches_now : ℕ)
+    : Type 0 where
+  pub steady : faults_now ≡ faults
+  pub fetched : InWorld told (λ world. fetches_now ≡ fetches + files_in world name)

@@ -12,24 +12,23 @@ use Rattle.command_line.specs.declared.command.Tells.TheVariants as of_tells
 use Rattle.command_line.specs.declared.command.RenderOptions.{RenderOptions}
 use Rattle.clip_graph.specs.Plan.{Application}
 use Rattle.run_text.specs.Lines.{LineFits, journal_lines, journal_text}
-use Rattle.serve_text.specs.Report.{report}
+use Rattle.serve_text.specs.Report.{report, Reports}
 use Rattle.serve_text.specs.declared.stop.Stop.{Stop}
 use Rattle.serve_text.specs.StopKinds.{status_of_stop}
 use Rattle.serve_machine.specs.declared.windows.Record.{Record}
-use Rattle.serve_machine.specs.Windows.{windows_of}
-use Rattle.prefetch.specs.declared.staff.Staff.{Staff}
-use Rattle.prefetch.specs.declared.staff.Staff.TheVariants.{One, Asked}
-use Rattle.prefetch.specs.declared.stream.Whole.{Whole}
-use Rattle.prefetch.specs.Staff.{AreThreads}
+use Rattle.serve_machine.specs.Events.{windows_of}
+use Rattle.prefetch.specs.declared.pool_size.PoolSize.{PoolSize}
+use Rattle.prefetch.specs.declared.pool_size.PoolSize.TheVariants.{One, Asked}
+use Rattle.prefetch.specs.declared.stream.RenderedClip.{RenderedClip}
+use Rattle.prefetch.specs.Pool.{AreThreads}
 use Rattle.serve_app.specs.declared.entry.Telling.{Telling}
 use Rattle.serve_app.specs.declared.entry.Telling.TheVariants as telling
-use Rattle.serve_app.specs.Info.{InfoShows}
+use Rattle.serve_app.specs.Info.{InfoShows, PutsInfo}
 use Rattle.serve_app.specs.Journals.{cache_of, IsScriptRendered, IsRunOf, ScriptCuts}
 use Rattle.serve_text.specs.Lines.{Says, stop_line}
-use Rattle.serve_app.specs.Playing.{PutsClip, PutsInfo}
-use Rattle.serve_app.specs.Reads.{ReadsOnce, files_in}
+use Rattle.serve_app.specs.Renders.{PutsClip, PutsUntorn}
+use Rattle.serve_app.specs.Meaning.{ReadsOnce, files_in}
 use Rattle.serve_app.specs.Replays.{IsScriptReplay}
-use Rattle.serve_text.specs.Reports.{Reports}
 use Rattle.serve_app.specs.SelfTest.{PutsSelfLine, SelfTestShows}
 use Rattle.serve_app.specs.Sessions.{IsScriptSession, FetchesList}
 use Rattle.serve_app.specs.Stop.{RenderShows, ScriptHasClip, HasInfo}
@@ -46,20 +45,25 @@ IsFit (SelfTest number) = Unit {0}
 IsFit (Session script list cache) = 0 < cache_of cache
 IsFit (Replay script name cache) = 0 < cache_of cache
 
--- who decides how many workers a render has: nobody where one renders alone, and else the words or the script
-abbrev pub plain_staff : RenderOptions → Staff
-plain_staff options = One
+-- a command but a render
+abbrev pub IsOther : Command → Type 0
+IsOther (Render script options) = ⊥
+IsOther _ = Unit {0}
 
-abbrev pub staff_by : RenderOptions → Staff
-staff_by options = if options.plain then One else Asked options.threads
+-- who decides how many workers a render has: nobody where one renders alone, and else the words or the script
+abbrev pub plain_size : RenderOptions → PoolSize
+plain_size options = One
+
+abbrev pub size_by : RenderOptions → PoolSize
+size_by options = if options.plain then One else Asked options.threads
 
 -- what is told of a whole render, by what is asked for
-abbrev pub telling_of : Tells → Whole → Telling
+abbrev pub telling_of : Tells → RenderedClip → Telling
 telling_of of_tells.Nothing all = telling.Nothing
 telling_of of_tells.Report all = telling.Report all.graph
 telling_of of_tells.Journal all = telling.Journal all.workers
 
-abbrev pub told_in : Tells → Result Whole Stop → Result Telling Stop
+abbrev pub told_in : Tells → Result RenderedClip Stop → Result Telling Stop
 told_in tells (Ok all) = Ok (telling_of tells all)
 told_in tells (Err stop) = Err stop
 
@@ -81,18 +85,18 @@ module _ {F S K : Type 0} (files : of_files.Ghosts F S) (sink : Ghosts K) (f g :
   Reads script = ReadsOnce (files.world f) script (files.faults f) (files.faults g) (files.fetched f) (files.fetched g)
 
   -- the journal is that of a whole render, and this is to be told of it
-  abbrev pub IsToldOf : List ℕ → RenderOptions → Staff → Telling → Type 0
-  IsToldOf script options staff telling.Nothing = (options.tells ≡ of_tells.Nothing)
-      × IsScriptRendered (files.world f) script (cache_of options.cache) staff journal
-  IsToldOf script options staff (telling.Report plan) = (options.tells ≡ of_tells.Report)
-      × (workers : ℕ) × IsRunOf (files.world f) script (cache_of options.cache) staff journal plan workers
-  IsToldOf script options staff (telling.Journal workers) = (options.tells ≡ of_tells.Journal)
-      × (plan : List Application) × IsRunOf (files.world f) script (cache_of options.cache) staff journal plan workers
+  abbrev pub IsToldOf : List ℕ → RenderOptions → PoolSize → Telling → Type 0
+  IsToldOf script options pool_size telling.Nothing = (options.tells ≡ of_tells.Nothing)
+      × IsScriptRendered (files.world f) script (cache_of options.cache) pool_size journal
+  IsToldOf script options pool_size (telling.Report plan) = (options.tells ≡ of_tells.Report)
+      × (workers : ℕ) × IsRunOf (files.world f) script (cache_of options.cache) pool_size journal plan workers
+  IsToldOf script options pool_size (telling.Journal workers) = (options.tells ≡ of_tells.Journal)
+      × (plan : List Application) × IsRunOf (files.world f) script (cache_of options.cache) pool_size journal plan workers
 
-  abbrev pub RenderDoes : List ℕ → RenderOptions → Staff → Result Telling Stop → Type 0
-  RenderDoes script options staff (Ok tells) =
-      PutsAll script × Reads script × IsToldOf script options staff tells
-  RenderDoes script options staff (Err stop) = RenderShows (FilesFailed files f g) sink (files.world f) script out new stop
+  abbrev pub RenderDoes : List ℕ → RenderOptions → PoolSize → Result Telling Stop → Type 0
+  RenderDoes script options pool_size (Ok tells) =
+      PutsAll script × Reads script × PutsUntorn sink out new × IsToldOf script options pool_size tells
+  RenderDoes script options pool_size (Err stop) = RenderShows (FilesFailed files f g) sink (files.world f) script out new stop
 
   -- requests were answered, by one worker
   pub record SessionDoes (script list : List ℕ) (capacity : ℕ) (done : Result (Unit {0}) Stop) : Type 0 where
@@ -100,24 +104,24 @@ module _ {F S K : Type 0} (files : of_files.Ghosts F S) (sink : Ghosts K) (f g :
     pub steady : OnOk done (files.faults g ≡ files.faults f)
     pub fetched : FetchesList (files.world f) script journal (files.fetched f) (files.fetched g)
 
-  abbrev pub Does : (RenderOptions → Staff) → Command → Result Telling Stop → Type 0
-  Does staff (Render script options) done = RenderDoes script options (staff options) done
-      × ScriptCuts (files.world f) script (cache_of options.cache) (staff options) sink out new
+  abbrev pub Does : (RenderOptions → PoolSize) → Command → Result Telling Stop → Type 0
+  Does pool_size (Render script options) done = RenderDoes script options (pool_size options) done
+      × ScriptCuts (files.world f) script (cache_of options.cache) (pool_size options) sink out new
       (TellsStop (stop_in done)) journal × HeadShows sink out new (HasInfo (files.world f) script) (stop_in done) journal
-  Does staff (Info script) (Ok telling.Nothing) =
+  Does pool_size (Info script) (Ok telling.Nothing) =
       InWorld (files.world f) (λ world. PutsInfo sink world script out new) × ScriptHasClip (files.world f) script
       × Reads script
-  Does staff (Info script) (Ok _) = ⊥
-  Does staff (Info script) (Err stop) = InfoShows (FilesFailed files f g) sink (files.world f) script out new stop
-  Does staff (SelfTest number) (Ok telling.Nothing) = PutsSelfLine sink out new number × (g ≡ f)
-  Does staff (SelfTest number) (Ok _) = ⊥
-  Does staff (SelfTest number) (Err stop) = SelfTestShows sink out new number stop × (g ≡ f)
-  Does staff (Session script list cache) (Ok telling.Nothing) = SessionDoes script list (cache_of cache) (Ok tt)
-  Does staff (Session script list cache) (Ok _) = ⊥
-  Does staff (Session script list cache) (Err stop) = SessionDoes script list (cache_of cache) (Err stop)
-  Does staff (Replay script name cache) (Ok telling.Nothing) = ReplayDoes files sink f g out new script name (cache_of cache) (Ok tt)
-  Does staff (Replay script name cache) (Ok _) = ⊥
-  Does staff (Replay script name cache) (Err stop) = ReplayDoes files sink f g out new script name (cache_of cache) (Err stop)
+  Does pool_size (Info script) (Ok _) = ⊥
+  Does pool_size (Info script) (Err stop) = InfoShows (FilesFailed files f g) sink (files.world f) script out new stop
+  Does pool_size (SelfTest number) (Ok telling.Nothing) = PutsSelfLine sink out new number × (g ≡ f)
+  Does pool_size (SelfTest number) (Ok _) = ⊥
+  Does pool_size (SelfTest number) (Err stop) = SelfTestShows sink out new number stop × (g ≡ f)
+  Does pool_size (Session script list cache) (Ok telling.Nothing) = SessionDoes script list (cache_of cache) (Ok tt)
+  Does pool_size (Session script list cache) (Ok _) = ⊥
+  Does pool_size (Session script list cache) (Err stop) = SessionDoes script list (cache_of cache) (Err stop)
+  Does pool_size (Replay script name cache) (Ok telling.Nothing) = ReplayDoes files sink f g out new script name (cache_of cache) (Ok tt)
+  Does pool_size (Replay script name cache) (Ok _) = ⊥
+  Does pool_size (Replay script name cache) (Err stop) = ReplayDoes files sink f g out new script name (cache_of cache) (Err stop)
 
 -- a journal is left only by a render and by a session
 abbrev pub LeavesNone : Command → Option Record → Type 0

@@ -19,7 +19,7 @@ use Rattle.avs_meaning.specs.Faults.{input}
 use Rattle.prefetch.specs.Rendered.{PutsNothing}
 use Rattle.serve_machine.specs.declared.event.WindowStop.{WindowStop}
 use Rattle.serve_machine.specs.declared.windows.Record.{Record}
-use Rattle.serve_machine.specs.Windows.{windows_of}
+use Rattle.serve_machine.specs.Events.{windows_of}
 use Rattle.serve_text.specs.InfoText.{clip_line}
 use Rattle.serve_text.specs.StopKinds.{status_of_stop}
 use Rattle.serve_text.specs.declared.stop.FileFault.{FileFault}
@@ -31,8 +31,7 @@ use Rattle.prefetch.specs.declared.session.SessionStop.{SessionStop}
 use Rattle.prefetch.specs.declared.session.SessionStop.TheVariants.{Stopped, ListFault as OfList}
 use Rattle.prefetch.specs.Streams.{TellsStop}
 use Rattle.serve_app.specs.Journals.{IsPlanOf}
-use Rattle.serve_app.specs.Meaning.{Meaning, a_clip, a_fault, MeansClip, status_of_fault}
-use Rattle.serve_app.specs.Reads.{files_in}
+use Rattle.serve_app.specs.Meaning.{Meaning, a_clip, a_fault, MeansClip, status_of_fault, files_in}
 use Rattle.serve_app.specs.Stop.{ScriptHasClip, HasFault, HasChanged, IsScriptFault}
 
 -- ---- answers

@@ -5,14 +5,13 @@ use Rattle.fv_io.specs.Sink.{SinkFailed}
 use Rattle.fv_io.specs.World.{World, InWorld}
 use Rattle.fv_plane.specs.Clip.{Clip}
 use Rattle.fv_plane.specs.declared.format.Info.{Info}
-use Rattle.prefetch.specs.Rendered.{PutsNothing}
+use Rattle.prefetch.specs.Rendered.{PutsNothing, PutsWholeFrames, PutsFront, EndsInFrame}
 use Rattle.avs_meaning.specs.Faults.{Fault, input}
 use Rattle.avs_meaning.specs.Faults as of_fault
 use Rattle.avs_meaning.specs.declared.fault.ScriptKind.{ScriptKind}
 use Rattle.serve_text.specs.declared.stop.Stop.{Stop}
 use Rattle.serve_text.specs.declared.stop.Stop.TheVariants as of_stop
 use Rattle.serve_app.specs.Meaning.{MeansClip, Means, a_fault}
-use Rattle.prefetch.specs.Parts.{PutsWholeFrames, PutsFront, EndsInFrame}
 
 -- a world is told, and the script means this clip in it
 pub record IsOfScript (told : Option World) (script : List ℕ) (clip : Clip) : Type 0 where

@@ -1,11 +1,10 @@
-// What is closed after a run: the sources of instances, and those of a host.
+// What is closed after a run: the sources of instances.
 ghost use Rattle.std.specs.Prelude.{◌≡◌, ◌-◌, length};
 ghost use Rattle.avs_files.specs.Closed.{CountsFaults};
-ghost use Rattle.avs_files.specs.Opened.{told_of};
 ghost use Rattle.serve_core.specs.Tables.{AllFree};
 ghost use Rattle.serve_worker.specs.Furnishing.{sources_in};
 
-use avs_files::{FileHost, HeldFiles, Known, close_all};
+use avs_files::HeldFiles;
 use inst_table::InstTable;
 use serve_worker::Instance;
 
@@ -26,23 +25,4 @@ pub(crate) fn close_table<H: HeldFiles>(files: &mut H, mut table: InstTable<Inst
         }
     }
     table.destroy_empty();
-}
-
-/// Closes the sources of a host, and gives its files back.
-pub(crate) fn close_host<H: HeldFiles, W: Known>(host: FileHost<H, W>) -> H
-    ensures world { H.world result ≡ told_of W.told W.world }
-    ensures borrow { H.borrow result ≡ W.borrow }
-    ensures given { H.given result ≡ W.given }
-    ensures steady { H.faults result ≡ H.faults host.files }
-    ensures fetched { H.fetched result ≡ H.fetched host.files }
-{
-    let FileHost {
-        alloc: _,
-        mut files,
-        listed: _,
-        sources,
-        of: _,
-    } = host;
-    close_all(&mut files, sources);
-    files
 }

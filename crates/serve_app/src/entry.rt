@@ -1,9 +1,11 @@
 // `run` and `run_plain`: the program as a call over words, files and streams.
 ghost use Rattle.std.specs.Prelude.{◌≡◌, None};
+ghost use Rattle.command_line.specs.declared.command.RenderOptions.{RenderOptions};
+ghost use Rattle.prefetch.specs.declared.pool_size.PoolSize.{PoolSize};
 ghost use Rattle.fv_io.specs.Files.{KeepsFiles};
 ghost use Rattle.fv_io.specs.Sink.{IsLater};
-ghost use Rattle.serve_app.specs.Headline.{Ends};
-ghost use Rattle.serve_app.specs.Run.{plain_staff, staff_by, told_in, IsFit, HasLog, Does, LeavesNone, Finishes};
+ghost use Rattle.serve_app.specs.Headline.{Ends, LeavesJournal};
+ghost use Rattle.serve_app.specs.Run.{plain_size, size_by, told_in, IsFit, IsOther, HasLog, Does, LeavesNone, Finishes};
 
 use crate::info::put_info;
 use crate::render::{render_alone, render_together};
@@ -12,7 +14,7 @@ use crate::session::answer_list;
 use crate::test_run::put_self_test;
 use command_line::{Command, RenderOptions, Tells, command_of};
 use fv_io::{Files, Sink, Text};
-use prefetch::{Gate, Shared, Staff, Whole};
+use prefetch::{Gate, PoolSize, RenderedClip, SharedGraph};
 use serve_machine::Record;
 use serve_text::{Stop, put_journal_of, put_report_of, say_stop, say_usage};
 use std::alloc::{AllocError, Global};
@@ -33,13 +35,13 @@ pub struct Ending {
 }
 
 // The workers that the words of a render ask for.
-fn staff_of(options: RenderOptions) -> Staff
-    ensures { result ≡ staff_by options }
+fn pool_size_of(options: RenderOptions) -> PoolSize
+    ensures { result ≡ size_by options }
 {
     if options.plain {
-        Staff::One
+        PoolSize::One
     } else {
-        Staff::Asked {
+        PoolSize::Asked {
             threads: options.threads,
         }
     }
@@ -50,16 +52,16 @@ fn staff_of(options: RenderOptions) -> Staff
 pub(crate) enum Telling {
     Nothing,
     // The report of the journal, by this graph.
-    Report(Shared),
+    Report(SharedGraph),
     // The journal, by so many workers.
     Journal(u32),
 }
 
 // What is told of a render, by what is asked for.
-fn telling_of(done: Result<Whole, Stop>, tells: Tells) -> Result<Telling, Stop>
+fn telling_of(done: Result<RenderedClip, Stop>, tells: Tells) -> Result<Telling, Stop>
     ensures { result ≡ told_in tells done }
 {
-    let Whole {
+    let RenderedClip {
         frames: _,
         graph,
         workers,
@@ -68,6 +70,58 @@ fn telling_of(done: Result<Whole, Stop>, tells: Tells) -> Result<Telling, Stop>
         Tells::Nothing => Ok(Telling::Nothing),
         Tells::Report => Ok(Telling::Report(graph)),
         Tells::Journal => Ok(Telling::Journal(workers)),
+    }
+}
+
+// Does what a command but a render asks for.
+fn run_other<F: Files, K: Sink>(
+    alloc: Global,
+    command: Command,
+    files: &mut F,
+    out: &mut K,
+    journal: &mut Option<Record>,
+) -> Result<Telling, Stop>
+    requires other { IsOther command }
+    requires fits { IsFit command }
+    requires none { journal.old ≡ None }
+    ensures does { (by : RenderOptions → PoolSize) →
+        Does F.Files K.Sink files.old files.new out.old out.new journal.new by command result }
+    ensures leaves { LeavesNone command journal.new }
+    ensures keeps { KeepsFiles F.Files files.old files.new }
+    ensures later { IsLater K.Sink out.old out.new }
+{
+    match command {
+        Command::Render { .. } => unreachable!(),
+        Command::Info { script } => match put_info(alloc, files, out, &script) {
+            Ok(()) => Ok(Telling::Nothing),
+            Err(stop) => Err(stop),
+        },
+        Command::SelfTest { number } => match put_self_test(alloc, out, number) {
+            Ok(()) => Ok(Telling::Nothing),
+            Err(stop) => Err(stop),
+        },
+        Command::Session {
+            script,
+            list,
+            cache,
+        } => {
+            let cache = cache.unwrap_or(CACHE);
+            match answer_list(alloc, files, out, &script, list, cache, journal) {
+                Ok(()) => Ok(Telling::Nothing),
+                Err(stop) => Err(stop),
+            }
+        }
+        Command::Replay {
+            script,
+            journal: name,
+            cache,
+        } => {
+            let cache = cache.unwrap_or(CACHE);
+            match put_replay(alloc, files, out, &script, name, cache) {
+                Ok(()) => Ok(Telling::Nothing),
+                Err(stop) => Err(stop),
+            }
+        }
     }
 }
 
@@ -81,7 +135,7 @@ fn run_command_alone<F: Files, K: Sink>(
 ) -> Result<Telling, Stop>
     requires fits { IsFit command }
     requires none { journal.old ≡ None }
-    ensures does { Does F.Files K.Sink files.old files.new out.old out.new journal.new plain_staff command result }
+    ensures does { Does F.Files K.Sink files.old files.new out.old out.new journal.new plain_size command result }
     ensures leaves { LeavesNone command journal.new }
     ensures keeps { KeepsFiles F.Files files.old files.new }
     ensures later { IsLater K.Sink out.old out.new }
@@ -92,40 +146,11 @@ fn run_command_alone<F: Files, K: Sink>(
             let done = render_alone(alloc, files, out, &script, cache, journal);
             telling_of(done, options.tells)
         }
-        Command::Info { script } => match put_info(alloc, files, out, &script) {
-            Ok(()) => Ok(Telling::Nothing),
-            Err(stop) => Err(stop),
-        },
-        Command::SelfTest { number } => match put_self_test(alloc, out, number) {
-            Ok(()) => Ok(Telling::Nothing),
-            Err(stop) => Err(stop),
-        },
-        Command::Session {
-            script,
-            list,
-            cache,
-        } => {
-            let cache = cache.unwrap_or(CACHE);
-            match answer_list(alloc, files, out, &script, list, cache, journal) {
-                Ok(()) => Ok(Telling::Nothing),
-                Err(stop) => Err(stop),
-            }
-        }
-        Command::Replay {
-            script,
-            journal: name,
-            cache,
-        } => {
-            let cache = cache.unwrap_or(CACHE);
-            match put_replay(alloc, files, out, &script, name, cache) {
-                Ok(()) => Ok(Telling::Nothing),
-                Err(stop) => Err(stop),
-            }
-        }
+        other => run_other(alloc, other, files, out, journal),
     }
 }
 
-// Does what a command asks for, by as many workers as are asked for.
+// The same by as many workers as are asked for.
 fn run_command_together<R: Threads + Wait + Sync, G: Gate, F: Files, K: Sink>(
     rt: &R,
     gate: &G,
@@ -137,7 +162,7 @@ fn run_command_together<R: Threads + Wait + Sync, G: Gate, F: Files, K: Sink>(
 ) -> Result<Telling, Stop>
     requires fits { IsFit command }
     requires none { journal.old ≡ None }
-    ensures does { Does F.Files K.Sink files.old files.new out.old out.new journal.new staff_by command result }
+    ensures does { Does F.Files K.Sink files.old files.new out.old out.new journal.new size_by command result }
     ensures leaves { LeavesNone command journal.new }
     ensures keeps { KeepsFiles F.Files files.old files.new }
     ensures later { IsLater K.Sink out.old out.new }
@@ -145,49 +170,13 @@ fn run_command_together<R: Threads + Wait + Sync, G: Gate, F: Files, K: Sink>(
     match command {
         Command::Render { script, options } => {
             let cache = options.cache.unwrap_or(CACHE);
+            let pool_size = pool_size_of(options);
             let done = render_together(
-                rt,
-                gate,
-                alloc,
-                files,
-                out,
-                &script,
-                cache,
-                staff_of(options),
-                journal,
+                rt, gate, alloc, files, out, &script, cache, pool_size, journal,
             );
             telling_of(done, options.tells)
         }
-        Command::Info { script } => match put_info(alloc, files, out, &script) {
-            Ok(()) => Ok(Telling::Nothing),
-            Err(stop) => Err(stop),
-        },
-        Command::SelfTest { number } => match put_self_test(alloc, out, number) {
-            Ok(()) => Ok(Telling::Nothing),
-            Err(stop) => Err(stop),
-        },
-        Command::Session {
-            script,
-            list,
-            cache,
-        } => {
-            let cache = cache.unwrap_or(CACHE);
-            match answer_list(alloc, files, out, &script, list, cache, journal) {
-                Ok(()) => Ok(Telling::Nothing),
-                Err(stop) => Err(stop),
-            }
-        }
-        Command::Replay {
-            script,
-            journal: name,
-            cache,
-        } => {
-            let cache = cache.unwrap_or(CACHE);
-            match put_replay(alloc, files, out, &script, name, cache) {
-                Ok(()) => Ok(Telling::Nothing),
-                Err(stop) => Err(stop),
-            }
-        }
+        other => run_other(alloc, other, files, out, journal),
     }
 }
 
@@ -234,8 +223,10 @@ pub fn run<R: Threads + Wait + Sync, F: Files, K: Sink, E: Sink, G: Gate>(
     err: &mut E,
     gate: &G,
 ) -> Ending
-    ensures { Ends F.Files K.Sink E.Sink files.old files.new out.old out.new err.old err.new
-        staff_by words.now result.status result.journal }
+    ensures ends { Ends F.Files K.Sink E.Sink files.old files.new out.old out.new err.old err.new
+        size_by words.now result.status result.journal }
+    ensures journal { LeavesJournal F.Files K.Sink E.Sink files.old files.new out.old out.new err.old err.new
+        size_by words.now result.status result.journal }
 {
     let mut journal = None;
     match command_of(alloc, words) {
@@ -263,8 +254,10 @@ pub fn run_plain<F: Files, K: Sink, E: Sink>(
     out: &mut K,
     err: &mut E,
 ) -> Ending
-    ensures { Ends F.Files K.Sink E.Sink files.old files.new out.old out.new err.old err.new
-        plain_staff words.now result.status result.journal }
+    ensures ends { Ends F.Files K.Sink E.Sink files.old files.new out.old out.new err.old err.new
+        plain_size words.now result.status result.journal }
+    ensures journal { LeavesJournal F.Files K.Sink E.Sink files.old files.new out.old out.new err.old err.new
+        plain_size words.now result.status result.journal }
 {
     let mut journal = None;
     match command_of(alloc, words) {

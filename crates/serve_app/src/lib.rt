@@ -8,7 +8,7 @@ mod closing;
 mod entry;
 mod info;
 pub mod laws;
-mod play;
+mod opening;
 mod render;
 mod replay;
 mod session;

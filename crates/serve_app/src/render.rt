@@ -1,126 +1,66 @@
 // The clip of a script, rendered over files. What may wait for threads is a function of its own, beside the one for a
 // render by one worker.
-ghost use Rattle.std.specs.Prelude.{◌≡◌, ◌≤◌, ◌<◌, None, OnOk};
+ghost use Rattle.std.specs.Prelude.{◌≡◌, ◌<◌, ◌≤◌, None, OnOk};
 ghost use Rattle.fv_io.specs.Faults.{HasRisen};
 ghost use Rattle.fv_io.specs.Files.{KeepsFiles, FilesFailed};
 ghost use Rattle.fv_io.specs.Sink.{IsLater};
-ghost use Rattle.avs_files.specs.Opened.{told_of};
-ghost use Rattle.prefetch.specs.declared.staff.Staff.TheVariants.{One};
-ghost use Rattle.prefetch.specs.Staff.{IsStaff};
-ghost use Rattle.serve_app.specs.Reads.{ReadsOnce};
+ghost use Rattle.prefetch.specs.declared.pool_size.PoolSize.TheVariants.{One};
+ghost use Rattle.prefetch.specs.Pool.{IsPoolSize};
+ghost use Rattle.serve_app.specs.Meaning.{ReadsOnce};
 ghost use Rattle.serve_app.specs.Renders.{IsScriptRender};
 
-use crate::closing::{close_host, close_table};
-use crate::play::evaluate;
+use crate::closing::close_table;
+use crate::opening::{OpenScript, open_script, take_back};
 use avs_eval::Opened;
-use avs_files::{FileHost, HeldFiles, Known, Lent, close_all};
+use avs_files::{HeldFiles, Lent, close_all};
 use fv_io::{Files, Sink, Text};
-use prefetch::{Gate, Staff, Whole, put_graph_alone, put_graph_together};
+use prefetch::{Gate, PoolSize, RenderedClip, put_graph_alone, put_graph_together};
 use serve_machine::Record;
 use serve_text::Stop;
 use std::alloc::Global;
-use std::marker::{Brand, PhantomData};
 use std::sync::Wait;
 use std::thread::Threads;
 
-// Renders over files of which this is known, by one worker, closes what was opened, and gives the files back.
-fn render_in_alone<H: HeldFiles, W: Known, K: Sink>(
+// Renders over files that are held, by one worker, closes what was opened, and gives the files back.
+fn render_held_alone<H: HeldFiles, K: Sink>(
     alloc: Global,
-    answer: &mut Result<Whole, Stop>,
     files: H,
-    of: PhantomData<W>,
     out: &mut K,
     script: &Text,
     cache: u32,
     journal: &mut Option<Record>,
-) -> H
-    requires world { H.world files ≡ told_of W.told W.world }
-    requires borrow { H.borrow files ≡ W.borrow }
-    requires given { H.given files ≡ W.given }
+) -> (H, Result<RenderedClip, Stop>)
     requires cache { 0 < cache }
     requires none { journal.old ≡ None }
-    ensures render { IsScriptRender (told_of W.told W.world) script.now cache One
-        (HasRisen (H.faults files) (H.faults result)) K.Sink out.old out.new journal.new answer.new }
-    ensures reads { OnOk answer.new (ReadsOnce (told_of W.told W.world) script.now
-        (H.faults files) (H.faults result) (H.fetched files) (H.fetched result)) }
-    ensures world { H.world result ≡ told_of W.told W.world }
-    ensures borrow { H.borrow result ≡ W.borrow }
-    ensures given { H.given result ≡ W.given }
-    ensures later { H.faults files ≤ H.faults result }
-    ensures more { H.fetched files ≤ H.fetched result }
+    ensures render { IsScriptRender (H.world files) script.now cache One
+        (HasRisen (H.faults files) (H.faults result.0)) K.Sink out.old out.new journal.new result.1 }
+    ensures reads { OnOk result.1 (ReadsOnce (H.world files) script.now
+        (H.faults files) (H.faults result.0) (H.fetched files) (H.fetched result.0)) }
+    ensures world { H.world result.0 ≡ H.world files }
+    ensures borrow { H.borrow result.0 ≡ H.borrow files }
+    ensures given { H.given result.0 ≡ H.given files }
+    ensures later { H.faults files ≤ H.faults result.0 }
+    ensures more { H.fetched files ≤ H.fetched result.0 }
     ensures later_sink { IsLater K.Sink out.old out.new }
 {
-    let mut host = FileHost::new(alloc, files, of);
-    let opened = match evaluate(alloc, &mut host, script) {
-        Ok(opened) => opened,
-        Err(stop) => {
-            *answer = Err(stop);
-            return close_host(host);
-        }
-    };
-    let FileHost {
-        alloc: _,
-        mut files,
-        listed: _,
+    let (mut held, found) = open_script(alloc, files, script);
+    let OpenScript {
+        opened,
         mut sources,
-        of: _,
-    } = host;
+    } = match found {
+        Ok(found) => found,
+        Err(stop) => return (held, Err(stop)),
+    };
     let Opened {
         graph,
         root,
         prefetch,
     } = opened;
-    let hands = Staff::One.hands(prefetch);
-    let (table, put) = put_graph_alone(
-        alloc,
-        hands,
-        graph,
-        root,
-        &mut sources,
-        cache,
-        out,
-        journal,
-    );
-    *answer = put;
-    close_table(&mut files, table);
-    close_all(&mut files, sources);
-    files
-}
-
-// Renders over files, and gives them back.
-#[tactic(auto, using(crate::proofs::PickLemmas::picked))]
-fn render_held_alone<H: HeldFiles, K: Sink>(
-    alloc: Global,
-    answer: &mut Result<Whole, Stop>,
-    files: H,
-    out: &mut K,
-    script: &Text,
-    cache: u32,
-    journal: &mut Option<Record>,
-) -> H
-    requires cache { 0 < cache }
-    requires none { journal.old ≡ None }
-    ensures render { IsScriptRender (H.world files) script.now cache One
-        (HasRisen (H.faults files) (H.faults result)) K.Sink out.old out.new journal.new answer.new }
-    ensures reads { OnOk answer.new (ReadsOnce (H.world files) script.now
-        (H.faults files) (H.faults result) (H.fetched files) (H.fetched result)) }
-    ensures world { H.world result ≡ H.world files }
-    ensures borrow { H.borrow result ≡ H.borrow files }
-    ensures given { H.given result ≡ H.given files }
-    ensures later { H.faults files ≤ H.faults result }
-    ensures more { H.fetched files ≤ H.fetched result }
-    ensures later_sink { IsLater K.Sink out.old out.new }
-{
-    render_in_alone::<H, Brand, K>(
-        alloc,
-        answer,
-        files,
-        PhantomData,
-        out,
-        script,
-        cache,
-        journal,
-    )
+    let pool = PoolSize::One.pool(prefetch);
+    let (table, put) = put_graph_alone(alloc, pool, graph, root, &mut sources, cache, out, journal);
+    close_table(&mut held, table);
+    close_all(&mut held, sources);
+    (held, put)
 }
 
 /// Renders the clip of a script by one worker: it evaluates the script, and puts the head and the frames of its clip, with
@@ -133,7 +73,7 @@ pub(crate) fn render_alone<F: Files, K: Sink>(
     script: &Text,
     cache: u32,
     journal: &mut Option<Record>,
-) -> Result<Whole, Stop>
+) -> Result<RenderedClip, Stop>
     requires cache { 0 < cache }
     requires none { journal.old ≡ None }
     ensures render { IsScriptRender (F.world files.old) script.now cache One
@@ -143,80 +83,59 @@ pub(crate) fn render_alone<F: Files, K: Sink>(
     ensures keeps { KeepsFiles F.Files files.old files.new }
     ensures later { IsLater K.Sink out.old out.new }
 {
-    let mut answer = Err(Stop::Memory);
-    let lent = render_held_alone(
-        alloc,
-        &mut answer,
-        Lent { files },
-        out,
-        script,
-        cache,
-        journal,
-    );
-    let Lent { files: _ } = lent;
-    answer
+    let (lent, put) = render_held_alone(alloc, Lent { files }, out, script, cache, journal);
+    let Lent { files: back } = lent;
+    take_back(back);
+    put
 }
 
-// Renders over files of which this is known, by as many workers as are asked for, closes what was opened, and gives the
-// files back.
-fn render_in_together<R: Threads + Wait + Sync, G: Gate, H: HeldFiles, W: Known, K: Sink>(
+// The same by as many workers as are asked for.
+fn render_held_together<R: Threads + Wait + Sync, G: Gate, H: HeldFiles, K: Sink>(
     rt: &R,
     gate: &G,
     alloc: Global,
-    answer: &mut Result<Whole, Stop>,
     files: H,
-    of: PhantomData<W>,
     out: &mut K,
     script: &Text,
     cache: u32,
-    staff: Staff,
+    pool_size: PoolSize,
     journal: &mut Option<Record>,
-) -> H
+) -> (H, Result<RenderedClip, Stop>)
 where
     H::Src: Send,
-    requires world { H.world files ≡ told_of W.told W.world }
-    requires borrow { H.borrow files ≡ W.borrow }
-    requires given { H.given files ≡ W.given }
     requires cache { 0 < cache }
-    requires staff { IsStaff staff }
+    requires pool_size { IsPoolSize pool_size }
     requires none { journal.old ≡ None }
-    ensures render { IsScriptRender (told_of W.told W.world) script.now cache staff
-        (HasRisen (H.faults files) (H.faults result)) K.Sink out.old out.new journal.new answer.new }
-    ensures reads { OnOk answer.new (ReadsOnce (told_of W.told W.world) script.now
-        (H.faults files) (H.faults result) (H.fetched files) (H.fetched result)) }
-    ensures world { H.world result ≡ told_of W.told W.world }
-    ensures borrow { H.borrow result ≡ W.borrow }
-    ensures given { H.given result ≡ W.given }
-    ensures later { H.faults files ≤ H.faults result }
-    ensures more { H.fetched files ≤ H.fetched result }
+    ensures render { IsScriptRender (H.world files) script.now cache pool_size
+        (HasRisen (H.faults files) (H.faults result.0)) K.Sink out.old out.new journal.new result.1 }
+    ensures reads { OnOk result.1 (ReadsOnce (H.world files) script.now
+        (H.faults files) (H.faults result.0) (H.fetched files) (H.fetched result.0)) }
+    ensures world { H.world result.0 ≡ H.world files }
+    ensures borrow { H.borrow result.0 ≡ H.borrow files }
+    ensures given { H.given result.0 ≡ H.given files }
+    ensures later { H.faults files ≤ H.faults result.0 }
+    ensures more { H.fetched files ≤ H.fetched result.0 }
     ensures later_sink { IsLater K.Sink out.old out.new }
 {
-    let mut host = FileHost::new(alloc, files, of);
-    let opened = match evaluate(alloc, &mut host, script) {
-        Ok(opened) => opened,
-        Err(stop) => {
-            *answer = Err(stop);
-            return close_host(host);
-        }
-    };
-    let FileHost {
-        alloc: _,
-        mut files,
-        listed: _,
+    let (mut held, found) = open_script(alloc, files, script);
+    let OpenScript {
+        opened,
         mut sources,
-        of: _,
-    } = host;
+    } = match found {
+        Ok(found) => found,
+        Err(stop) => return (held, Err(stop)),
+    };
     let Opened {
         graph,
         root,
         prefetch,
     } = opened;
-    let hands = staff.hands(prefetch);
+    let pool = pool_size.pool(prefetch);
     let (table, put) = put_graph_together(
         rt,
         gate,
         alloc,
-        hands,
+        pool,
         graph,
         root,
         &mut sources,
@@ -224,55 +143,9 @@ where
         out,
         journal,
     );
-    *answer = put;
-    close_table(&mut files, table);
-    close_all(&mut files, sources);
-    files
-}
-
-// Renders over files, and gives them back.
-#[tactic(auto, using(crate::proofs::PickLemmas::picked))]
-fn render_held_together<R: Threads + Wait + Sync, G: Gate, H: HeldFiles, K: Sink>(
-    rt: &R,
-    gate: &G,
-    alloc: Global,
-    answer: &mut Result<Whole, Stop>,
-    files: H,
-    out: &mut K,
-    script: &Text,
-    cache: u32,
-    staff: Staff,
-    journal: &mut Option<Record>,
-) -> H
-where
-    H::Src: Send,
-    requires cache { 0 < cache }
-    requires staff { IsStaff staff }
-    requires none { journal.old ≡ None }
-    ensures render { IsScriptRender (H.world files) script.now cache staff
-        (HasRisen (H.faults files) (H.faults result)) K.Sink out.old out.new journal.new answer.new }
-    ensures reads { OnOk answer.new (ReadsOnce (H.world files) script.now
-        (H.faults files) (H.faults result) (H.fetched files) (H.fetched result)) }
-    ensures world { H.world result ≡ H.world files }
-    ensures borrow { H.borrow result ≡ H.borrow files }
-    ensures given { H.given result ≡ H.given files }
-    ensures later { H.faults files ≤ H.faults result }
-    ensures more { H.fetched files ≤ H.fetched result }
-    ensures later_sink { IsLater K.Sink out.old out.new }
-{
-    render_in_together::<R, G, H, Brand, K>(
-        rt,
-        gate,
-        alloc,
-        answer,
-        files,
-        PhantomData,
-        out,
-        script,
-        cache,
-        staff,
-        journal,
-    )
+    close_table(&mut held, table);
+    close_all(&mut held, sources);
+    (held, put)
 }
 
 /// The same by as many workers as are asked for, each in a thread of its own.
@@ -284,32 +157,31 @@ pub(crate) fn render_together<R: Threads + Wait + Sync, G: Gate, F: Files, K: Si
     out: &mut K,
     script: &Text,
     cache: u32,
-    staff: Staff,
+    pool_size: PoolSize,
     journal: &mut Option<Record>,
-) -> Result<Whole, Stop>
+) -> Result<RenderedClip, Stop>
     requires cache { 0 < cache }
-    requires staff { IsStaff staff }
+    requires pool_size { IsPoolSize pool_size }
     requires none { journal.old ≡ None }
-    ensures render { IsScriptRender (F.world files.old) script.now cache staff
+    ensures render { IsScriptRender (F.world files.old) script.now cache pool_size
         (FilesFailed F.Files files.old files.new) K.Sink out.old out.new journal.new result }
     ensures reads { OnOk result (ReadsOnce (F.world files.old) script.now
         (F.faults files.old) (F.faults files.new) (F.fetched files.old) (F.fetched files.new)) }
     ensures keeps { KeepsFiles F.Files files.old files.new }
     ensures later { IsLater K.Sink out.old out.new }
 {
-    let mut answer = Err(Stop::Memory);
-    let lent = render_held_together(
+    let (lent, put) = render_held_together(
         rt,
         gate,
         alloc,
-        &mut answer,
         Lent { files },
         out,
         script,
         cache,
-        staff,
+        pool_size,
         journal,
     );
-    let Lent { files: _ } = lent;
-    answer
+    let Lent { files: back } = lent;
+    take_back(back);
+    put
 }

@@ -1,22 +1,20 @@
 // A session over files: the requests of a list, answered over the clip of a script.
-ghost use Rattle.std.specs.Prelude.{◌≡◌, ◌≤◌, ◌<◌, ◌+◌, ◌-◌, length, None, OnOk};
+ghost use Rattle.std.specs.Prelude.{◌≡◌, ◌<◌, ◌≤◌, None, OnOk};
 ghost use Rattle.fv_io.specs.Faults.{HasRisen};
 ghost use Rattle.fv_io.specs.Files.{KeepsFiles, FilesFailed};
 ghost use Rattle.fv_io.specs.Sink.{IsLater};
-ghost use Rattle.avs_files.specs.Opened.{told_of};
 ghost use Rattle.serve_app.specs.Sessions.{fetch_stop, ended_with, IsScriptSession, FetchesList};
 
-use crate::closing::{close_host, close_table};
-use crate::play::evaluate;
+use crate::closing::close_table;
+use crate::opening::{OpenScript, open_script, take_back};
 use avs_eval::Opened;
-use avs_files::{FileHost, HeldFiles, Known, Lent, close_all};
+use avs_files::{HeldFiles, Lent, close_all};
 use fv_io::{FetchFault, Files, Sink, Text};
 use fv_session::SessionFault;
 use prefetch::{SessionStop, answer_graph};
 use serve_machine::Record;
 use serve_text::{FileFault, Stop};
 use std::alloc::Global;
-use std::marker::{Brand, PhantomData};
 
 /// Why the file of this name was not opened.
 pub(crate) fn unopened(fault: FetchFault, name: Text) -> Stop
@@ -51,55 +49,43 @@ fn ended(done: Result<(), SessionStop>, list: Text) -> Result<(), Stop>
     }
 }
 
-// Answers over files of which this is known, closes what was opened, and gives the files back.
-fn answer_in<H: HeldFiles, W: Known, K: Sink>(
+// Answers over files that are held, closes what was opened, and gives the files back.
+fn answer_held<H: HeldFiles, K: Sink>(
     alloc: Global,
-    answer: &mut Result<(), Stop>,
     files: H,
-    of: PhantomData<W>,
     out: &mut K,
     script: &Text,
     list: Text,
     cache: u32,
     journal: &mut Option<Record>,
-) -> H
-    requires world { H.world files ≡ told_of W.told W.world }
-    requires borrow { H.borrow files ≡ W.borrow }
-    requires given { H.given files ≡ W.given }
+) -> (H, Result<(), Stop>)
     requires cache { 0 < cache }
     requires none { journal.old ≡ None }
-    ensures session { IsScriptSession (told_of W.told W.world) script.now list K.Sink out.old out.new
-        (HasRisen (H.faults files) (H.faults result)) cache journal.new answer.new }
-    ensures steady { OnOk answer.new (H.faults result ≡ H.faults files) }
-    ensures fetched { FetchesList (told_of W.told W.world) script.now journal.new (H.fetched files) (H.fetched result) }
-    ensures world { H.world result ≡ told_of W.told W.world }
-    ensures borrow { H.borrow result ≡ W.borrow }
-    ensures given { H.given result ≡ W.given }
-    ensures later { H.faults files ≤ H.faults result }
-    ensures more { H.fetched files ≤ H.fetched result }
+    ensures session { IsScriptSession (H.world files) script.now list K.Sink out.old out.new
+        (HasRisen (H.faults files) (H.faults result.0)) cache journal.new result.1 }
+    ensures steady { OnOk result.1 (H.faults result.0 ≡ H.faults files) }
+    ensures fetched { FetchesList (H.world files) script.now journal.new
+        (H.fetched files) (H.fetched result.0) }
+    ensures world { H.world result.0 ≡ H.world files }
+    ensures borrow { H.borrow result.0 ≡ H.borrow files }
+    ensures given { H.given result.0 ≡ H.given files }
+    ensures later { H.faults files ≤ H.faults result.0 }
+    ensures more { H.fetched files ≤ H.fetched result.0 }
     ensures later_sink { IsLater K.Sink out.old out.new }
 {
-    let mut host = FileHost::new(alloc, files, of);
-    let opened = match evaluate(alloc, &mut host, script) {
-        Ok(opened) => opened,
-        Err(stop) => {
-            *answer = Err(stop);
-            return close_host(host);
-        }
-    };
-    let FileHost {
-        alloc: _,
-        mut files,
-        listed: _,
+    let (mut held, found) = open_script(alloc, files, script);
+    let OpenScript {
+        opened,
         mut sources,
-        of: _,
-    } = host;
-    let mut requests = match files.fetch(&list) {
+    } = match found {
+        Ok(found) => found,
+        Err(stop) => return (held, Err(stop)),
+    };
+    let mut requests = match held.fetch(&list) {
         Ok(source) => source,
         Err(fault) => {
-            *answer = Err(unopened(fault, list));
-            close_all(&mut files, sources);
-            return files;
+            close_all(&mut held, sources);
+            return (held, Err(unopened(fault, list)));
         }
     };
     let Opened {
@@ -117,49 +103,10 @@ fn answer_in<H: HeldFiles, W: Known, K: Sink>(
         out,
         journal,
     );
-    *answer = ended(done, list);
-    files.close(requests);
-    close_table(&mut files, table);
-    close_all(&mut files, sources);
-    files
-}
-
-// Answers over files, and gives them back.
-#[tactic(auto, using(crate::proofs::PickLemmas::picked))]
-fn answer_held<H: HeldFiles, K: Sink>(
-    alloc: Global,
-    answer: &mut Result<(), Stop>,
-    files: H,
-    out: &mut K,
-    script: &Text,
-    list: Text,
-    cache: u32,
-    journal: &mut Option<Record>,
-) -> H
-    requires cache { 0 < cache }
-    requires none { journal.old ≡ None }
-    ensures session { IsScriptSession (H.world files) script.now list K.Sink out.old out.new
-        (HasRisen (H.faults files) (H.faults result)) cache journal.new answer.new }
-    ensures steady { OnOk answer.new (H.faults result ≡ H.faults files) }
-    ensures fetched { FetchesList (H.world files) script.now journal.new (H.fetched files) (H.fetched result) }
-    ensures world { H.world result ≡ H.world files }
-    ensures borrow { H.borrow result ≡ H.borrow files }
-    ensures given { H.given result ≡ H.given files }
-    ensures later { H.faults files ≤ H.faults result }
-    ensures more { H.fetched files ≤ H.fetched result }
-    ensures later_sink { IsLater K.Sink out.old out.new }
-{
-    answer_in::<H, Brand, K>(
-        alloc,
-        answer,
-        files,
-        PhantomData,
-        out,
-        script,
-        list,
-        cache,
-        journal,
-    )
+    held.close(requests);
+    close_table(&mut held, table);
+    close_all(&mut held, sources);
+    (held, ended(done, list))
 }
 
 /// Answers the requests of a list over the clip of a script, by one worker, with a cache of so many frames: it evaluates the
@@ -184,17 +131,8 @@ pub(crate) fn answer_list<F: Files, K: Sink>(
     ensures keeps { KeepsFiles F.Files files.old files.new }
     ensures later { IsLater K.Sink out.old out.new }
 {
-    let mut answer = Err(Stop::Memory);
-    let lent = answer_held(
-        alloc,
-        &mut answer,
-        Lent { files },
-        out,
-        script,
-        list,
-        cache,
-        journal,
-    );
-    let Lent { files: _ } = lent;
-    answer
+    let (lent, done) = answer_held(alloc, Lent { files }, out, script, list, cache, journal);
+    let Lent { files: back } = lent;
+    take_back(back);
+    done
 }

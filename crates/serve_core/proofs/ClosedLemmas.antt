@@ -15,12 +15,9 @@ use Rattle.inst_table.specs.declared.place.Slot.TheVariants.{Free, Leased}
 use Rattle.inst_table.specs.Places.{same_place}
 use Rattle.serve_machine.specs.declared.event.Event.{Event}
 use Rattle.serve_machine.specs.declared.event.Event.TheVariants.{Hit, Claim, Enter, Leave, Evict, Publish, Abandon, Take, Deliver, Fail}
-use Rattle.serve_machine.specs.Events.{worker_of}
-use Rattle.serve_machine.specs.Keys.{frame_key}
-use Rattle.serve_machine.specs.State.{State, place_named, is_open, got_at}
-use Rattle.serve_machine.specs.Machine.{Machine, meets, allowed, change, replay}
-use Rattle.serve_machine.specs.Law.{start_of}
-use Rattle.serve_machine.specs.Lifted.{seen, bare, keys_machine}
+use Rattle.serve_machine.specs.Events.{worker_of, frame_key}
+use Rattle.serve_machine.specs.Machine.{State, place_named, is_open, got_at, Machine, meets, allowed, change, replay}
+use Rattle.serve_machine.specs.Law.{start_of, seen, bare, keys_machine}
 use Rattle.serve_machine.specs.Holdings.{claims_of, outputs_of}
 use Rattle.serve_machine.proofs.TruthLemmas.{some_same}
 use Rattle.serve_core.specs.CoreValue.{CoreValue}
@@ -28,7 +25,7 @@ use Rattle.serve_core.specs.Holds.{holds_none}
 use Rattle.serve_core.specs.Kept.{leases_out}
 use Rattle.serve_core.specs.Runs.{holder, keys_alone, opening_of, state_of, IsRun}
 use Rattle.serve_core.specs.Workers.{told_holdings, WorkersTell}
-use Rattle.serve_machine.specs.Worked.{takes}
+use Rattle.serve_machine.specs.Work.{takes}
 use Rattle.serve_core.proofs.WorkerLemmas.{has_told, told_outputs}
 
 -- Lists that grow and shrink.

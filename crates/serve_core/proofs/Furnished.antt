@@ -5,7 +5,7 @@ use Rattle.frame_cache.proofs.CallerLemmas.{test}
 use Rattle.inst_table.specs.declared.place.Place.{Place}
 use Rattle.inst_table.specs.declared.place.Slot.{Slot}
 use Rattle.inst_table.specs.Places.{has_place, place_meant, shared_place, own_place}
-use Rattle.serve_machine.specs.Keys.{mode_at}
+use Rattle.serve_machine.specs.Events.{mode_at}
 use Rattle.serve_core.specs.Sources.{place_of, IsFurnished}
 
 module _ {I : Type 0} {plan : List Application} {workers : ℕ} {table : List (Place × Slot I)} (is : IsPlan plan) (v : IsFurnished plan workers table) where

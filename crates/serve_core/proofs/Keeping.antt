@@ -23,15 +23,13 @@ use Rattle.inst_table.proofs.CallerLemmas.{has_put}
 use Rattle.serve_machine.specs.declared.event.Event.{Event}
 use Rattle.serve_machine.specs.declared.event.Event.TheVariants.{Hit, Claim, Enter, Leave, Publish, Abandon, Take, Deliver, Fail}
 use Rattle.serve_machine.specs.declared.event.WindowStop.{WindowStop}
-use Rattle.serve_machine.specs.Keys.{IsKey, frame_key, mode_at}
-use Rattle.serve_machine.specs.Own.{has_got, has_got_all, may_fail, names_source}
+use Rattle.serve_machine.specs.Events.{IsKey, frame_key, mode_at, has_got, has_got_all, may_fail, names_source}
 use Rattle.serve_machine.specs.SerialRun.{eviction}
-use Rattle.serve_machine.specs.State.{Fixed, is_open}
+use Rattle.serve_machine.specs.Machine.{Fixed, is_open, kept_stop, first_stop}
 use Rattle.serve_core.specs.CoreValue.{CoreValue}
 use Rattle.serve_core.specs.Holds.{claims_at, holds_none}
 use Rattle.serve_core.specs.Sources.{place_of, shape_at, opened_at, IsFurnished, HoldTheirs}
 use Rattle.serve_core.specs.Runs.{IsRun}
-use Rattle.serve_machine.specs.Stops.{kept_stop, first_stop}
 use Rattle.serve_core.specs.Kept.{count_of, is_leased, leases_out, AreOpen, KeysKept, OutputsKept, TableKept, PlanKept, Kept}
 use Rattle.serve_core.proofs.Places.{at_set, not_free, free_same, some_same}
 use Rattle.serve_core.proofs.StepLemmas.{claim_step, hit_step, abandon_step, take_step, enter_step, leave_step, deliver_step, put_step, fail_step, from_opening, goes_on, begun_is_run}

@@ -13,7 +13,7 @@ use Rattle.clip_graph.specs.Unfolding.{key_of, input_keys, key_made, key_picture
 use Rattle.clip_graph.proofs.UnfoldingLemmas.{unfolds, inputs_are_keys}
 use Rattle.clip_term.proofs.ListedLemmas.{listed}
 use Rattle.inst_table.specs.Places.{shared_place}
-use Rattle.serve_machine.specs.Keys.{mode_at, instance_in}
+use Rattle.serve_machine.specs.Events.{mode_at, instance_in}
 use Rattle.serve_core.specs.Sources.{place_of}
 use Rattle.serve_core.specs.Stands.{Book, FitsAct, IsRight, ExceedsAct}
 use Rattle.serve_core.specs.Works.{IsMade}

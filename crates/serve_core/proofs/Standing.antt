@@ -19,16 +19,16 @@ use Rattle.serve_machine.specs.declared.event.Event.{Event}
 use Rattle.serve_machine.specs.declared.event.Event.TheVariants.{Hit, Claim, Enter, Leave, Publish, Abandon, Take, Deliver, Fail}
 use Rattle.serve_machine.specs.declared.event.WindowStop.{WindowStop}
 use Rattle.serve_machine.specs.declared.event.WindowStop.TheVariants.{Read, Changed, Memory}
-use Rattle.serve_machine.specs.Keys.{frame_key}
+use Rattle.serve_machine.specs.Events.{frame_key}
 use Rattle.serve_machine.specs.SerialRun.{eviction}
 use Rattle.serve_core.specs.declared.answers.Ask.{Ask}
 use Rattle.serve_core.specs.declared.answers.Ask.TheVariants.{Hit as Found, Claimed, Taken, Stopped}
 use Rattle.serve_core.specs.declared.answers.Admitted.{Admitted}
 use Rattle.serve_core.specs.declared.answers.Admitted.TheVariants.{Leased, Busy, Stopped as Refused}
 use Rattle.serve_core.specs.CoreValue.{CoreValue}
-use Rattle.serve_core.specs.Calls.{Asked, Admits, left, published, abandoned, TookOutput, delivered, failing, begun, ended, made}
+use Rattle.serve_core.specs.Calls.{Asked, Admits, after_leave, after_publish, after_abandon, TookOutput, after_deliver, after_fail, after_begin, after_end, made}
 use Rattle.serve_core.specs.Sources.{place_of, sources_from, source_nodes, with_told, all_told, feed_at, book_of, faults_at, faults_of}
-use Rattle.serve_machine.specs.Stops.{first_stop, has_read, has_changed}
+use Rattle.serve_machine.specs.Machine.{first_stop, has_read, has_changed}
 use Rattle.serve_core.specs.Stands.{Book, IsRight, AnswerIsRight, FitsAct, Fits, AnswerFits, HasFailed, StopFits, Stands, CallsStand}
 use Rattle.serve_core.proofs.Places.{at_set, not_free, free_same, some_same}
 use Rattle.serve_core.proofs.Keeping.{set_other, none_given}
@@ -109,7 +109,7 @@ module _ {I : Type 0} {feed : I → Option (List Picture)} {faults : I → ℕ} 
     more = f.more;
   }
 
-  left_stands : (w : ℕ) (p : Place) (x : I) → slot_at p c.table ≡ Some (LeasedTo w) → Fits feed faults book numbers c.fixed.plan p x → Stands feed faults book numbers (left c w p x)
+  left_stands : (w : ℕ) (p : Place) (x : I) → slot_at p c.table ≡ Some (LeasedTo w) → Fits feed faults book numbers c.fixed.plan p x → Stands feed faults book numbers (after_leave c w p x)
   left_stands w p x out fits = record {
     cached = v.cached;
     outputs = v.outputs;
@@ -120,7 +120,7 @@ module _ {I : Type 0} {feed : I → Option (List Picture)} {faults : I → ℕ} 
     changed = changed_on (Leave w p.node p.instance ∷ []) (refl, tt);
   }
 
-  published_stands : (w : ℕ) (k : Key) (x : Picture) → IsRight book c.fixed.plan k x → Stands feed faults book numbers (published c w k x)
+  published_stands : (w : ℕ) (k : Key) (x : Picture) → IsRight book c.fixed.plan k x → Stands feed faults book numbers (after_publish c w k x)
   published_stands w k x is =
       let es = eviction w (dropped_key c.fixed.capacity c.cache) ++ Publish w k ∷ [] in
       let q = eviction_quiet w (dropped_key c.fixed.capacity c.cache) k in
@@ -132,7 +132,7 @@ module _ {I : Type 0} {feed : I → Option (List Picture)} {faults : I → ℕ} 
         changed = changed_on es q;
       }
 
-  abandoned_stands : (w : ℕ) (k : Key) → Stands feed faults book numbers (abandoned c w k)
+  abandoned_stands : (w : ℕ) (k : Key) → Stands feed faults book numbers (after_abandon c w k)
   abandoned_stands w k = record {
     cached = v.cached;
     outputs = v.outputs;
@@ -150,7 +150,7 @@ module _ {I : Type 0} {feed : I → Option (List Picture)} {faults : I → ℕ} 
     changed = changed_on (Take w n ∷ []) (refl, tt);
   }
 
-  delivered_stands : (w n : ℕ) (x : Picture) → c.fixed.first ≤ n → IsRight book c.fixed.plan (frame_key c.fixed.root n) x → Stands feed faults book numbers (delivered c w n x)
+  delivered_stands : (w n : ℕ) (x : Picture) → c.fixed.first ≤ n → IsRight book c.fixed.plan (frame_key c.fixed.root n) x → Stands feed faults book numbers (after_deliver c w n x)
   delivered_stands w n x low is = record {
     cached = v.cached;
     outputs = λ j y h. ⊎_elim (λ (e : slice_get c.outputs.frames j ≡ Some (Some y)). v.outputs j y e)
@@ -173,7 +173,7 @@ module _ {I : Type 0} {feed : I → Option (List Picture)} {faults : I → ℕ} 
   failed_change (Changed j n want got) fits h = fits
   failed_change Memory fits h = absurd (cc)
 
-  failing_stands : (w : ℕ) (why : WindowStop) → StopFits feed faults book numbers c.fixed.plan c.table why → Stands feed faults book numbers (failing c w why)
+  failing_stands : (w : ℕ) (why : WindowStop) → StopFits feed faults book numbers c.fixed.plan c.table why → Stands feed faults book numbers (after_fail c w why)
   failing_stands w why fits = record {
     cached = v.cached;
     outputs = v.outputs;
@@ -182,7 +182,7 @@ module _ {I : Type 0} {feed : I → Option (List Picture)} {faults : I → ℕ} 
     changed = λ h. ⊎_elim (λ (e : has_changed c.journal ≡ true). v.changed e) (λ (e : has_changed (Fail w why ∷ []) ≡ true). failed_change why fits e) (either (has_changed c.journal) (has_changed (Fail w why ∷ [])) (sym (changed_append c.journal (Fail w why ∷ [])) ∙ h));
   }
 
-  ended_stands : Stands feed faults book numbers (ended c)
+  ended_stands : Stands feed faults book numbers (after_end c)
   ended_stands = record {
     cached = v.cached;
     outputs = λ j x h. absurd (cc);
@@ -272,7 +272,7 @@ module _ {I : Type 0} (feed : I → Option (List Picture)) (faults : I → ℕ) 
   begun_fits book numbers plan table is i x at _ act fits = tt
 
   begun_stands : (book : Book) (numbers : List ℕ) (c : CoreValue I) (first count : ℕ) → Stands feed faults book numbers c → IsPlan c.fixed.plan
-      → Stands feed faults book (faults_of faults c.fixed.plan c.table) (begun c first count)
+      → Stands feed faults book (faults_of faults c.fixed.plan c.table) (after_begin c first count)
   begun_stands book numbers c first count v is = record {
     cached = v.cached;
     outputs = λ j x h. absurd (none_given count j x h);

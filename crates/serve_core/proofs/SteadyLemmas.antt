@@ -9,9 +9,9 @@ use Rattle.serve_core.specs.declared.answers.Ask.TheVariants.{Hit, Claimed, Take
 use Rattle.serve_core.specs.declared.answers.Admitted.{Admitted}
 use Rattle.serve_core.specs.declared.answers.Admitted.TheVariants.{Leased, Busy, Stopped as Refused}
 use Rattle.serve_core.specs.CoreValue.{CoreValue}
-use Rattle.serve_core.specs.Calls.{Asked, Admits, left, TookOutput}
+use Rattle.serve_core.specs.Calls.{Asked, Admits, after_leave, TookOutput}
 use Rattle.serve_core.specs.Sources.{place_of, faults_at}
-use Rattle.serve_core.specs.Steady.{HasCount, AnswerHasCount, IsSteady, TurnsAreSteady}
+use Rattle.serve_core.specs.Turns.{HasCount, AnswerHasCount, IsSteady, TurnsAreSteady}
 use Rattle.serve_core.proofs.Places.{at_set, not_free, free_same}
 
 module _ {I : Type 0} (faults : I → ℕ) (s : CoreValue I) where
@@ -41,7 +41,7 @@ module _ {I : Type 0} (faults : I → ℕ) (s : CoreValue I) where
   admitted c d w i (Busy other) v a = (all_same c d a.2 v, tt)
   admitted c d w i (Refused why) v a = (all_same c d a.1 v, tt)
 
-  came_back : (c : CoreValue I) (w : ℕ) (p : Place) (x : I) → IsSteady faults c s → HasCount faults s.table p x → IsSteady faults (left c w p x) s
+  came_back : (c : CoreValue I) (w : ℕ) (p : Place) (x : I) → IsSteady faults c s → HasCount faults s.table p x → IsSteady faults (after_leave c w p x) s
   came_back c w p x v count = record {
     counts = λ running q y at. ⊎_elim
         (λ (was : slot_at q c.table ≡ Some (Free y)). v.counts running q y was)

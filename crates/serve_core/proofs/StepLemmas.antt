@@ -23,22 +23,19 @@ use Rattle.serve_machine.specs.declared.event.Event.{Event}
 use Rattle.serve_machine.specs.declared.event.Event.TheVariants.{Hit, Claim, Enter, Leave, Evict, Publish, Abandon, Take, Deliver, Fail}
 use Rattle.serve_machine.specs.declared.event.WindowStop.{WindowStop}
 use Rattle.serve_machine.specs.declared.event.WindowStop.TheVariants.{Read, Changed, Memory}
-use Rattle.serve_machine.specs.Events.{worker_of}
-use Rattle.serve_machine.specs.Keys.{IsKey, frame_key, mode_at}
-use Rattle.serve_machine.specs.Own.{has_got, has_got_all, may_fail, names_source}
+use Rattle.serve_machine.specs.Events.{worker_of, IsKey, frame_key, mode_at, has_got, has_got_all, may_fail, names_source}
 use Rattle.serve_machine.specs.SerialRun.{eviction}
 use Rattle.serve_core.specs.declared.answers.Ask.TheVariants.{Hit as Found, Claimed}
 use Rattle.serve_core.specs.declared.answers.Admitted.TheVariants.{Leased as Lends}
 use Rattle.serve_core.specs.CoreValue.{CoreValue}
-use Rattle.serve_core.specs.Calls.{Asked, Admits, left, published, abandoned, TookOutput, next_output, delivered, failing, begun}
+use Rattle.serve_core.specs.Calls.{Asked, Admits, after_leave, after_publish, after_abandon, TookOutput, next_output, after_deliver, after_fail, after_begin}
 use Rattle.serve_core.specs.Holds.{claims_at, holds_none}
 use Rattle.serve_core.specs.Sources.{place_of}
 use Rattle.serve_core.specs.Kept.{leases_out}
 use Rattle.serve_core.specs.Runs.{holder, AreMeant, keys_alone, opening_of, state_of, IsRun}
 use Rattle.serve_core.proofs.Places.{at_set, not_free, some_same}
-use Rattle.serve_machine.specs.State.{Fixed, State, opening, place_named, is_open, is_some_and, is_by, holds_nothing, noted, is_running, got_at, gathered}
-use Rattle.serve_machine.specs.Machine.{Machine, may_stop, meets, allowed, change, replay}
-use Rattle.serve_machine.specs.Lifted.{seen, bare, keys_machine}
+use Rattle.serve_machine.specs.Machine.{Fixed, State, opening, place_named, is_open, is_some_and, is_by, holds_nothing, noted, is_running, got_at, gathered, Machine, may_stop, meets, allowed, change, replay}
+use Rattle.serve_machine.specs.Law.{seen, bare, keys_machine}
 use Rattle.serve_machine.proofs.GotLemmas.{got_law, gathered_law, entered_law}
 use Rattle.serve_machine.proofs.TruthLemmas.{some_value}
 use Rattle.serve_machine.proofs.SeenLemmas.{lookup_seen, set_seen, take_seen, keys_seen, none_seen, fronted_seen, length_seen}
@@ -173,7 +170,7 @@ module _ {I : Type 0} {start : State (Unit {0})} {c : CoreValue I} (r : RunsFrom
         meant = r.meant;
       })
 
-  pub abandon_step : (d : CoreValue I) (w : ℕ) (k : Key) → w < c.fixed.workers → at_key k c.claims ≡ Some w → d ≡ abandoned c w k → RunsFrom start d
+  pub abandon_step : (d : CoreValue I) (w : ℕ) (k : Key) → w < c.fixed.workers → at_key k c.claims ≡ Some w → d ≡ after_abandon c w k → RunsFrom start d
   abandon_step d w k less mine is = subst (RunsFrom start) (sym is) (record {
     got = r.got;
     entered = r.entered;
@@ -204,7 +201,7 @@ module _ {I : Type 0} {start : State (Unit {0})} {c : CoreValue I} (r : RunsFrom
         meant = lent_meant c.fixed.plan c.table r.meant w i;
       })
 
-  pub leave_step : (d : CoreValue I) (w : ℕ) (p : Place) (x : I) → w < c.fixed.workers → slot_at p c.table ≡ Some (Leased w) → d ≡ left c w p x → RunsFrom start d
+  pub leave_step : (d : CoreValue I) (w : ℕ) (p : Place) (x : I) → w < c.fixed.workers → slot_at p c.table ≡ Some (Leased w) → d ≡ after_leave c w p x → RunsFrom start d
   leave_step d w p x less at is = subst (RunsFrom start) (sym is) (
       let q : Place = place_named c.fixed.plan p.node p.instance in
       let same : q ≡ p = named c.fixed.plan p w (r.meant p w at) in
@@ -221,7 +218,7 @@ module _ {I : Type 0} {start : State (Unit {0})} {c : CoreValue I} (r : RunsFrom
 
   pub deliver_step : (d : CoreValue I) (w n : ℕ) (x : Picture) → w < c.fixed.workers → c.fixed.first ≤ n → slice_get c.outputs.taken (n - c.fixed.first) ≡ Some w
       → slice_get c.outputs.frames (n - c.fixed.first) ≡ Some None → has_got w (frame_key c.fixed.root n) c.journal ≡ true
-      → d ≡ delivered c w n x → RunsFrom start d
+      → d ≡ after_deliver c w n x → RunsFrom start d
   deliver_step d w n x less low mine undelivered got is = subst (RunsFrom start) (sym is) (
       let at : ℕ = n - c.fixed.first in
       let frames : List (Option (Unit {0})) = map (option_map bare) c.outputs.frames in
@@ -248,7 +245,7 @@ module _ {I : Type 0} {start : State (Unit {0})} {c : CoreValue I} (r : RunsFrom
   -- into a cache that has room
   pub publish_step : (d : CoreValue I) (w : ℕ) (k : Key) (x : Picture) → w < c.fixed.workers → at_key k c.claims ≡ Some w → holds_none w c.table ≡ true
       → has_got_all w (input_keys c.fixed.plan k) c.journal ≡ true → length c.cache < c.fixed.capacity
-      → d ≡ published c w k x → RunsFrom start d
+      → d ≡ after_publish c w k x → RunsFrom start d
   publish_step d w k x less mine empty got room is = subst (RunsFrom start) (sym (is ∙ roomy)) (
       let has = gathered_law machine w (input_keys c.fixed.plan k) c.journal start now r.runs got in
       let made = made_is w k got in
@@ -262,7 +259,7 @@ module _ {I : Type 0} {start : State (Unit {0})} {c : CoreValue I} (r : RunsFrom
         meant = r.meant;
       })
     where
-      roomy : published c w k x ≡ record c { cache = (k, x) ∷ c.cache; claims = without_key k c.claims; journal = c.journal ++ Publish w k ∷ [] }
+      roomy : after_publish c w k x ≡ record c { cache = (k, x) ∷ c.cache; claims = without_key k c.claims; journal = c.journal ++ Publish w k ∷ [] }
       roomy =
           let all = take_all (c.fixed.capacity - 1) c.cache (omega arith) in
           let none = none_dropped c.fixed.capacity c.cache room in
@@ -271,7 +268,7 @@ module _ {I : Type 0} {start : State (Unit {0})} {c : CoreValue I} (r : RunsFrom
   -- into a full cache: its last key goes first
   pub full_step : (d : CoreValue I) (w : ℕ) (k : Key) (x : Picture) → w < c.fixed.workers → at_key k c.claims ≡ Some w → holds_none w c.table ≡ true
       → has_got_all w (input_keys c.fixed.plan k) c.journal ≡ true → 0 < c.fixed.capacity → length c.cache ≡ c.fixed.capacity
-      → d ≡ published c w k x → RunsFrom start d
+      → d ≡ after_publish c w k x → RunsFrom start d
   full_step d w k x less mine empty got some full is =
       let gone = some_value (dropped_key c.fixed.capacity c.cache) (some_dropped c.fixed.capacity c.cache some full) in
       let j : Key = gone.0 in
@@ -307,7 +304,7 @@ module _ {I : Type 0} {start : State (Unit {0})} {c : CoreValue I} (r : RunsFrom
   causes w Memory h = refl
 
   pub fail_step : (d : CoreValue I) (w : ℕ) (why : WindowStop) → w < c.fixed.workers → slice_get c.failed w ≡ Some false → may_fail w why c.journal ≡ true
-      → names_source c.fixed.plan why ≡ true → d ≡ failing c w why → RunsFrom start d
+      → names_source c.fixed.plan why ≡ true → d ≡ after_fail c w why → RunsFrom start d
   fail_step d w why less fresh cause source is = subst (RunsFrom start) (sym is) (record {
     got = r.got;
     entered = r.entered;
@@ -316,7 +313,7 @@ module _ {I : Type 0} {start : State (Unit {0})} {c : CoreValue I} (r : RunsFrom
   })
 
   pub put_step : (d : CoreValue I) (w : ℕ) (k : Key) (x : Picture) → w < c.fixed.workers → at_key k c.claims ≡ Some w → holds_none w c.table ≡ true
-      → has_got_all w (input_keys c.fixed.plan k) c.journal ≡ true → length c.cache ≤ c.fixed.capacity → 0 < c.fixed.capacity → d ≡ published c w k x → RunsFrom start d
+      → has_got_all w (input_keys c.fixed.plan k) c.journal ≡ true → length c.cache ≤ c.fixed.capacity → 0 < c.fixed.capacity → d ≡ after_publish c w k x → RunsFrom start d
   put_step d w k x less mine empty got bounded some is = ⊎_elim
       (λ (e : nat_lt (length c.cache) c.fixed.capacity ≡ true). publish_step d w k x less mine empty got (ltb-true _ _ e) is)
       (λ (e : nat_lt (length c.cache) c.fixed.capacity ≡ false). let most = ltb-false (length c.cache) c.fixed.capacity e in full_step d w k x less mine empty got some (omega (arith, bounded, most)) is)
@@ -348,7 +345,7 @@ keys_again [] = refl
 keys_again (p ∷ ps) = ap (λ l. (p.0, tt) ∷ l) (keys_again ps)
 
 -- a window that begins is a run of no events
-pub begun_is_run : {I : Type 0} (c : CoreValue I) (first count : ℕ) → c.claims ≡ [] → leases_out c.table ≡ 0 → IsDistinct same_key (keys_of c.cache) → length c.cache ≤ c.fixed.capacity → IsRun (begun c first count)
+pub begun_is_run : {I : Type 0} (c : CoreValue I) (first count : ℕ) → c.claims ≡ [] → leases_out c.table ≡ 0 → IsDistinct same_key (keys_of c.cache) → length c.cache ≤ c.fixed.capacity → IsRun (after_begin c first count)
 begun_is_run c first count unclaimed unlent differ few =
     let free = sym unclaimed in
     let idle = all_idle c.table unlent in
@@ -360,6 +357,6 @@ begun_is_run c first count unclaimed unlent differ few =
       few = omega (arith, l, few);
       got = [];
       entered = [];
-      runs = λ i. Some (record (opening_of (begun c first count)) { cache = alone i; claims = free i; places = idle i; frames = undelivered i });
+      runs = λ i. Some (record (opening_of (after_begin c first count)) { cache = alone i; claims = free i; places = idle i; frames = undelivered i });
       meant = λ p w h. absurd (none_out p w c.table unlent h);
     }

@@ -5,7 +5,7 @@ use Rattle.serve_machine.specs.declared.event.Event.{Event}
 use Rattle.serve_machine.specs.declared.event.Event.TheVariants.{Publish, Fail}
 use Rattle.serve_machine.specs.declared.event.WindowStop.{WindowStop}
 use Rattle.serve_machine.specs.SerialRun.{eviction}
-use Rattle.serve_machine.specs.Stops.{kept_stop, stop_of, earlier, first_stop, is_read, has_read, is_changed, has_changed}
+use Rattle.serve_machine.specs.Machine.{kept_stop, stop_of, earlier, first_stop, is_read, has_read, is_changed, has_changed}
 use Rattle.serve_machine.proofs.ClosingLemmas.{first_stop-append}
 
 -- no event of these is a failure

@@ -10,17 +10,13 @@ use Rattle.clip_graph.specs.Plan.{Application}
 use Rattle.clip_graph.specs.Unfolding.{key_picture}
 use Rattle.frame_cache.specs.Cached.{same_key, at_key, Differ}
 use Rattle.frame_cache.proofs.CallerLemmas.{test, same_keys, key_itself, nowhere}
-use Rattle.serve_machine.specs.Keys.{frame_key}
-use Rattle.serve_machine.specs.State.{State}
-use Rattle.serve_machine.specs.Stops.{has_changed}
-use Rattle.serve_machine.specs.Machine.{replay}
-use Rattle.serve_machine.specs.Law.{AreRight, IsOpening, told_machine}
-use Rattle.serve_machine.specs.Lifted.{seen, seen_state, bare, keys_machine}
+use Rattle.serve_machine.specs.Events.{frame_key}
+use Rattle.serve_machine.specs.Machine.{State, has_changed, replay}
+use Rattle.serve_machine.specs.Law.{AreRight, IsOpening, told_machine, seen, seen_state, bare, keys_machine}
 use Rattle.serve_machine.proofs.LawLemmas.{told_runs_refine}
 use Rattle.serve_machine.proofs.LiftLemmas.{runs_lift}
 use Rattle.serve_machine.proofs.SeenLemmas.{keys_seen, none_seen}
-use Rattle.serve_core.specs.Runs.{keys_alone, opening_of, state_of}
-use Rattle.serve_core.specs.Told.{framed, told_opening, RunsAreTold}
+use Rattle.serve_core.specs.Runs.{keys_alone, opening_of, state_of, framed, told_opening, RunsAreTold}
 use Rattle.serve_core.proofs.Places.{some_same}
 
 -- lists that agree

@@ -14,15 +14,15 @@ use Rattle.serve_machine.specs.declared.event.Event.{Event}
 use Rattle.serve_machine.specs.declared.event.Event.TheVariants.{Hit, Claim, Enter, Leave, Evict, Publish, Abandon, Take, Deliver, Fail}
 use Rattle.serve_machine.specs.declared.event.WindowStop.{WindowStop}
 use Rattle.serve_machine.specs.declared.event.WindowStop.TheVariants.{Read, Changed, Memory}
-use Rattle.serve_machine.specs.Keys.{frame_key}
+use Rattle.serve_machine.specs.Events.{frame_key}
 use Rattle.serve_machine.specs.SerialRun.{eviction}
-use Rattle.serve_machine.specs.Stops.{stop_of, earlier, first_stop}
+use Rattle.serve_machine.specs.Machine.{stop_of, earlier, first_stop}
 use Rattle.serve_core.specs.declared.answers.Ask.{Ask}
 use Rattle.serve_core.specs.declared.answers.Ask.TheVariants.{Hit as Found, Claimed, Taken, Stopped}
 use Rattle.serve_core.specs.declared.answers.Admitted.{Admitted}
 use Rattle.serve_core.specs.declared.answers.Admitted.TheVariants.{Leased, Busy, Stopped as Refused}
 use Rattle.serve_core.specs.CoreValue.{CoreValue}
-use Rattle.serve_core.specs.Calls.{Asked, Admits, left, published, abandoned, TookOutput, delivered, failing}
+use Rattle.serve_core.specs.Calls.{Asked, Admits, after_leave, after_publish, after_abandon, TookOutput, after_deliver, after_fail}
 use Rattle.serve_core.specs.Sources.{place_of}
 use Rattle.serve_core.specs.Stands.{Book, IsRight, AnswerIsRight, Fits, AnswerFits, StopFits, EndShows, Stands, CallsStand}
 use Rattle.serve_core.specs.Turns.{ForAllOf, StandsFor, TurnsStand}
@@ -96,7 +96,7 @@ module _ {I : Type 0} (c d : CoreValue I) where
   taken_places w None t = same_table t.1
   taken_places w (Some n) t = ap (λ (z : CoreValue I). keys_of z.table) t.3
 
-pub left_places : {I : Type 0} → (c : CoreValue I) (w : ℕ) (p : Place) (x : I) → SamePlaces c (left c w p x)
+pub left_places : {I : Type 0} → (c : CoreValue I) (w : ℕ) (p : Place) (x : I) → SamePlaces c (after_leave c w p x)
 left_places c w p x = keys-set_value (same_place p) c.table (Free x)
 
 -- What a call keeps.
@@ -150,7 +150,7 @@ module _ {I : Type 0} (ends : I → ℕ → ℕ → ℕ → Type 0) where
   admitted_goes c d w i (Busy v) first a = same c d a.2
   admitted_goes c d w i (Refused why) first a = same c d a.1
 
-  left_goes : (c : CoreValue I) (w : ℕ) (p : Place) (x : I) → slot_at p c.table ≡ Some (LeasedTo w) → Goes c (left c w p x)
+  left_goes : (c : CoreValue I) (w : ℕ) (p : Place) (x : I) → slot_at p c.table ≡ Some (LeasedTo w) → Goes c (after_leave c w p x)
   left_goes c w p x out = record {
     fixed = refl;
     places = keys-set_value (same_place p) c.table (Free x);
@@ -161,7 +161,7 @@ module _ {I : Type 0} (ends : I → ℕ → ℕ → ℕ → Type 0) where
   taken_goes c d w None t = same c d t.1
   taken_goes c d w (Some n) t = subst (Goes c) (sym t.3) (quiet c _ (Take w n ∷ []) (refl, tt) refl refl refl)
 
-  failing_goes : (c : CoreValue I) (w : ℕ) (why : WindowStop) → EndShows ends c.table why → Goes c (failing c w why)
+  failing_goes : (c : CoreValue I) (w : ℕ) (why : WindowStop) → EndShows ends c.table why → Goes c (after_fail c w why)
   failing_goes c w why shows = record {
     fixed = refl;
     places = refl;
@@ -210,30 +210,30 @@ module _ {I : Type 0} (feed : I → Option (List Picture)) (faults : I → ℕ) 
       λ book numbers st. subst (λ f. AnswerFits feed faults book numbers f.plan answer) v.fixed (calls.enter book numbers c d w i answer (v.right book numbers st) first a).1,
     )
 
-    came_back : (w : ℕ) (p : Place) (x : I) → slot_at p c.table ≡ Some (LeasedTo w) → ForAll s (λ book numbers. Fits feed faults book numbers s.fixed.plan p x) → For (left c w p x) s
-    came_back w p x out fits = next s c (left c w p x) v (left_goes ends c w p x out)
+    came_back : (w : ℕ) (p : Place) (x : I) → slot_at p c.table ≡ Some (LeasedTo w) → ForAll s (λ book numbers. Fits feed faults book numbers s.fixed.plan p x) → For (after_leave c w p x) s
+    came_back w p x out fits = next s c (after_leave c w p x) v (left_goes ends c w p x out)
         (λ book numbers st. calls.leave book numbers c w p x (v.right book numbers st) out (subst (λ f. Fits feed faults book numbers f.plan p x) (sym v.fixed) (fits book numbers st)))
 
-    publishes : (w : ℕ) (k : Key) (x : Picture) → ForAll s (λ book numbers. IsRight book s.fixed.plan k x) → For (published c w k x) s
+    publishes : (w : ℕ) (k : Key) (x : Picture) → ForAll s (λ book numbers. IsRight book s.fixed.plan k x) → For (after_publish c w k x) s
     publishes w k x is =
         let es = eviction w (dropped_key c.fixed.capacity c.cache) ++ Publish w k ∷ [] in
-        next s c (published c w k x) v (quiet ends c (published c w k x) es (eviction_quiet w (dropped_key c.fixed.capacity c.cache) k) refl refl refl)
+        next s c (after_publish c w k x) v (quiet ends c (after_publish c w k x) es (eviction_quiet w (dropped_key c.fixed.capacity c.cache) k) refl refl refl)
         (λ book numbers st. calls.publish book numbers c w k x (v.right book numbers st) (subst (λ f. IsRight book f.plan k x) (sym v.fixed) (is book numbers st)))
 
-    abandons : (w : ℕ) (k : Key) → For (abandoned c w k) s
-    abandons w k = next s c (abandoned c w k) v (quiet ends c (abandoned c w k) (Abandon w k ∷ []) (refl, tt) refl refl refl)
+    abandons : (w : ℕ) (k : Key) → For (after_abandon c w k) s
+    abandons w k = next s c (after_abandon c w k) v (quiet ends c (after_abandon c w k) (Abandon w k ∷ []) (refl, tt) refl refl refl)
         (λ book numbers st. calls.abandon book numbers c w k (v.right book numbers st))
 
     takes : (d : CoreValue I) (w : ℕ) (taken : Option ℕ) → TookOutput c w taken d → For d s
     takes d w taken t = next s c d v (taken_goes ends c d w taken t) (λ book numbers st. calls.take_output book numbers c d w taken (v.right book numbers st) t)
 
-    delivers : (w n : ℕ) (x : Picture) → s.fixed.first ≤ n → ForAll s (λ book numbers. IsRight book s.fixed.plan (frame_key s.fixed.root n) x) → For (delivered c w n x) s
-    delivers w n x low is = next s c (delivered c w n x) v (quiet ends c (delivered c w n x) (Deliver w n ∷ []) (refl, tt) refl refl refl)
+    delivers : (w n : ℕ) (x : Picture) → s.fixed.first ≤ n → ForAll s (λ book numbers. IsRight book s.fixed.plan (frame_key s.fixed.root n) x) → For (after_deliver c w n x) s
+    delivers w n x low is = next s c (after_deliver c w n x) v (quiet ends c (after_deliver c w n x) (Deliver w n ∷ []) (refl, tt) refl refl refl)
         (λ book numbers st. calls.deliver book numbers c w n x (v.right book numbers st) (subst (λ f. f.first ≤ n) (sym v.fixed) low)
         (subst (λ f. IsRight book f.plan (frame_key f.root n) x) (sym v.fixed) (is book numbers st)))
 
-    fails : (w : ℕ) (why : WindowStop) → ForAll s (λ book numbers. StopFits feed faults book numbers s.fixed.plan c.table why) → EndShows ends c.table why → For (failing c w why) s
-    fails w why fits shows = next s c (failing c w why) v (failing_goes ends c w why shows)
+    fails : (w : ℕ) (why : WindowStop) → ForAll s (λ book numbers. StopFits feed faults book numbers s.fixed.plan c.table why) → EndShows ends c.table why → For (after_fail c w why) s
+    fails w why fits shows = next s c (after_fail c w why) v (failing_goes ends c w why shows)
         (λ book numbers st. calls.fail book numbers c w why (v.right book numbers st) (subst (λ f. StopFits feed faults book numbers f.plan c.table why) (sym v.fixed) (fits book numbers st)))
 
   pub turns_stand : TurnsStand feed faults ends

@@ -3,9 +3,8 @@ use Rattle.std.proofs.Common.{◌≡◌, List, [], ◌∷◌, sym, refl, ap, ◌
 use Rattle.std.specs.Map.{keys_of}
 use Rattle.fv_plane.specs.declared.key.Key.{Key}
 use Rattle.serve_machine.specs.Machine.{replay}
-use Rattle.serve_machine.specs.Lifted.{keys_machine}
-use Rattle.serve_core.specs.Runs.{keys_alone, opening_of, state_of}
-use Rattle.serve_core.specs.WindowRuns.{WindowsAreRuns}
+use Rattle.serve_machine.specs.Law.{keys_machine}
+use Rattle.serve_core.specs.Runs.{keys_alone, opening_of, state_of, WindowsAreRuns}
 use Rattle.serve_core.proofs.StepLemmas.{keys_again}
 
 keys_back : (ks : List Key) → ks ≡ keys_of (keys_alone ks)

@@ -10,9 +10,9 @@ use Rattle.frame_cache.proofs.CallerLemmas.{test, same_keys}
 use Rattle.inst_table.specs.declared.place.Slot.{Slot}
 use Rattle.inst_table.specs.declared.place.Slot.TheVariants.{Free, Leased}
 use Rattle.inst_table.specs.Places.{same_place, slot_at}
-use Rattle.serve_machine.specs.Own.{own_events}
+use Rattle.serve_machine.specs.Events.{own_events}
 use Rattle.serve_machine.specs.Holdings.{Holdings, outputs_of, IsToldBy}
-use Rattle.serve_machine.specs.Lifted.{bare, keys_machine}
+use Rattle.serve_machine.specs.Law.{bare, keys_machine}
 use Rattle.serve_machine.proofs.TruthLemmas.{by_there}
 use Rattle.serve_machine.proofs.SeenLemmas.{lookup_seen}
 use Rattle.serve_machine.proofs.HoldingLemmas.{own_events_tell}

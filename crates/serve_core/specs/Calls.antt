@@ -18,7 +18,7 @@ use Rattle.serve_core.specs.declared.answers.Admitted.{Admitted}
 use Rattle.serve_core.specs.declared.answers.Admitted.TheVariants.{Leased, Busy, Stopped as Refused}
 use Rattle.serve_core.specs.CoreValue.{CoreValue}
 use Rattle.serve_core.specs.Sources.{place_of}
-use Rattle.serve_machine.specs.Stops.{kept_stop}
+use Rattle.serve_machine.specs.Machine.{kept_stop}
 
 module _ {I : Type 0} where
   -- c is the core before a call, and d the core after it
@@ -41,19 +41,19 @@ module _ {I : Type 0} where
       (c.stop ≡ None) × (slot_at (place_of c.fixed.plan w i) c.table ≡ Some (LeasedTo v)) × (d ≡ c)
   Admits c w i (Refused why) d = (c.stop ≡ Some why) × (d ≡ c)
 
-  abbrev pub left : CoreValue I → ℕ → Place → I → CoreValue I
-  left c w p x =
+  abbrev pub after_leave : CoreValue I → ℕ → Place → I → CoreValue I
+  after_leave c w p x =
       record c { table = with_slot p (Free x) c.table; journal = c.journal ++ Leave w p.node p.instance ∷ [] }
 
-  abbrev pub published : CoreValue I → ℕ → Key → Picture → CoreValue I
-  published c w k x = record c {
+  abbrev pub after_publish : CoreValue I → ℕ → Key → Picture → CoreValue I
+  after_publish c w k x = record c {
     cache = put_first c.fixed.capacity k x c.cache;
     claims = without_key k c.claims;
     journal = c.journal ++ (eviction w (dropped_key c.fixed.capacity c.cache) ++ Publish w k ∷ []);
   }
 
-  abbrev pub abandoned : CoreValue I → ℕ → Key → CoreValue I
-  abandoned c w k = record c { claims = without_key k c.claims; journal = c.journal ++ Abandon w k ∷ [] }
+  abbrev pub after_abandon : CoreValue I → ℕ → Key → CoreValue I
+  after_abandon c w k = record c { claims = without_key k c.claims; journal = c.journal ++ Abandon w k ∷ [] }
 
   -- the least output that is not taken
   abbrev pub next_output : CoreValue I → ℕ
@@ -68,21 +68,21 @@ module _ {I : Type 0} where
         journal = c.journal ++ Take w n ∷ [];
       })
 
-  abbrev pub delivered : CoreValue I → ℕ → ℕ → Picture → CoreValue I
-  delivered c w n x = record c {
+  abbrev pub after_deliver : CoreValue I → ℕ → ℕ → Picture → CoreValue I
+  after_deliver c w n x = record c {
     outputs = record { taken = c.outputs.taken; frames = slice_set c.outputs.frames (n - c.fixed.first) (Some x) };
     journal = c.journal ++ Deliver w n ∷ [];
   }
 
-  abbrev pub failing : CoreValue I → ℕ → WindowStop → CoreValue I
-  failing c w why = record c {
+  abbrev pub after_fail : CoreValue I → ℕ → WindowStop → CoreValue I
+  after_fail c w why = record c {
     failed = slice_set c.failed w true;
     stop = Some (kept_stop c.stop why);
     journal = c.journal ++ Fail w why ∷ [];
   }
 
-  abbrev pub begun : CoreValue I → ℕ → ℕ → CoreValue I
-  begun c first count = record c {
+  abbrev pub after_begin : CoreValue I → ℕ → ℕ → CoreValue I
+  after_begin c first count = record c {
     fixed = record c.fixed { first = first; count = count; opening = keys_of c.cache };
     outputs = record { taken = []; frames = replicate count None };
     failed = replicate c.fixed.workers false;
@@ -90,8 +90,8 @@ module _ {I : Type 0} where
     journal = [];
   }
 
-  abbrev pub ended : CoreValue I → CoreValue I
-  ended c = record c {
+  abbrev pub after_end : CoreValue I → CoreValue I
+  after_end c = record c {
     fixed = record c.fixed { first = 0; count = 0 };
     outputs = record { taken = []; frames = [] };
     failed = [];

@@ -6,7 +6,7 @@ use Rattle.inst_table.specs.declared.place.Place.{Place}
 use Rattle.inst_table.specs.declared.place.Slot.{Slot}
 use Rattle.serve_machine.specs.declared.event.Event.{Event}
 use Rattle.serve_machine.specs.declared.event.WindowStop.{WindowStop}
-pub use Rattle.serve_machine.specs.State.{Fixed}
+pub use Rattle.serve_machine.specs.Machine.{Fixed}
 
 -- who took the outputs so far, in their order, and what was delivered at each place of the window
 pub record Outputs : Type 0 where

@@ -7,7 +7,7 @@ use Rattle.inst_table.specs.declared.place.Slot.TheVariants.{Free, Leased}
 use Rattle.inst_table.specs.Places.{slot_at, shared_place}
 use Rattle.serve_machine.specs.declared.event.WindowStop.{WindowStop}
 use Rattle.serve_machine.specs.declared.event.WindowStop.TheVariants.{Read, Changed, Memory}
-pub use Rattle.serve_machine.specs.State.{claims_at}
+pub use Rattle.serve_machine.specs.Machine.{claims_at}
 
 -- no lease
 abbrev pub holds_none : {I : Type 0} → ℕ → List (Place × Slot I) → Bool

@@ -10,7 +10,7 @@ use Rattle.inst_table.specs.declared.place.Slot.{Slot}
 use Rattle.inst_table.specs.declared.place.Slot.TheVariants.{Free, Leased}
 use Rattle.serve_machine.specs.declared.event.Event.{Event}
 use Rattle.serve_machine.specs.declared.event.WindowStop.{WindowStop}
-use Rattle.serve_machine.specs.State.{is_open}
+use Rattle.serve_machine.specs.Machine.{is_open, first_stop}
 use Rattle.serve_core.specs.declared.answers.Ask.{Ask}
 use Rattle.serve_core.specs.declared.answers.Ask.TheVariants.{Hit as Found, Claimed, Taken, Stopped}
 use Rattle.serve_core.specs.declared.answers.Admitted.{Admitted}
@@ -18,7 +18,6 @@ use Rattle.serve_core.specs.declared.answers.Admitted.TheVariants.{Leased as Len
 use Rattle.serve_core.specs.CoreValue.{CoreValue}
 use Rattle.serve_core.specs.Runs.{IsRun}
 use Rattle.serve_core.specs.Sources.{shape_at, opened_at, IsFurnished, HoldTheirs}
-use Rattle.serve_machine.specs.Stops.{first_stop}
 
 abbrev pub count_of : {A : Type 0} → (A → Bool) → List A → ℕ
 count_of p [] = 0

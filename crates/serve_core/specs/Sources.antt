@@ -9,8 +9,8 @@ use Rattle.inst_table.specs.declared.place.Place.{Place}
 use Rattle.inst_table.specs.declared.place.Slot.{Slot}
 use Rattle.inst_table.specs.declared.place.Slot.TheVariants.{Free, Leased}
 use Rattle.inst_table.specs.Places.{slot_at, has_place, shared_place, own_place}
-use Rattle.serve_machine.specs.Keys.{mode_at, instance_of}
-pub use Rattle.serve_machine.specs.State.{with_told, all_told}
+use Rattle.serve_machine.specs.Events.{mode_at, instance_of}
+pub use Rattle.serve_machine.specs.Machine.{with_told, all_told}
 
 abbrev pub shape_at : List Application → ℕ → Shape
 shape_at plan i = (application_at plan i).info.shape

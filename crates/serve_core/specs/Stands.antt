@@ -14,15 +14,15 @@ use Rattle.inst_table.specs.declared.place.Slot.TheVariants.{Free, Leased as Lea
 use Rattle.inst_table.specs.Places.{slot_at, shared_place}
 use Rattle.serve_machine.specs.declared.event.WindowStop.{WindowStop}
 use Rattle.serve_machine.specs.declared.event.WindowStop.TheVariants.{Read, Changed, Memory}
-use Rattle.serve_machine.specs.Keys.{frame_key}
+use Rattle.serve_machine.specs.Events.{frame_key}
 use Rattle.serve_core.specs.declared.answers.Ask.{Ask}
 use Rattle.serve_core.specs.declared.answers.Ask.TheVariants.{Hit as Found, Claimed, Taken, Stopped}
 use Rattle.serve_core.specs.declared.answers.Admitted.{Admitted}
 use Rattle.serve_core.specs.declared.answers.Admitted.TheVariants.{Leased, Busy, Stopped as Refused}
 use Rattle.serve_core.specs.CoreValue.{CoreValue}
-use Rattle.serve_core.specs.Calls.{Asked, Admits, left, published, abandoned, TookOutput, delivered, failing, begun, ended, made}
+use Rattle.serve_core.specs.Calls.{Asked, Admits, after_leave, after_publish, after_abandon, TookOutput, after_deliver, after_fail, after_begin, after_end, made}
 use Rattle.serve_core.specs.Sources.{book_of, faults_of}
-use Rattle.serve_machine.specs.Stops.{first_stop, has_read, has_changed}
+use Rattle.serve_machine.specs.Machine.{first_stop, has_read, has_changed}
 
 -- the frames of each source by its number, or none where they are not told
 abbrev pub Book : Type 0
@@ -102,25 +102,25 @@ module _ {I : Type 0} (feed : I → Option (List Picture)) (faults : I → ℕ) 
         → Stands feed faults book numbers d × AnswerFits feed faults book numbers c.fixed.plan answer
     pub leave : (book : Book) (numbers : List ℕ) (c : CoreValue I) (w : ℕ) (p : Place) (x : I)
         → Stands feed faults book numbers c → slot_at p c.table ≡ Some (LeasedTo w)
-        → Fits feed faults book numbers c.fixed.plan p x → Stands feed faults book numbers (left c w p x)
+        → Fits feed faults book numbers c.fixed.plan p x → Stands feed faults book numbers (after_leave c w p x)
     pub publish : (book : Book) (numbers : List ℕ) (c : CoreValue I) (w : ℕ) (k : Key) (x : Picture)
         → Stands feed faults book numbers c → IsRight book c.fixed.plan k x
-        → Stands feed faults book numbers (published c w k x)
+        → Stands feed faults book numbers (after_publish c w k x)
     pub abandon : (book : Book) (numbers : List ℕ) (c : CoreValue I) (w : ℕ) (k : Key)
-        → Stands feed faults book numbers c → Stands feed faults book numbers (abandoned c w k)
+        → Stands feed faults book numbers c → Stands feed faults book numbers (after_abandon c w k)
     pub take_output : (book : Book) (numbers : List ℕ) (c d : CoreValue I) (w : ℕ) (taken : Option ℕ)
         → Stands feed faults book numbers c → TookOutput c w taken d → Stands feed faults book numbers d
     pub deliver : (book : Book) (numbers : List ℕ) (c : CoreValue I) (w n : ℕ) (x : Picture)
         → Stands feed faults book numbers c → c.fixed.first ≤ n → IsRight book c.fixed.plan (frame_key c.fixed.root n) x
-        → Stands feed faults book numbers (delivered c w n x)
+        → Stands feed faults book numbers (after_deliver c w n x)
     pub fail : (book : Book) (numbers : List ℕ) (c : CoreValue I) (w : ℕ) (why : WindowStop)
         → Stands feed faults book numbers c → StopFits feed faults book numbers c.fixed.plan c.table why
-        → Stands feed faults book numbers (failing c w why)
+        → Stands feed faults book numbers (after_fail c w why)
     pub begin_window : (book : Book) (numbers : List ℕ) (c : CoreValue I) (first count : ℕ)
         → Stands feed faults book numbers c → IsPlan c.fixed.plan
-        → Stands feed faults book (faults_of faults c.fixed.plan c.table) (begun c first count)
+        → Stands feed faults book (faults_of faults c.fixed.plan c.table) (after_begin c first count)
     pub end_window : (book : Book) (numbers : List ℕ) (c : CoreValue I)
-        → Stands feed faults book numbers c → Stands feed faults book numbers (ended c)
+        → Stands feed faults book numbers c → Stands feed faults book numbers (after_end c)
     -- a new core stands for the frames of its sources, where all are told, and for their faults
     pub new : (plan : List Application) (root workers : ℕ) (cache : Cached) (table : List (Place × Slot I))
         → IsPlan plan → cache.pairs ≡ []

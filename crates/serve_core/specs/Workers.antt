@@ -6,16 +6,14 @@ use Rattle.frame_cache.specs.Cached.{at_key}
 use Rattle.inst_table.specs.declared.place.Place.{Place}
 use Rattle.inst_table.specs.declared.place.Slot.TheVariants.{Leased}
 use Rattle.inst_table.specs.Places.{slot_at}
-use Rattle.serve_machine.specs.Keys.{has}
-use Rattle.serve_machine.specs.Own.{own_events}
-use Rattle.serve_machine.specs.State.{is_by}
-use Rattle.serve_machine.specs.Stops.{first_stop}
+use Rattle.serve_machine.specs.Events.{has, own_events}
+use Rattle.serve_machine.specs.Machine.{is_by, first_stop}
 use Rattle.serve_machine.specs.Holdings.{Holdings, has_number, own_holdings, claims_of}
 use Rattle.serve_core.specs.Kept.{leases_out}
 use Rattle.serve_core.specs.CoreValue.{CoreValue}
 use Rattle.serve_core.specs.Holds.{claims_at, holds_none}
 use Rattle.serve_core.specs.Runs.{IsRun}
-use Rattle.serve_machine.specs.Worked.{takes}
+use Rattle.serve_machine.specs.Work.{takes}
 
 module _ {I : Type 0} where
   -- what the worker's own events say that it has

@@ -13,8 +13,7 @@ impl<I: Held> Booked for Core<I> {
     type Entry = Event;
 
     ghost use Rattle.serve_machine.specs.Events.{worker_of};
-    ghost use Rattle.serve_core.specs.Steady.{IsSteady};
-    ghost use Rattle.serve_core.specs.Turns.{StandsFor};
+    ghost use Rattle.serve_core.specs.Turns.{IsSteady, StandsFor};
 
     ghost entries = { λ c. c.journal };
 

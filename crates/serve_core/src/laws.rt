@@ -1,9 +1,7 @@
 // What the definitions of the calls have in common, and what the journal of a core tells.
 ghost use Rattle.serve_core.specs.Stands.{CallsStand};
-ghost use Rattle.serve_core.specs.Steady.{TurnsAreSteady};
-ghost use Rattle.serve_core.specs.Told.{RunsAreTold};
-ghost use Rattle.serve_core.specs.Turns.{TurnsStand};
-ghost use Rattle.serve_core.specs.WindowRuns.{WindowsAreRuns};
+ghost use Rattle.serve_core.specs.Turns.{TurnsAreSteady, TurnsStand};
+ghost use Rattle.serve_core.specs.Runs.{RunsAreTold, WindowsAreRuns};
 ghost use Rattle.serve_core.specs.Workers.{OwnEventsTell, WorkersTell};
 
 use inst_table::Held;

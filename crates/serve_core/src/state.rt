@@ -9,17 +9,16 @@ ghost use Rattle.clip_graph.specs.Unfolding.{input_keys};
 ghost use Rattle.frame_cache.specs.Cached.{at_key, Differ};
 ghost use Rattle.inst_table.specs.Places.{slot_at, PlacesDiffer};
 ghost use Rattle.inst_table.specs.declared.place.Slot.TheVariants.{Leased};
-ghost use Rattle.serve_machine.specs.Keys.{IsKey, frame_key, mode_at};
-ghost use Rattle.serve_machine.specs.Own.{has_got, has_got_all, may_fail, names_source};
+ghost use Rattle.serve_machine.specs.Events.{IsKey, frame_key, mode_at, has_got, has_got_all, may_fail, names_source};
 ghost use Rattle.serve_machine.specs.SerialRun.{eviction};
-ghost use Rattle.serve_core.specs.Calls.{Asked, Admits, left, published, abandoned};
-ghost use Rattle.serve_core.specs.Calls.{TookOutput, delivered, failing, made, begun, ended};
+ghost use Rattle.serve_core.specs.Calls.{Asked, Admits, after_leave, after_publish, after_abandon};
+ghost use Rattle.serve_core.specs.Calls.{TookOutput, after_deliver, after_fail, made, after_begin, after_end};
 ghost use Rattle.serve_core.specs.Holds.{claims_at, holds_none, newest, IsThere};
 ghost use Rattle.serve_core.specs.Kept.{leases_out, IsBetween, IsUndelivered, AnswerIsShaped, AnswerHolds};
 ghost use Rattle.serve_core.specs.Runs.{IsRun};
 ghost use Rattle.serve_core.specs.Sources.{shape_at, opened_at, IsFurnished, HoldTheirs};
 ghost use Rattle.serve_machine.specs.Holdings.{claims_of};
-ghost use Rattle.serve_machine.specs.Stops.{kept_stop, first_stop};
+ghost use Rattle.serve_machine.specs.Machine.{kept_stop, first_stop};
 
 use crate::answers::{Admitted, Ask, Finished};
 use crate::claims::{claimant, close, newest_of};
@@ -223,7 +222,7 @@ impl<I: Held> Core<I> {
         requires some { 0 < count }
         requires few { count ≤ 32 }
         requires numbers { first + count ≤ (application_at self.old.fixed.plan self.old.fixed.root).info.frames }
-        ensures ok { OnOk result (self.new ≡ begun self.old first count) }
+        ensures ok { OnOk result (self.new ≡ after_begin self.old first count) }
         ensures err { OnErr result (self.new ≡ self.old) }
 
         // What is true of every core between windows.
@@ -334,7 +333,7 @@ impl<I: Held> Core<I> {
         requires worker { worker < self.old.fixed.workers }
         requires lease { slot_at lease.place self.old.table ≡ Some (Leased worker) }
         requires source { I.holds lease.value ≡ opened_at self.old.fixed.plan lease.place.node }
-        ensures { self.new ≡ left self.old worker lease.place lease.value }
+        ensures { self.new ≡ after_leave self.old worker lease.place lease.value }
     {
         let node = lease.node();
         let instance = lease.instance();
@@ -356,7 +355,7 @@ impl<I: Held> Core<I> {
         requires hands { holds_none worker self.old.table ≡ true }
         requires got { has_got_all worker (input_keys self.old.fixed.plan key) self.old.journal ≡ true }
         requires shape { frame.shape ≡ shape_at self.old.fixed.plan key.node }
-        ensures ok { OnOk result (self.new ≡ published self.old worker key frame) }
+        ensures ok { OnOk result (self.new ≡ after_publish self.old worker key frame) }
         ensures err { OnErr result (self.new ≡ self.old) }
     {
         // There are no more frames than the capacity.
@@ -374,7 +373,7 @@ impl<I: Held> Core<I> {
     pub fn abandon(&mut self, worker: u32, key: Key)
         requires worker { worker < self.old.fixed.workers }
         requires claim { at_key key self.old.claims ≡ Some worker }
-        ensures { self.new ≡ abandoned self.old worker key }
+        ensures { self.new ≡ after_abandon self.old worker key }
     {
         close(&mut self.claims, key);
         self.owed -= 2;
@@ -389,7 +388,7 @@ impl<I: Held> Core<I> {
         requires open { slice_get self.old.outputs.frames (n - self.old.fixed.first) ≡ Some None }
         requires got { has_got worker (frame_key self.old.fixed.root n) self.old.journal ≡ true }
         requires shape { frame.shape ≡ shape_at self.old.fixed.plan self.old.fixed.root }
-        ensures { self.new ≡ delivered self.old worker n frame }
+        ensures { self.new ≡ after_deliver self.old worker n frame }
     {
         self.frames[(n - self.first) as usize] = Some(frame);
         self.owed -= 1;
@@ -404,7 +403,7 @@ impl<I: Held> Core<I> {
         requires cause { may_fail worker stop self.old.journal ≡ true }
         requires source { names_source self.old.fixed.plan stop ≡ true }
         requires there { IsThere self.old.table stop }
-        ensures { self.new ≡ failing self.old worker stop }
+        ensures { self.new ≡ after_fail self.old worker stop }
     {
         self.failed[worker as usize] = true;
         self.stop = Some(first_of(self.stop, stop));
@@ -417,7 +416,7 @@ impl<I: Held> Core<I> {
     pub fn end_window(&mut self) -> Finished
         requires claims { self.old.claims ≡ [] }
         requires leases { leases_out self.old.table ≡ 0 }
-        ensures core { self.new ≡ ended self.old }
+        ensures core { self.new ≡ after_end self.old }
         ensures frames { result.frames.items ≡ self.old.outputs.frames }
         ensures stop { result.stop ≡ self.old.stop }
         ensures events { result.events.items ≡ self.old.journal }

@@ -3,7 +3,7 @@ ghost use Rattle.std.specs.Prelude.{◌≡◌, ◌≤◌, false, List, Option, I
 ghost use Rattle.fv_plane.specs.Picture.{Picture};
 ghost use Rattle.clip_graph.specs.Plan.{application_at, is_source};
 ghost use Rattle.clip_graph.specs.Unfolding.{AreOfKeys, input_keys};
-ghost use Rattle.serve_machine.specs.Keys.{IsKey};
+ghost use Rattle.serve_machine.specs.Events.{IsKey};
 ghost use Rattle.serve_core.specs.Sources.{opened_at};
 ghost use Rattle.serve_core.specs.Works.{IsMade, MakeStops};
 

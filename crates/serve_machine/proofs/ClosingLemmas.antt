@@ -11,15 +11,13 @@ use Rattle.clip_graph.proofs.UnfoldingLemmas.{inputs_are_keys}
 use Rattle.serve_machine.specs.declared.event.Event.{Event}
 use Rattle.serve_machine.specs.declared.event.Event.TheVariants.{Enter, Leave, Publish, Abandon, Take, Deliver}
 use Rattle.serve_machine.specs.declared.event.WindowStop.{WindowStop}
-use Rattle.serve_machine.specs.Keys.{frame_key, same_key, without, mode_at, instance_of}
-use Rattle.serve_machine.specs.Own.{has_got, has_got_all}
+use Rattle.serve_machine.specs.Events.{frame_key, same_key, without, mode_at, instance_of, has_got, has_got_all}
 use Rattle.serve_machine.specs.SerialRun.{eviction, leases}
-use Rattle.serve_machine.specs.Work.{Production, hit, made, Productions, done, more, CutShort, refused, inside, entered, unpublished, CutInputs, between, within, Deliveries, none, also, CutDeliveries, untaken, taken}
+use Rattle.serve_machine.specs.Work.{Production, hit, made, Productions, done, more, CutShort, refused, inside, entered, unpublished, CutInputs, between, within, Deliveries, none, also, CutDeliveries, untaken, taken, AllPast, abandons, nothing, IsIdle, WorkCloses}
 use Rattle.serve_machine.proofs.KeyLemmas.{test, left_true, right_true, same_keys, key_itself}
 use Rattle.serve_machine.proofs.OwnLemmas.{was_got, now_got, hit_got, publish_got}
 use Rattle.serve_machine.specs.Holdings.{Holdings, next_holdings, holdings_after, own_holdings}
-use Rattle.serve_machine.specs.Stops.{stop_of, earlier, first_stop}
-use Rattle.serve_machine.specs.Closing.{AllPast, abandons, nothing, IsIdle, WorkCloses}
+use Rattle.serve_machine.specs.Machine.{stop_of, earlier, first_stop}
 
 -- Events after events.
 

@@ -7,9 +7,8 @@ use Rattle.frame_cache.specs.Cached.{same_key, at_key}
 use Rattle.frame_cache.proofs.CallerLemmas.{test, left_true, right_true}
 use Rattle.serve_machine.specs.declared.event.Event.{Event}
 use Rattle.serve_machine.specs.declared.event.Event.TheVariants.{Hit, Claim, Enter, Leave, Evict, Publish, Abandon, Take, Deliver, Fail}
-use Rattle.serve_machine.specs.Own.{gives, has_got, has_got_all, enters, has_entered}
-use Rattle.serve_machine.specs.State.{State, is_entered, noted, with_told, got_at, gathered}
-use Rattle.serve_machine.specs.Machine.{Machine, meets, allowed, change, replay}
+use Rattle.serve_machine.specs.Events.{gives, has_got, has_got_all, enters, has_entered}
+use Rattle.serve_machine.specs.Machine.{State, is_entered, noted, with_told, got_at, gathered, Machine, meets, allowed, change, replay}
 use Rattle.serve_machine.proofs.TruthLemmas.{either, or_true}
 
 later : {b : Bool} → (false ≡ true) ⊎ (b ≡ true) → b ≡ true

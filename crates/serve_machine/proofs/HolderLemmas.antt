@@ -10,8 +10,7 @@ use Rattle.inst_table.specs.Places.{same_place}
 use Rattle.inst_table.proofs.CallerLemmas.{same_places}
 use Rattle.serve_machine.specs.declared.event.Event.{Event}
 use Rattle.serve_machine.specs.declared.event.Event.TheVariants.{Hit, Claim, Enter, Leave, Evict, Publish, Abandon, Take, Deliver, Fail}
-use Rattle.serve_machine.specs.State.{State, place_named, is_open, is_some_and, is_by}
-use Rattle.serve_machine.specs.Machine.{Machine, meets, allowed, change, replay}
+use Rattle.serve_machine.specs.Machine.{State, place_named, is_open, is_some_and, is_by, Machine, meets, allowed, change, replay}
 use Rattle.serve_machine.specs.Law.{uses_of, TakeTurns, unused, out, back, worker_at, holder_of}
 use Rattle.serve_machine.proofs.TruthLemmas.{held_some, open_none, some_same}
 

@@ -15,13 +15,9 @@ use Rattle.inst_table.proofs.CallerLemmas.{same_places}
 use Rattle.serve_machine.specs.declared.event.Event.{Event}
 use Rattle.serve_machine.specs.declared.event.Event.TheVariants.{Hit, Claim, Enter, Leave, Evict, Publish, Abandon, Take, Deliver, Fail}
 use Rattle.serve_machine.specs.declared.event.WindowStop.{WindowStop}
-use Rattle.serve_machine.specs.Events.{worker_of}
-use Rattle.serve_machine.specs.Keys.{has, frame_key}
-use Rattle.serve_machine.specs.Own.{gives, has_got, enters, has_entered, own_events}
+use Rattle.serve_machine.specs.Events.{worker_of, has, frame_key, gives, has_got, enters, has_entered, own_events}
 use Rattle.serve_machine.proofs.OwnLemmas.{is_own}
-use Rattle.serve_machine.specs.State.{State, place_named, is_by, is_entered, noted, got_at, gathered}
-use Rattle.serve_machine.specs.Machine.{Machine, meets, allowed, change, replay}
-use Rattle.serve_machine.specs.Stops.{stop_of, earlier, first_stop}
+use Rattle.serve_machine.specs.Machine.{State, place_named, is_by, is_entered, noted, got_at, gathered, Machine, meets, allowed, change, replay, stop_of, earlier, first_stop}
 use Rattle.serve_machine.specs.Law.{start_of}
 use Rattle.serve_machine.specs.Holdings.{Holdings, leases_of, outputs_of, holdings_of, has_number, without_number, next_holdings, holdings_after, own_holdings, IsOpenOutput, IsToldBy, OwnEventsTell}
 use Rattle.serve_machine.proofs.GotLemmas.{mapped}

@@ -12,9 +12,8 @@ use Rattle.frame_cache.specs.Cached.{same_key, at_key, has_key, without_key, fro
 use Rattle.frame_cache.proofs.CallerLemmas.{test, left_true, right_true, same_keys, at_fronted, at_take, none_take, some_without, some_push, length_without, others, nowhere, differ_push, differ_without, gone}
 use Rattle.serve_machine.specs.declared.event.Event.{Event}
 use Rattle.serve_machine.specs.declared.event.Event.TheVariants.{Hit, Claim, Enter, Leave, Evict, Publish, Abandon, Take, Deliver, Fail}
-use Rattle.serve_machine.specs.Keys.{IsKey, frame_key}
-use Rattle.serve_machine.specs.State.{State, is_key, noted, with_told, got_at, gathered}
-use Rattle.serve_machine.specs.Machine.{Machine, meets, allowed, change, replay}
+use Rattle.serve_machine.specs.Events.{IsKey, frame_key}
+use Rattle.serve_machine.specs.Machine.{State, is_key, noted, with_told, got_at, gathered, Machine, meets, allowed, change, replay}
 use Rattle.serve_machine.specs.Law.{AreRight, GotRight, DeliveredRight, Makes}
 use Rattle.serve_machine.proofs.TruthLemmas.{by_there, none_there, not_true, some_same}
 

@@ -2,7 +2,7 @@
 use Rattle.std.proofs.Common.{◌≡◌, ◌⊎◌, Bool, true, false, ◌&&◌, refl, inl, inr, eq-eqb}
 use Rattle.std.proofs.lemmas.Bool.{eqb-true}
 use Rattle.fv_plane.specs.declared.key.Key.{Key}
-use Rattle.serve_machine.specs.Keys.{same_key}
+use Rattle.serve_machine.specs.Events.{same_key}
 
 pub test : (b : Bool) → (b ≡ true) ⊎ (b ≡ false)
 test true = inl refl

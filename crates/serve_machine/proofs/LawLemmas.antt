@@ -9,8 +9,7 @@ use Rattle.frame_cache.specs.Cached.{Differ}
 use Rattle.frame_cache.proofs.CallerLemmas.{test}
 use Rattle.inst_table.specs.declared.place.Place.{Place}
 use Rattle.serve_machine.specs.declared.event.Event.{Event}
-use Rattle.serve_machine.specs.State.{State, got_at}
-use Rattle.serve_machine.specs.Machine.{Machine, allowed, change, replay}
+use Rattle.serve_machine.specs.Machine.{State, got_at, Machine, allowed, change, replay}
 use Rattle.serve_machine.specs.Law.{start_of, Makes, IsOpening, IsRefined, RunsRefine, told_machine, ToldRunsRefine}
 use Rattle.serve_machine.proofs.GotLemmas.{got_law}
 use Rattle.serve_machine.proofs.KeptLemmas.{Keys, keys_law, Frames, frames_law}

@@ -13,11 +13,9 @@ use Rattle.serve_machine.specs.declared.event.Event.{Event}
 use Rattle.serve_machine.specs.declared.event.Event.TheVariants.{Hit, Claim, Enter, Leave, Evict, Publish, Abandon, Take, Deliver, Fail}
 use Rattle.serve_machine.specs.declared.event.WindowStop.{WindowStop}
 use Rattle.serve_machine.specs.declared.event.WindowStop.TheVariants.{Read, Changed, Memory}
-use Rattle.serve_machine.specs.Keys.{frame_key}
-use Rattle.serve_machine.specs.State.{State, is_key, is_open, is_some_and, is_by, holds_nothing, noted, is_running, got_at, gathered}
-use Rattle.serve_machine.specs.Stops.{stop_of, is_changed, has_changed}
-use Rattle.serve_machine.specs.Machine.{Machine, may_stop, meets, allowed, change, replay}
-use Rattle.serve_machine.specs.Lifted.{seen, seen_state, bare, keys_machine, IsLifted, RunsLift}
+use Rattle.serve_machine.specs.Events.{frame_key}
+use Rattle.serve_machine.specs.Machine.{State, is_key, is_open, is_some_and, is_by, holds_nothing, noted, is_running, got_at, gathered, stop_of, is_changed, has_changed, Machine, may_stop, meets, allowed, change, replay}
+use Rattle.serve_machine.specs.Law.{seen, seen_state, bare, keys_machine, IsLifted, RunsLift}
 use Rattle.serve_machine.proofs.SeenLemmas.{take_seen, keys_seen, noted_seen, length_seen, fronted_seen, is_some_seen, has_seen, got_seen, gathered_seen, lookup_seen}
 use Rattle.serve_machine.proofs.TruthLemmas.{or_left, or_right, some_same}
 

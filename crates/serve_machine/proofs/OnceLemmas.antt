@@ -12,20 +12,15 @@ use Rattle.inst_table.proofs.CallerLemmas.{test}
 use Rattle.serve_machine.specs.declared.event.Event.{Event}
 use Rattle.serve_machine.specs.declared.event.Event.TheVariants.{Hit, Claim, Enter, Leave, Evict, Publish, Abandon, Take, Deliver, Fail}
 use Rattle.serve_machine.specs.declared.event.WindowStop.{WindowStop}
-use Rattle.serve_machine.specs.Events.{worker_of}
-use Rattle.serve_machine.specs.Own.{own_events}
-use Rattle.serve_machine.specs.Windows.{WindowEvents}
-use Rattle.serve_machine.specs.Work.{FailedWork, failed}
+use Rattle.serve_machine.specs.Events.{worker_of, own_events, WindowEvents}
+use Rattle.serve_machine.specs.Work.{FailedWork, failed, IsWork}
 use Rattle.serve_machine.proofs.KeyLemmas.{left_true, right_true}
 use Rattle.serve_machine.specs.Law.{start_of}
-use Rattle.serve_machine.specs.Machine.{Machine, meets, allowed, change, replay}
-use Rattle.serve_machine.specs.Renders.{in_window, after_window, AreRuns, done, next, all_events, is_claim, has_claimed, IsReached, TakesBelow}
-use Rattle.serve_machine.specs.State.{State, is_running}
+use Rattle.serve_machine.specs.Machine.{Machine, meets, allowed, change, replay, State, is_running}
+use Rattle.serve_machine.specs.Journals.{in_window, after_window, AreRuns, done, next, all_events, is_claim, has_claimed, IsReached, TakesBelow, KeyCache, crew_machine, IsWholeWindow, IsCutWindow, IsNext, AreWhole, none, also, AreCrewCut, CrewsMakeOnce, CutCrewsMakeOnce}
 use Rattle.serve_machine.proofs.ReachLemmas.{first_below, outputs_below, work_reaches, cut_work_reaches}
 use Rattle.serve_machine.proofs.RenderLemmas.{makes_once}
 use Rattle.serve_machine.proofs.TruthLemmas.{either, or_true}
-use Rattle.serve_machine.specs.Worked.{IsWork}
-use Rattle.serve_machine.specs.CrewJournal.{KeyCache, crew_machine, IsWholeWindow, IsCutWindow, IsNext, AreWhole, none, also, AreCrewCut, CrewsMakeOnce, CutCrewsMakeOnce}
 
 -- RUNS
 

@@ -6,8 +6,7 @@ use Rattle.serve_machine.specs.declared.event.Event.{Event}
 use Rattle.serve_machine.specs.declared.event.Event.TheVariants.{Hit, Claim, Enter, Leave, Evict, Publish, Abandon, Take, Deliver, Fail}
 use Rattle.serve_machine.specs.declared.event.WindowStop.{WindowStop}
 use Rattle.serve_machine.specs.declared.event.WindowStop.TheVariants.{Read, Changed, Memory}
-use Rattle.serve_machine.specs.Events.{worker_of}
-use Rattle.serve_machine.specs.Own.{gives, has_got, has_got_all, enters, has_entered, may_fail, own_events, IsOwn}
+use Rattle.serve_machine.specs.Events.{worker_of, gives, has_got, has_got_all, enters, has_entered, may_fail, own_events, IsOwn}
 use Rattle.serve_machine.specs.SerialRun.{eviction}
 use Rattle.serve_machine.proofs.KeyLemmas.{test, left_true, right_true, key_itself}
 

@@ -8,11 +8,10 @@ use Rattle.frame_cache.specs.Cached.{same_key}
 use Rattle.frame_cache.proofs.CallerLemmas.{same_keys, key_itself}
 use Rattle.serve_machine.specs.declared.event.Event.{Event}
 use Rattle.serve_machine.specs.declared.event.Event.TheVariants.{Abandon, Enter, Leave, Publish, Take, Deliver}
-use Rattle.serve_machine.specs.Keys.{frame_key, has, mode_at, instance_of}
+use Rattle.serve_machine.specs.Events.{frame_key, has, mode_at, instance_of}
 use Rattle.serve_machine.specs.SerialRun.{eviction, leases}
-use Rattle.serve_machine.specs.Work.{Production, hit, made, Productions, done, more, Deliveries, none, also}
-use Rattle.serve_machine.specs.Work.{CutShort, refused, inside, entered, unpublished, CutInputs, between, within, CutDeliveries, untaken, taken}
-use Rattle.serve_machine.specs.Renders.{is_claim, has_claimed, IsReached, output, input, TakesBelow, WorkReaches, CutWorkReaches}
+use Rattle.serve_machine.specs.Work.{Production, hit, made, Productions, done, more, Deliveries, none, also, CutShort, refused, inside, entered, unpublished, CutInputs, between, within, CutDeliveries, untaken, taken}
+use Rattle.serve_machine.specs.Journals.{is_claim, has_claimed, IsReached, output, input, TakesBelow, WorkReaches, CutWorkReaches}
 use Rattle.serve_machine.proofs.TruthLemmas.{either, or_true}
 
 -- a claim of two lists is one of the first or of the second

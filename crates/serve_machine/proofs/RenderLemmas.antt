@@ -12,12 +12,10 @@ use Rattle.frame_cache.proofs.CallerLemmas.{test, left_true, right_true, same_ke
 use Rattle.inst_table.specs.declared.place.Place.{Place}
 use Rattle.serve_machine.specs.declared.event.Event.{Event}
 use Rattle.serve_machine.specs.declared.event.Event.TheVariants.{Hit, Claim, Enter, Leave, Evict, Publish, Abandon, Take, Deliver, Fail}
-use Rattle.serve_machine.specs.Keys.{has, without}
-use Rattle.serve_machine.specs.Windows.{WindowEvents}
-use Rattle.serve_machine.specs.State.{State, noted, gathered}
-use Rattle.serve_machine.specs.Machine.{Machine, meets, allowed, change, replay}
+use Rattle.serve_machine.specs.Events.{has, without, WindowEvents}
+use Rattle.serve_machine.specs.Machine.{State, noted, gathered, Machine, meets, allowed, change, replay}
 use Rattle.serve_machine.specs.Law.{start_of}
-use Rattle.serve_machine.specs.Renders.{in_window, AreRuns, done, next, all_events, is_eviction, has_evicted, is_publication, publications, is_claim, has_claimed, MakesOnce}
+use Rattle.serve_machine.specs.Journals.{in_window, AreRuns, done, next, all_events, is_eviction, has_evicted, is_publication, publications, is_claim, has_claimed, MakesOnce}
 use Rattle.serve_machine.proofs.KeptLemmas.{Keys, its_claim, keys_step, keys_law}
 use Rattle.serve_machine.proofs.GotLemmas.{mapped}
 use Rattle.serve_machine.proofs.LawLemmas.{differ_none, no_claims}

@@ -6,8 +6,8 @@ use Rattle.std.specs.Map.{keys_of, lookup, set_value, remove_entry}
 use Rattle.std.proofs.lemmas.List.{length-map}
 use Rattle.fv_plane.specs.declared.key.Key.{Key}
 use Rattle.frame_cache.specs.Cached.{same_key, at_key, has_key, without_key, fronted}
-use Rattle.serve_machine.specs.State.{noted, with_told, got_at, gathered}
-use Rattle.serve_machine.specs.Lifted.{seen}
+use Rattle.serve_machine.specs.Machine.{noted, with_told, got_at, gathered}
+use Rattle.serve_machine.specs.Law.{seen}
 
 module _ {K X Y : Type 0} (see : X → Y) where
   pub lookup_seen : (t : K → Bool) (es : List (K × X)) → lookup t (seen see es) ≡ option_map see (lookup t es)

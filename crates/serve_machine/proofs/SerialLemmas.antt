@@ -9,7 +9,7 @@ use Rattle.clip_graph.proofs.UnfoldingLemmas.{inputs_are_keys}
 use Rattle.serve_machine.specs.declared.event.Event.{Event}
 use Rattle.serve_machine.specs.declared.event.Event.TheVariants.{Take, Fail}
 use Rattle.serve_machine.specs.declared.event.WindowStop.{WindowStop}
-use Rattle.serve_machine.specs.Keys.{frame_key, has}
+use Rattle.serve_machine.specs.Events.{frame_key, has}
 use Rattle.serve_machine.specs.SerialRun.{Serial, each_produced, serial_production_within, serial_production, serial_window}
 use Rattle.serve_machine.specs.Work.{Production, Productions, hit, made, done, more, Deliveries, none, also, CutShort, untaken, taken, FailedWork, failed, SerialIsWhole}
 use Rattle.serve_machine.proofs.KeyLemmas.{test}

@@ -3,7 +3,7 @@ use Rattle.std.proofs.Common.{◌≡◌, ◌⊎◌, ℕ, Bool, true, false, not,
 use Rattle.std.specs.Prelude.{is_some}
 use Rattle.std.proofs.lemmas.Bool.{eqb-true}
 use Rattle.frame_cache.proofs.CallerLemmas.{absent}
-use Rattle.serve_machine.specs.State.{is_open, is_some_and, is_by}
+use Rattle.serve_machine.specs.Machine.{is_open, is_some_and, is_by}
 
 pub not_true : (a : Bool) → not a ≡ true → a ≡ false
 not_true true h = sym h

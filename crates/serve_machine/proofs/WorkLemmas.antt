@@ -7,10 +7,8 @@ use Rattle.serve_machine.specs.declared.event.Event.{Event}
 use Rattle.serve_machine.specs.declared.event.Event.TheVariants.{Claim, Enter, Leave, Abandon, Take, Fail}
 use Rattle.serve_machine.specs.declared.event.WindowStop.{WindowStop}
 use Rattle.serve_machine.specs.declared.event.WindowStop.TheVariants.{Read}
-use Rattle.serve_machine.specs.Events.{worker_of}
+use Rattle.serve_machine.specs.Events.{worker_of, frame_key, own_events}
 use Rattle.serve_machine.specs.SerialExamples.{trimmed, two_workers}
-use Rattle.serve_machine.specs.Keys.{frame_key}
-use Rattle.serve_machine.specs.Own.{own_events}
 use Rattle.serve_machine.specs.Work.{done, none, inside, between, unpublished, taken, FailedWork, failed, StoppedWork, AloneFails}
 use Rattle.serve_machine.proofs.KeyLemmas.{test}
 

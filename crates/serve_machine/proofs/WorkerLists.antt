@@ -10,8 +10,8 @@ use Rattle.frame_cache.proofs.CallerLemmas.{test, left_true, right_true, same_ke
 use Rattle.inst_table.specs.declared.place.Place.{Place}
 use Rattle.inst_table.specs.Places.{same_place}
 use Rattle.inst_table.proofs.CallerLemmas.{same_places}
-use Rattle.serve_machine.specs.Keys.{has, without}
-use Rattle.serve_machine.specs.State.{is_open, is_by, holds_nothing}
+use Rattle.serve_machine.specs.Events.{has, without}
+use Rattle.serve_machine.specs.Machine.{is_open, is_by, holds_nothing}
 use Rattle.serve_machine.specs.Holdings.{claims_of, leases_of, outputs_of, has_number, without_number}
 use Rattle.serve_machine.proofs.TruthLemmas.{by_there, some_same}
 

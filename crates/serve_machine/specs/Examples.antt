@@ -4,10 +4,9 @@ use Rattle.std.specs.Prelude.{false, List, [], ◌∷◌, Option}
 use Rattle.inst_table.specs.Places.{shared_place}
 use Rattle.serve_machine.specs.declared.event.Event.{Event}
 use Rattle.serve_machine.specs.declared.event.Event.TheVariants.{Hit, Claim, Enter, Leave, Evict, Publish}
-use Rattle.serve_machine.specs.Keys.{frame_key}
+use Rattle.serve_machine.specs.Events.{frame_key}
 use Rattle.serve_machine.specs.SerialExamples.{trimmed}
-use Rattle.serve_machine.specs.State.{State}
-use Rattle.serve_machine.specs.Machine.{Machine, replay}
+use Rattle.serve_machine.specs.Machine.{State, Machine, replay}
 use Rattle.serve_machine.specs.Law.{start_of}
 
 -- the book is not told

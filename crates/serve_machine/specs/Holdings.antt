@@ -8,12 +8,8 @@ use Rattle.inst_table.specs.declared.place.Place.{Place}
 use Rattle.inst_table.specs.Places.{same_place}
 use Rattle.serve_machine.specs.declared.event.Event.{Event}
 use Rattle.serve_machine.specs.declared.event.Event.TheVariants.{Hit, Claim, Enter, Leave, Evict, Publish, Abandon, Take, Deliver, Fail}
-use Rattle.serve_machine.specs.Events.{worker_of}
-use Rattle.serve_machine.specs.Keys.{has, without}
-use Rattle.serve_machine.specs.Own.{has_got, has_entered, own_events}
-use Rattle.serve_machine.specs.State.{Fixed, State, place_named, is_open, is_by, holds_nothing, is_entered, got_at}
-use Rattle.serve_machine.specs.Stops.{first_stop}
-use Rattle.serve_machine.specs.Machine.{Machine, allowed, change, replay}
+use Rattle.serve_machine.specs.Events.{worker_of, has, without, has_got, has_entered, own_events}
+use Rattle.serve_machine.specs.Machine.{Fixed, State, place_named, is_open, is_by, holds_nothing, is_entered, got_at, first_stop, Machine, allowed, change, replay}
 use Rattle.serve_machine.specs.Law.{start_of}
 
 -- what a worker still has to close

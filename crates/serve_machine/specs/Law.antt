@@ -1,5 +1,5 @@
--- What holds of every run.
-use Rattle.std.specs.Prelude.{◌≡◌, ℕ, ◌+◌, ◌≤◌, ◌==◌, Bool, true, false, ◌&&◌, if◌then◌else◌, List, [], ◌∷◌, ◌++◌, length, map, slice_get, Option, Some, None}
+-- What holds of every run, and runs of keys alone beside those over frames.
+use Rattle.std.specs.Prelude.{◌≡◌, ℕ, ◌+◌, ◌≤◌, ◌==◌, Bool, true, false, ◌&&◌, if◌then◌else◌, List, [], ◌∷◌, ◌++◌, length, map, slice_get, Option, Some, None, option_map}
 use Rattle.std.specs.Map.{lookup}
 use Rattle.fv_plane.specs.Picture.{Picture}
 use Rattle.fv_plane.specs.declared.key.Key.{Key}
@@ -10,9 +10,8 @@ use Rattle.inst_table.specs.declared.place.Place.{Place}
 use Rattle.inst_table.specs.Places.{same_place}
 use Rattle.serve_machine.specs.declared.event.Event.{Event}
 use Rattle.serve_machine.specs.declared.event.Event.TheVariants.{Enter, Leave}
-use Rattle.serve_machine.specs.Keys.{IsKey, frame_key}
-use Rattle.serve_machine.specs.State.{Fixed, State, opening, place_named, got_at}
-use Rattle.serve_machine.specs.Machine.{Machine, replay}
+use Rattle.serve_machine.specs.Events.{IsKey, frame_key}
+use Rattle.serve_machine.specs.Machine.{Fixed, State, opening, place_named, got_at, Machine, replay, has_changed}
 
 module _ {F : Type 0} (pix : Key → F) where
   -- each frame is the one that its key stands for
@@ -103,3 +102,46 @@ ToldRunsRefine = (book : List (List Picture)) (fixed : Fixed) (cache : List (Key
     → replay (told_machine book fixed) (start_of (told_machine book fixed) cache places) events ≡ Some s
     → IsRefined (told_machine book fixed) (key_picture book fixed.plan)
     (start_of (told_machine book fixed) cache places) events s
+
+-- ---- Runs of keys alone, and runs over frames.
+
+-- the values are seen through a function
+abbrev pub seen : {K X Y : Type 0} → (X → Y) → List (K × X) → List (K × Y)
+seen see es = map (λ e. (e.0, see e.1)) es
+
+-- the frames are seen through a function
+abbrev pub seen_state : {F G : Type 0} → (F → G) → State F → State G
+seen_state see s = record {
+  cache = seen see s.cache;
+  claims = s.claims;
+  places = s.places;
+  got = seen see s.got;
+  entered = s.entered;
+  taken = s.taken;
+  frames = map (option_map see) s.frames;
+  awaits = s.awaits;
+  failed = s.failed;
+  stop = s.stop;
+}
+
+-- a frame that is there, and no more
+abbrev pub bare : {F : Type 0} → F → Unit {0}
+bare x = tt
+
+-- the machine of keys alone, whose book is not told
+abbrev pub keys_machine : Fixed → Machine (Unit {0})
+keys_machine fixed = record { fixed = fixed; make = λ k frames. tt; is_told = false }
+
+-- the events lead from the start to a state with these keys
+pub record IsLifted {F : Type 0} (m : Machine F) (start : State F) (events : List Event) (keys : State (Unit {0}))
+    : Type 0 where
+  pub state : State F
+  pub runs : replay m start events ≡ Some state
+  pub same : seen_state bare state ≡ keys
+
+-- a run of keys is a run over frames too, since an event asks of a frame only whether it is there; over a told book no
+-- source may have ended too early
+abbrev pub RunsLift : Type 0 → Type 0
+RunsLift F = (m : Machine F) (start : State F) (events : List Event) (keys : State (Unit {0}))
+    → (m.is_told ≡ true → has_changed events ≡ false)
+    → replay (keys_machine m.fixed) (seen_state bare start) events ≡ Some keys → IsLifted m start events keys

@@ -9,7 +9,7 @@ use Rattle.clip_term.specs.declared.op.TrimBound.TheVariants.{Last}
 use Rattle.serve_machine.specs.declared.event.Event.{Event}
 use Rattle.serve_machine.specs.declared.event.Event.TheVariants.{Claim, Enter, Leave, Evict, Publish, Abandon, Take, Deliver, Fail}
 use Rattle.serve_machine.specs.declared.event.WindowStop.TheVariants.{Read}
-use Rattle.serve_machine.specs.Keys.{frame_key}
+use Rattle.serve_machine.specs.Events.{frame_key}
 
 abbrev pub three_frames : Info
 three_frames = record no_info { frames = 3 }

@@ -5,8 +5,7 @@ use Rattle.clip_graph.specs.Plan.{Application}
 use Rattle.clip_graph.specs.Unfolding.{input_keys}
 use Rattle.serve_machine.specs.declared.event.Event.{Event}
 use Rattle.serve_machine.specs.declared.event.Event.TheVariants.{Hit, Claim, Enter, Leave, Evict, Publish, Take, Deliver}
-use Rattle.serve_machine.specs.Keys.{frame_key, has, without, mode_at, instance_of}
-use Rattle.serve_machine.specs.Windows.{WindowEvents}
+use Rattle.serve_machine.specs.Events.{frame_key, has, without, mode_at, instance_of, WindowEvents}
 
 -- a stretch of events, and the keys after it
 pub record Serial : Type 0 where

@@ -1,15 +1,16 @@
--- The events that a worker may make, whole or cut short by a stop.
-use Rattle.std.specs.Prelude.{◌≡◌, ◌⊎◌, ℕ, ◌<◌, List, [], ◌∷◌, ◌++◌, Option, length, Contains}
-use Rattle.std.specs.List.{range_with_len}
+-- The work of a worker: the events that it may make, whole or cut short by a stop, and what it leaves open.
+use Rattle.std.specs.Prelude.{◌≡◌, ◌⊎◌, ℕ, ◌<◌, List, [], ◌∷◌, ◌++◌, Option, length, Contains, ◌≤◌, true, None, ◌+◌}
+use Rattle.std.specs.List.{range_with_len, AllByRecursion}
 use Rattle.fv_plane.specs.declared.key.Key.{Key}
 use Rattle.clip_graph.specs.Plan.{Application, IsPlan}
 use Rattle.clip_graph.specs.Unfolding.{input_keys}
 use Rattle.serve_machine.specs.declared.event.Event.{Event}
 use Rattle.serve_machine.specs.declared.event.Event.TheVariants.{Hit, Claim, Enter, Leave, Publish, Abandon, Take, Deliver, Fail}
 use Rattle.serve_machine.specs.declared.event.WindowStop.{WindowStop}
-use Rattle.serve_machine.specs.Keys.{frame_key, mode_at, instance_of}
-use Rattle.serve_machine.specs.Own.{own_events}
+use Rattle.serve_machine.specs.Events.{frame_key, mode_at, instance_of, own_events, has_got, has_got_all}
 use Rattle.serve_machine.specs.SerialRun.{eviction, leases, serial_production, serial_window}
+use Rattle.serve_machine.specs.Holdings.{Holdings, holdings_after, own_holdings}
+use Rattle.serve_machine.specs.Machine.{first_stop}
 
 -- a key is produced: a hit, or a claim, the productions of its inputs, its instance and its publication
 mutual
@@ -88,3 +89,70 @@ pub record SerialIsWhole : Type 0 where
   pub window : (plan : List Application) (root capacity : ℕ) (keys : List Key) (first count : ℕ)
       → IsPlan plan → root < length plan
       → Deliveries plan root 0 (range_with_len first count) (serial_window plan root capacity keys first count).events
+
+-- ---- What the work of a worker leaves open, by its own events.
+
+-- all these keys are of later nodes
+abbrev pub AllPast : ℕ → List Key → Type 0
+AllPast i keys = AllByRecursion (λ k. i < k.node) keys
+
+-- all these claims are given up, the newest of them, which is the last, first
+abbrev pub abandons : ℕ → List Key → List Event
+abandons w [] = []
+abandons w (k ∷ ks) = abandons w ks ++ Abandon w k ∷ []
+
+-- the worker has nothing
+abbrev pub nothing : Holdings
+nothing = record { claims = []; leases = []; outputs = [] }
+
+-- a worker that has an instance has no other, and no work begins with one
+pub record IsIdle (i : ℕ) (h : Holdings) : Type 0 where
+  pub past : AllPast i h.claims
+  pub unlent : h.leases ≡ []
+
+pub record WorkCloses : Type 0 where
+  -- a key that is produced leaves what the worker had before, and it has got the key
+  pub production : (plan : List Application) (w : ℕ) (k : Key) (events : List Event) (h : Holdings) → IsPlan plan
+      → k.node < length plan → IsIdle k.node h → Production plan w k events → holdings_after plan h events ≡ h
+  pub productions : (plan : List Application) (w i : ℕ) (ks : List Key) (events : List Event) (h : Holdings) → IsPlan plan
+      → i ≤ length plan → AllByRecursion (λ k. k.node < i) ks → IsIdle i h
+      → Productions plan w ks events → holdings_after plan h events ≡ h
+  pub got : (plan : List Application) (w : ℕ) (k : Key) (events : List Event)
+      → Production plan w k events → has_got w k events ≡ true
+  pub got_all : (plan : List Application) (w : ℕ) (ks : List Key) (events : List Event)
+      → Productions plan w ks events → has_got_all w ks events ≡ true
+  -- no stop is among its events
+  pub running : (plan : List Application) (w : ℕ) (k : Key) (events : List Event)
+      → Production plan w k events → first_stop events ≡ None
+  -- outputs that are delivered leave nothing
+  pub deliveries : (plan : List Application) (root w : ℕ) (ns : List ℕ) (events : List Event) → IsPlan plan
+      → root < length plan → Deliveries plan root w ns events → own_holdings plan events ≡ nothing
+  -- and work that was cut short leaves no claim and no instance
+  pub cut_claims : (plan : List Application) (root w : ℕ) (done closing : List Event) → IsPlan plan → root < length plan
+      → CutDeliveries plan root w done closing → (own_holdings plan (done ++ closing)).claims ≡ []
+  pub cut_leases : (plan : List Application) (root w : ℕ) (done closing : List Event) → IsPlan plan → root < length plan
+      → CutDeliveries plan root w done closing → (own_holdings plan (done ++ closing)).leases ≡ []
+
+-- ---- The work of one worker in a window: whole, or cut short by a stop.
+
+-- the outputs that were taken
+abbrev pub takes : List Event → ℕ
+takes [] = 0
+takes (Take w n ∷ es) = takes es + 1
+takes (e ∷ es) = takes es
+
+-- outputs were delivered
+pub record Delivered (plan : List Application) (root w : ℕ) (own : List Event) : Type 0 where
+  pub outputs : List ℕ
+  pub delivered : Deliveries plan root w outputs own
+
+-- outputs were delivered until none was left, or until a stop was kept
+pub record DeliversAll (plan : List Application) (root count w : ℕ) (seen own : List Event) : Type 0 where
+  pub outputs : List ℕ
+  pub delivered : Deliveries plan root w outputs own
+  pub all : first_stop seen ≡ None → count ≤ takes seen
+
+-- the work of a worker by its own events and by all that it saw: whole, or cut short by a stop
+abbrev pub IsWork : List Application → ℕ → ℕ → ℕ → List Event → List Event → Type 0
+IsWork plan root count w seen own =
+    DeliversAll plan root count w seen own ⊎ ((why : WindowStop) × CutWork plan root w why seen own)

@@ -2,17 +2,14 @@
 ghost use Rattle.std.specs.Prelude.{◌≡◌, [], true, is_some, None};
 ghost use Rattle.serve_machine.specs.declared.event.WindowStop.TheVariants.{Read};
 ghost use Rattle.serve_machine.specs.SerialExamples.{trimmed, in_a_large_cache, in_a_cache_of_one, two_workers};
-ghost use Rattle.serve_machine.specs.Own.{IsOwn, own_events};
+ghost use Rattle.serve_machine.specs.Events.{IsOwn, own_events};
 ghost use Rattle.serve_machine.specs.SerialRun.{serial_window};
-ghost use Rattle.serve_machine.specs.Work.{SerialIsWhole, FailedWork, StoppedWork, AloneFails};
-ghost use Rattle.serve_machine.specs.Closing.{WorkCloses};
-ghost use Rattle.serve_machine.specs.CrewJournal.{CrewsMakeOnce, CutCrewsMakeOnce};
+ghost use Rattle.serve_machine.specs.Work.{SerialIsWhole, FailedWork, StoppedWork, AloneFails, WorkCloses};
+ghost use Rattle.serve_machine.specs.Journals.{CrewsMakeOnce, CutCrewsMakeOnce, MakesOnce, WorkReaches, CutWorkReaches};
 ghost use Rattle.serve_machine.specs.Examples.{ran, hit_after_eviction, publish_after_eviction};
 ghost use Rattle.serve_machine.specs.Examples.{claimed_twice, entered_twice, wrong_instance};
 ghost use Rattle.serve_machine.specs.Holdings.{OwnEventsTell};
-ghost use Rattle.serve_machine.specs.Law.{RunsRefine, ToldRunsRefine};
-ghost use Rattle.serve_machine.specs.Lifted.{RunsLift};
-ghost use Rattle.serve_machine.specs.Renders.{MakesOnce, WorkReaches, CutWorkReaches};
+ghost use Rattle.serve_machine.specs.Law.{RunsRefine, ToldRunsRefine, RunsLift};
 
 /// The events that one worker alone makes are whole work.
 #[tactic(auto, using(crate::proofs::SerialLemmas::serial_is_whole))]

@@ -1,6 +1,6 @@
 // The journals of a render, window by window.
 ghost use Rattle.std.specs.Prelude.{◌≡◌, []};
-ghost use Rattle.serve_machine.specs.Windows.{windows_of};
+ghost use Rattle.serve_machine.specs.Events.{windows_of};
 
 use crate::Event;
 use std::alloc::Global;

@@ -3,7 +3,7 @@ use Rattle.std.proofs.Common.{◌≡◌, ◌∙◌, ℕ, List, ap, sym, subst}
 use Rattle.fv_io.specs.declared.sink.Sink.{Ghosts}
 use Rattle.fv_io.specs.Sink.{Puts, PutsPrefix}
 use Rattle.run_text.specs.declared.verdict.Verdict.{Verdict}
-use Rattle.run_text.specs.Judging.{Judges}
+use Rattle.run_text.specs.Journal.{Judges}
 use Rattle.run_text.proofs.JudgeLemmas.{judged_once}
 use Rattle.clip_graph.specs.Plan.{Application}
 use Rattle.serve_replay.specs.Verdicts.{said, IsSaidOf, SaidOnce, PutsDue}

@@ -5,7 +5,7 @@ use Rattle.fv_io.specs.Sink.{Puts, PutsPrefix, SinkFailed}
 use Rattle.clip_graph.specs.Plan.{Application}
 use Rattle.run_text.specs.declared.verdict.Verdict.{Verdict}
 use Rattle.run_text.specs.declared.verdict.Verdict.TheVariants.{Yes, No}
-use Rattle.run_text.specs.Judging.{Judges}
+use Rattle.run_text.specs.Journal.{Judges}
 use Rattle.serve_text.specs.declared.stop.Stop.{Stop}
 use Rattle.serve_text.specs.declared.stop.Stop.TheVariants as of_stop
 use Rattle.serve_replay.specs.Lines.{run_line, wrong_line}

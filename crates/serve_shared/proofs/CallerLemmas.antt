@@ -7,13 +7,11 @@ use Rattle.turn_lock.proofs.EntryLemmas.{entries_of-append}
 use Rattle.serve_machine.specs.declared.event.Event.{Event}
 use Rattle.serve_machine.specs.declared.event.Event.TheVariants.{Hit, Claim, Enter, Leave, Evict, Publish, Abandon, Take, Deliver, Fail}
 use Rattle.serve_machine.specs.declared.event.WindowStop.{WindowStop}
-use Rattle.serve_machine.specs.Events.{worker_of}
-use Rattle.serve_machine.specs.Own.{own_events}
-use Rattle.serve_machine.specs.Work.{CutDeliveries, FailedWork, StoppedWork, CutWork}
-use Rattle.serve_machine.specs.Stops.{earlier, first_stop}
+use Rattle.serve_machine.specs.Events.{worker_of, own_events}
+use Rattle.serve_machine.specs.Work.{CutDeliveries, FailedWork, StoppedWork, CutWork, takes, DeliversAll, IsWork}
+use Rattle.serve_machine.specs.Machine.{earlier, first_stop}
 use Rattle.serve_machine.proofs.ClosingLemmas.{first_stop-append}
 use Rattle.serve_core.specs.CoreValue.{CoreValue}
-use Rattle.serve_machine.specs.Worked.{takes, DeliversAll, IsWork}
 use Rattle.serve_shared.specs.Shares.{Worked}
 pub use Rattle.serve_shared.proofs.EventLemmas.{entries_own}
 

@@ -6,16 +6,16 @@ use Rattle.fv_plane.specs.declared.key.Key.{Key}
 use Rattle.frame_cache.specs.Cached.{same_key, at_key, without_key, Differ}
 use Rattle.frame_cache.proofs.CallerLemmas.{test, key_itself, differ_without, gone}
 use Rattle.serve_machine.specs.declared.event.Event.TheVariants.{Abandon}
-use Rattle.serve_machine.specs.Keys.{has, without}
-use Rattle.serve_machine.specs.Closing.{abandons}
-use Rattle.serve_machine.specs.State.{is_by}
+use Rattle.serve_machine.specs.Events.{has, without}
+use Rattle.serve_machine.specs.Work.{abandons}
+use Rattle.serve_machine.specs.Machine.{is_by}
 use Rattle.serve_machine.specs.Holdings.{claims_of}
-use Rattle.serve_machine.specs.Lifted.{keys_machine}
+use Rattle.serve_machine.specs.Law.{keys_machine}
 use Rattle.serve_machine.proofs.KeptLemmas.{keys_law}
 use Rattle.serve_machine.proofs.LawLemmas.{no_claims}
 use Rattle.serve_machine.proofs.TruthLemmas.{by_there, some_same}
 use Rattle.serve_machine.proofs.WorkerLists.{claims_tell, closed_own}
-use Rattle.serve_core.specs.Calls.{abandoned}
+use Rattle.serve_core.specs.Calls.{after_abandon}
 use Rattle.serve_core.specs.CoreValue.{CoreValue}
 use Rattle.serve_core.specs.Holds.{last_after, newest}
 use Rattle.serve_core.specs.Runs.{IsRun, keys_alone, opening_of, state_of}
@@ -94,14 +94,14 @@ fewer_claims w cs k differ at =
 
 -- Claims given up, the newest first.
 module _ {I : Type 0} (w : ℕ) where
-  given_last : (js : List Key) (k : Key) (c : CoreValue I) → given_up w (js ++ k ∷ []) c ≡ given_up w js (abandoned c w k)
+  given_last : (js : List Key) (k : Key) (c : CoreValue I) → given_up w (js ++ k ∷ []) c ≡ given_up w js (after_abandon c w k)
   given_last [] k c = refl
-  given_last (j ∷ js) k c = ap (λ (z : CoreValue I). abandoned z w j) (given_last js k c)
+  given_last (j ∷ js) k c = ap (λ (z : CoreValue I). after_abandon z w j) (given_last js k c)
 
-  pub closed_one : (c d : CoreValue I) (k : Key) → Differ c.claims → newest (claims_of w c.claims) ≡ Some k → d ≡ abandoned c w k → closed w d ≡ closed w c
+  pub closed_one : (c d : CoreValue I) (k : Key) → Differ c.claims → newest (claims_of w c.claims) ≡ Some k → d ≡ after_abandon c w k → closed w d ≡ closed w c
   closed_one c d k differ at is =
       let last = newest_last (claims_of w c.claims) k at in
-      ap (closed w) is ∙ (ap (λ ks. given_up w ks (abandoned c w k)) (without_newest w c.claims differ k last.0 last.1)
+      ap (closed w) is ∙ (ap (λ ks. given_up w ks (after_abandon c w k)) (without_newest w c.claims differ k last.0 last.1)
       ∙ (sym (given_last last.0 k c) ∙ ap (λ ks. given_up w ks c) (sym last.1)))
 
   pub closed_none : (c : CoreValue I) → newest (claims_of w c.claims) ≡ None → closed w c ≡ c

@@ -5,9 +5,8 @@ use Rattle.turn_lock.specs.Entries.{entries_of}
 use Rattle.serve_machine.specs.declared.event.Event.{Event}
 use Rattle.serve_machine.specs.declared.event.Event.TheVariants.{Hit, Claim, Enter, Leave, Evict, Publish, Abandon, Take, Deliver, Fail}
 use Rattle.serve_machine.specs.declared.event.WindowStop.{WindowStop}
-use Rattle.serve_machine.specs.Events.{worker_of}
-use Rattle.serve_machine.specs.Own.{own_events}
-use Rattle.serve_machine.specs.Stops.{stop_of, earlier, first_stop}
+use Rattle.serve_machine.specs.Events.{worker_of, own_events}
+use Rattle.serve_machine.specs.Machine.{stop_of, earlier, first_stop}
 use Rattle.serve_machine.proofs.TruthLemmas.{some_same}
 
 pub entries_own : (w : ℕ) (es : List Event) → entries_of worker_of w es ≡ own_events w es

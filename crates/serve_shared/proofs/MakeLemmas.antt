@@ -11,19 +11,17 @@ use Rattle.inst_table.specs.Places.{shared_place, slot_at}
 use Rattle.serve_machine.specs.declared.event.Event.{Event}
 use Rattle.serve_machine.specs.declared.event.Event.TheVariants.{Claim, Enter, Leave, Publish, Abandon}
 use Rattle.serve_machine.specs.declared.event.WindowStop.{WindowStop}
-use Rattle.serve_machine.specs.Keys.{IsKey, has, mode_at, instance_of}
-use Rattle.serve_machine.specs.Own.{has_entered, has_got_all}
+use Rattle.serve_machine.specs.Events.{IsKey, has, mode_at, instance_of, has_entered, has_got_all}
 use Rattle.serve_machine.specs.SerialRun.{leases, eviction}
 use Rattle.serve_machine.proofs.OwnLemmas.{entered_now, all_got}
-use Rattle.serve_machine.specs.Closing.{abandons}
+use Rattle.serve_machine.specs.Work.{abandons}
 use Rattle.serve_machine.proofs.ClosingLemmas.{abandons-append}
 use Rattle.serve_machine.specs.Holdings.{Holdings, holdings_after}
-use Rattle.serve_machine.specs.Stops.{first_stop}
+use Rattle.serve_machine.specs.Machine.{first_stop}
 use Rattle.serve_core.specs.CoreValue.{CoreValue}
 use Rattle.serve_core.specs.Sources.{place_of, opened_at, faults_at}
 use Rattle.serve_core.specs.Stands.{Book, FitsAct, Fits, IsRight, Stands}
-use Rattle.serve_core.specs.Steady.{HasCount}
-use Rattle.serve_core.specs.Turns.{ForAllOf}
+use Rattle.serve_core.specs.Turns.{HasCount, ForAllOf}
 use Rattle.serve_core.specs.WorkerValue.{WorkerValue}
 use Rattle.serve_core.specs.Works.{IsMade, MakeStops}
 use Rattle.serve_core.proofs.Making.{fits_more, source_mode, no_source, shared_for, filter_right, made_right}

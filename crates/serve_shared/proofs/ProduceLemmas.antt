@@ -12,11 +12,9 @@ use Rattle.inst_table.specs.declared.held.Held.{Ghosts}
 use Rattle.serve_machine.specs.declared.event.Event.{Event}
 use Rattle.serve_machine.specs.declared.event.Event.TheVariants.{Claim, Abandon}
 use Rattle.serve_machine.specs.declared.event.WindowStop.{WindowStop}
-use Rattle.serve_machine.specs.Keys.{IsKey, same_key, has}
-use Rattle.serve_machine.specs.Own.{has_got_all}
-use Rattle.serve_machine.specs.Work.{Production, Productions, hit, made, done, more, CutShort, CutInputs, refused, inside, between, within, entered as cut_entered, unpublished as cut_unpublished}
+use Rattle.serve_machine.specs.Events.{IsKey, same_key, has, has_got_all}
+use Rattle.serve_machine.specs.Work.{Production, Productions, hit, made, done, more, CutShort, CutInputs, refused, inside, between, within, entered as cut_entered, unpublished as cut_unpublished, AllPast}
 use Rattle.serve_machine.proofs.KeyLemmas.{key_itself}
-use Rattle.serve_machine.specs.Closing.{AllPast}
 use Rattle.serve_machine.specs.Holdings.{Holdings, holdings_after}
 use Rattle.serve_machine.proofs.ClosingLemmas.{work_closes, holdings_after-append, now_all_got, all_none}
 use Rattle.serve_core.specs.Sources.{shape_at}

@@ -4,10 +4,8 @@ use Rattle.frame_cache.proofs.CallerLemmas.{test}
 use Rattle.serve_machine.specs.declared.event.Event.{Event}
 use Rattle.serve_machine.specs.declared.event.Event.TheVariants.{Hit, Claim, Enter, Leave, Evict, Publish, Abandon, Take, Deliver, Fail}
 use Rattle.serve_machine.specs.declared.event.WindowStop.{WindowStop}
-use Rattle.serve_machine.specs.Lifted.{keys_machine}
-use Rattle.serve_machine.specs.Machine.{Machine, allowed, change, replay}
-use Rattle.serve_machine.specs.State.{State}
-use Rattle.serve_machine.specs.Stops.{kept_stop, stop_of, earlier, first_stop}
+use Rattle.serve_machine.specs.Law.{keys_machine}
+use Rattle.serve_machine.specs.Machine.{Machine, allowed, change, replay, State, kept_stop, stop_of, earlier, first_stop}
 use Rattle.serve_machine.proofs.TruthLemmas.{some_same}
 use Rattle.serve_core.specs.CoreValue.{CoreValue}
 use Rattle.serve_core.specs.Runs.{IsRun, opening_of, state_of}

@@ -9,13 +9,12 @@ use Rattle.turn_lock.proofs.EntryLemmas.{prefix_of_itself}
 use Rattle.serve_machine.specs.declared.event.Event.{Event}
 use Rattle.serve_machine.specs.declared.event.Event.TheVariants.{Claim}
 use Rattle.serve_machine.specs.declared.event.WindowStop.{WindowStop}
-use Rattle.serve_machine.specs.Closing.{abandons}
+use Rattle.serve_machine.specs.Work.{abandons}
 use Rattle.serve_machine.specs.Holdings.{Holdings, holdings_after, own_holdings}
-use Rattle.serve_machine.specs.Stops.{first_stop}
+use Rattle.serve_machine.specs.Machine.{first_stop}
 use Rattle.serve_machine.proofs.ClosingLemmas.{holdings_after-append, none_stop}
 use Rattle.serve_core.specs.Stands.{IsRight, Fits}
-use Rattle.serve_core.specs.Steady.{HasCount}
-use Rattle.serve_core.specs.Turns.{ForAllOf}
+use Rattle.serve_core.specs.Turns.{HasCount, ForAllOf}
 use Rattle.serve_core.specs.WorkerValue.{WorkerValue}
 use Rattle.serve_shared.specs.declared.steps.Found.{Found}
 use Rattle.serve_shared.specs.declared.steps.Found.TheVariants.{Hit, Claimed, Taken}

@@ -11,19 +11,15 @@ use Rattle.turn_lock.proofs.EntryLemmas.{entries_of-append}
 use Rattle.serve_machine.specs.declared.event.Event.{Event}
 use Rattle.serve_machine.specs.declared.event.Event.TheVariants.{Take, Deliver}
 use Rattle.serve_machine.specs.declared.event.WindowStop.{WindowStop}
-use Rattle.serve_machine.specs.Events.{worker_of}
-use Rattle.serve_machine.specs.Keys.{IsKey, frame_key}
-use Rattle.serve_machine.specs.Own.{has_got, own_events}
-use Rattle.serve_machine.specs.Work.{Production, Deliveries, none, also, CutShort, CutDeliveries, untaken, taken, FailedWork, failed, CutWork}
+use Rattle.serve_machine.specs.Events.{worker_of, IsKey, frame_key, has_got, own_events}
+use Rattle.serve_machine.specs.Work.{Production, Deliveries, none, also, CutShort, CutDeliveries, untaken, taken, FailedWork, failed, CutWork, AllPast, abandons, nothing, takes, Delivered, DeliversAll}
 use Rattle.serve_machine.proofs.OwnLemmas.{now_got}
-use Rattle.serve_machine.specs.Closing.{AllPast, abandons, nothing}
 use Rattle.serve_machine.specs.Holdings.{Holdings, has_number, holdings_after, own_holdings}
-use Rattle.serve_machine.specs.Stops.{first_stop}
+use Rattle.serve_machine.specs.Machine.{first_stop}
 use Rattle.serve_machine.proofs.ClosingLemmas.{work_closes}
 use Rattle.serve_core.specs.CoreValue.{CoreValue}
 use Rattle.serve_core.specs.Stands.{IsRight}
 use Rattle.serve_core.specs.Turns.{ForAllOf}
-use Rattle.serve_machine.specs.Worked.{takes, Delivered, DeliversAll}
 use Rattle.serve_core.specs.WorkerValue.{WorkerValue}
 use Rattle.serve_shared.specs.Seats.{CoreSeat, HasWorker, seat_holdings, AtWork, IsSeat, Adds, RightFor}
 use Rattle.serve_shared.specs.Shares.{Fails, IsStopped, Closes, StopsNow, StopsWithin, Produced, Worked, Continues, Ends, Delivers}

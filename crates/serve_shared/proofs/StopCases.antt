@@ -13,17 +13,15 @@ use Rattle.inst_table.proofs.CallerLemmas.{slot_put}
 use Rattle.serve_machine.specs.declared.event.Event.TheVariants.{Leave, Fail}
 use Rattle.serve_machine.specs.declared.event.WindowStop.{WindowStop}
 use Rattle.serve_machine.specs.declared.event.WindowStop.TheVariants.{Read, Changed, Memory}
-use Rattle.serve_machine.specs.Events.{worker_of}
-use Rattle.serve_machine.specs.Own.{has_entered, may_fail, names_source}
+use Rattle.serve_machine.specs.Events.{worker_of, has_entered, may_fail, names_source}
 use Rattle.serve_machine.proofs.OwnLemmas.{is_own, was_entered}
-use Rattle.serve_machine.specs.Closing.{abandons}
+use Rattle.serve_machine.specs.Work.{abandons}
 use Rattle.serve_machine.specs.Holdings.{claims_of}
-use Rattle.serve_core.specs.Calls.{left, failing}
+use Rattle.serve_core.specs.Calls.{after_leave, after_fail}
 use Rattle.serve_core.specs.CoreValue.{CoreValue}
 use Rattle.serve_core.specs.Holds.{is_free_at, IsThere}
 use Rattle.serve_core.specs.Stands.{FitsAct, Fits, ExceedsAct, StopFits, EndShows}
-use Rattle.serve_core.specs.Steady.{IsSteady, TurnsAreSteady}
-use Rattle.serve_core.specs.Turns.{ForAllOf, StandsFor}
+use Rattle.serve_core.specs.Turns.{IsSteady, TurnsAreSteady, ForAllOf, StandsFor}
 use Rattle.serve_core.proofs.SteadyLemmas.{turns_are_steady}
 use Rattle.serve_core.specs.WorkerValue.{WorkerValue}
 use Rattle.serve_core.specs.Works.{MakeStops}
@@ -39,7 +37,7 @@ module _ {I : Type 0} (of : Ghosts I) (me : WorkerValue) (seat : CoreSeat I) (c 
     (n : ℕ) (same : n ≡ me.number) (l : Lent I) (why : WindowStop) (s : HasStopped of me seat l why) (out : (seat_holdings me seat).leases ≡ l.place ∷ []) where
   -- the core with the instance
   abbrev pub with_it : CoreValue I
-  with_it = left c n l.place l.value
+  with_it = after_leave c n l.place l.value
 
   pub new_fits : IfSome seat.tag (λ z. ForAllOf of.feed of.faults z (λ book numbers. Fits of.feed of.faults book numbers me.plan l.place l.value))
   new_fits =
@@ -116,9 +114,9 @@ module _ {I : Type 0} (of : Ghosts I) (me : WorkerValue) (seat : CoreSeat I) (c 
     pub there_now : IsThere e.table why
     there_now = subst (λ (z : CoreValue I). IsThere z.table why) (sym back) may_stop.is_there
 
-  module _ (e : CoreValue I) (back : e ≡ with_it) (d : CoreValue I) (fails : d ≡ failing (closed n e) n why) where
-    is : d ≡ failing (closed n with_it) n why
-    is = fails ∙ ap (λ (z : CoreValue I). failing (closed n z) n why) back
+  module _ (e : CoreValue I) (back : e ≡ with_it) (d : CoreValue I) (fails : d ≡ after_fail (closed n e) n why) where
+    is : d ≡ after_fail (closed n with_it) n why
+    is = fails ∙ ap (λ (z : CoreValue I). after_fail (closed n z) n why) back
 
     failed_does : DoesIt of me seat c t d (Leave me.number l.place.node l.place.instance ∷ (abandons me.number (seat_holdings me seat).claims ++ Fail me.number why ∷ []))
     failed_does =

@@ -15,26 +15,22 @@ use Rattle.serve_machine.specs.declared.event.Event.{Event}
 use Rattle.serve_machine.specs.declared.event.Event.TheVariants.{Hit as Hits, Claim, Enter, Leave, Evict, Publish, Take, Deliver}
 use Rattle.serve_machine.specs.declared.event.WindowStop.{WindowStop}
 use Rattle.serve_machine.specs.declared.event.WindowStop.TheVariants.{Memory}
-use Rattle.serve_machine.specs.Events.{worker_of}
-use Rattle.serve_machine.specs.Keys.{IsKey, has, frame_key, instance_of}
-use Rattle.serve_machine.specs.Own.{has_got, has_got_all}
+use Rattle.serve_machine.specs.Events.{worker_of, IsKey, has, frame_key, instance_of, has_got, has_got_all}
 use Rattle.serve_machine.specs.SerialRun.{eviction}
 use Rattle.serve_machine.proofs.OwnLemmas.{is_own}
-use Rattle.serve_machine.specs.State.{is_by}
+use Rattle.serve_machine.specs.Machine.{is_by, first_stop}
 use Rattle.serve_machine.specs.Holdings.{Holdings, has_number}
-use Rattle.serve_machine.specs.Stops.{first_stop}
 use Rattle.serve_machine.proofs.TruthLemmas.{by_there}
 use Rattle.serve_core.specs.declared.answers.Ask.TheVariants.{Hit as IsCached, Claimed as IsClaimed}
 use Rattle.serve_core.specs.declared.answers.Admitted.TheVariants.{Leased as IsLeased}
-use Rattle.serve_core.specs.Calls.{Asked, Admits, left, published, delivered, failing}
+use Rattle.serve_core.specs.Calls.{Asked, Admits, after_leave, after_publish, after_deliver, after_fail}
 use Rattle.serve_core.specs.CoreValue.{CoreValue}
 use Rattle.serve_core.specs.Holds.{claims_at, holds_none}
 use Rattle.serve_core.specs.Sources.{shape_at, place_of, opened_at}
 use Rattle.serve_core.specs.Stands.{IsRight, Fits}
-use Rattle.serve_core.specs.Steady.{HasCount, IsSteady, TurnsAreSteady}
-use Rattle.serve_core.specs.Turns.{ForAllOf, StandsFor, TurnsStand}
+use Rattle.serve_core.specs.Turns.{HasCount, IsSteady, TurnsAreSteady, ForAllOf, StandsFor, TurnsStand}
 use Rattle.serve_core.specs.Workers.{HasOutput}
-use Rattle.serve_machine.specs.Worked.{takes}
+use Rattle.serve_machine.specs.Work.{takes}
 use Rattle.serve_core.specs.WorkerValue.{WorkerValue}
 use Rattle.serve_shared.specs.declared.steps.Found.{Found}
 use Rattle.serve_shared.specs.declared.steps.Found.TheVariants.{Hit, Claimed, Taken}
@@ -197,7 +193,7 @@ module _ {I : Type 0} (of : Ghosts I) (me : WorkerValue) (seat : CoreSeat I) (c 
       let here = subst (λ o. IfSome o (λ s. ForAllOf of.feed of.faults s (λ book numbers. IsRight book me.plan k x))) t.sits.tag right in
       λ book numbers s. subst (λ plan. IsRight book plan k x) (sym t.sits.window.plan_is) (here book numbers s)
 
-  put_does : (d : CoreValue I) (k : Key) (x : Picture) → RightFor of me.plan seat k x → d ≡ published c me.number k x → DoesIt d (eviction me.number (dropped_key c.fixed.capacity c.cache) ++ Publish me.number k ∷ [])
+  put_does : (d : CoreValue I) (k : Key) (x : Picture) → RightFor of me.plan seat k x → d ≡ after_publish c me.number k x → DoesIt d (eviction me.number (dropped_key c.fixed.capacity c.cache) ++ Publish me.number k ∷ [])
   put_does d k x right is = record {
     journal = ap (λ (z : CoreValue I). z.journal) is;
     mine = All-append (λ e. worker_of e ≡ me.number) (eviction me.number (dropped_key c.fixed.capacity c.cache)) (Publish me.number k ∷ []) (evicts_mine (dropped_key c.fixed.capacity c.cache)) (one_mine me.number (Publish me.number k) refl);
@@ -205,11 +201,11 @@ module _ {I : Type 0} (of : Ghosts I) (me : WorkerValue) (seat : CoreSeat I) (c 
     steady = subst (λ z. IsSteady of.faults z t.sits.start) (sym is) (steady_law.publish t.sits.start c me.number k x t.steady);
   }
 
-  puts_some : (d : CoreValue I) (k : Key) (x : Picture) (r : Result (Unit {0}) WindowStop) → RightFor of me.plan seat k x → OnOk r (d ≡ published c me.number k x) → IfErr r (λ why. RunsOut me.number why c d) → DoesAny d
+  puts_some : (d : CoreValue I) (k : Key) (x : Picture) (r : Result (Unit {0}) WindowStop) → RightFor of me.plan seat k x → OnOk r (d ≡ after_publish c me.number k x) → IfErr r (λ why. RunsOut me.number why c d) → DoesAny d
   puts_some d k x (Ok u) right ok err = record { events = _; does = put_does d k x right ok }
   puts_some d k x (Err why) right ok err = record { events = _; does = out_does of me seat c t why d err }
 
-  puts : (d : CoreValue I) (later : CoreSeat I) (k : Key) (x : Picture) (r : Result (Unit {0}) WindowStop) → RightFor of me.plan seat k x → OnOk r (d ≡ published c me.number k x) → IfErr r (λ why. RunsOut me.number why c d) → Leaves d later
+  puts : (d : CoreValue I) (later : CoreSeat I) (k : Key) (x : Picture) (r : Result (Unit {0}) WindowStop) → RightFor of me.plan seat k x → OnOk r (d ≡ after_publish c me.number k x) → IfErr r (λ why. RunsOut me.number why c d) → Leaves d later
       → TurnPublishes me seat k r later
   puts d later k x (Ok u) right ok err leaves = record { gone = dropped_key c.fixed.capacity c.cache; adds = adds of me seat c t _ later (leaves _ (put_does d k x right ok).journal) }
   puts d later k x (Err why) right ok err leaves = out_stops of me seat c t why d later err leaves
@@ -220,21 +216,21 @@ module _ {I : Type 0} (of : Ghosts I) (me : WorkerValue) (seat : CoreSeat I) (c 
         let here : has_got_all me.number (input_keys me.plan k) c.journal ≡ true = sym (is_own.got_all me.number (input_keys me.plan k) c.journal) ∙ (ap (has_got_all me.number (input_keys me.plan k)) t.own ∙ got) in
         (λ i. has_got_all (same i) (input_keys (plan_is of me seat c t i) k) c.journal) ∙ here
 
-    module _ (d : CoreValue I) (k : Key) (x : Picture) (right : RightFor of me.plan seat k x) (r : Result (Unit {0}) WindowStop) (ok : OnOk r (d ≡ published c n k x)) (err : IfErr r (λ why. RunsOut n why c d)) where
+    module _ (d : CoreValue I) (k : Key) (x : Picture) (right : RightFor of me.plan seat k x) (r : Result (Unit {0}) WindowStop) (ok : OnOk r (d ≡ after_publish c n k x)) (err : IfErr r (λ why. RunsOut n why c d)) where
       pub publish_some : DoesAny d
-      publish_some = puts_some d k x r right (subst (λ m. OnOk r (d ≡ published c m k x)) same ok) (subst (λ m. IfErr r (λ why. RunsOut m why c d)) same err)
+      publish_some = puts_some d k x r right (subst (λ m. OnOk r (d ≡ after_publish c m k x)) same ok) (subst (λ m. IfErr r (λ why. RunsOut m why c d)) same err)
 
       pub publish_ends : (later : CoreSeat I) → Leaves d later → TurnPublishes me seat k r later
-      publish_ends later leaves = puts d later k x r right (subst (λ m. OnOk r (d ≡ published c m k x)) same ok) (subst (λ m. IfErr r (λ why. RunsOut m why c d)) same err) leaves
+      publish_ends later leaves = puts d later k x r right (subst (λ m. OnOk r (d ≡ after_publish c m k x)) same ok) (subst (λ m. IfErr r (λ why. RunsOut m why c d)) same err) leaves
 
   -- Work is closed as there is no memory.
 
-  module _ (n : ℕ) (same : n ≡ me.number) (d : CoreValue I) (is : d ≡ failing (closed n c) n Memory) where
+  module _ (n : ℕ) (same : n ≡ me.number) (d : CoreValue I) (is : d ≡ after_fail (closed n c) n Memory) where
     pub fail_some : DoesAny d
-    fail_some = record { events = _; does = out_does of me seat c t Memory d (refl, subst (λ m. d ≡ failing (closed m c) m Memory) same is) }
+    fail_some = record { events = _; does = out_does of me seat c t Memory d (refl, subst (λ m. d ≡ after_fail (closed m c) m Memory) same is) }
 
     pub fail_ends : (later : CoreSeat I) → Leaves d later → StopsNow me Memory [] seat later
-    fail_ends later leaves = out_stops of me seat c t Memory d later (refl, subst (λ m. d ≡ failing (closed m c) m Memory) same is) leaves
+    fail_ends later leaves = out_stops of me seat c t Memory d later (refl, subst (λ m. d ≡ after_fail (closed m c) m Memory) same is) leaves
 
   -- An output is taken.
 
@@ -311,7 +307,7 @@ module _ {I : Type 0} (of : Ghosts I) (me : WorkerValue) (seat : CoreSeat I) (c 
     pub output_shape : (x : Picture) → x.shape ≡ shape_at me.plan k.node → x.shape ≡ shape_at c.fixed.plan c.fixed.root
     output_shape x shape = shape ∙ (λ i. shape_at (sym (plan_is of me seat c t) i) (of_root i))
 
-    delivers_does : (d : CoreValue I) (x : Picture) → RightFor of me.plan seat k x → d ≡ delivered c me.number k.n x → DoesIt d (Deliver me.number k.n ∷ [])
+    delivers_does : (d : CoreValue I) (x : Picture) → RightFor of me.plan seat k x → d ≡ after_deliver c me.number k.n x → DoesIt d (Deliver me.number k.n ∷ [])
     delivers_does d x right is = record {
       journal = ap (λ (z : CoreValue I). z.journal) is;
       mine = one_mine me.number (Deliver me.number k.n) refl;
@@ -320,12 +316,12 @@ module _ {I : Type 0} (of : Ghosts I) (me : WorkerValue) (seat : CoreSeat I) (c 
       steady = subst (λ z. IsSteady of.faults z t.sits.start) (sym is) (steady_law.deliver t.sits.start c me.number k.n x t.steady);
     }
 
-    module _ (d : CoreValue I) (x : Picture) (right : RightFor of me.plan seat k x) (is : d ≡ delivered c n k.n x) where
+    module _ (d : CoreValue I) (x : Picture) (right : RightFor of me.plan seat k x) (is : d ≡ after_deliver c n k.n x) where
       pub deliver_some : DoesAny d
-      deliver_some = record { events = _; does = delivers_does d x right (subst (λ m. d ≡ delivered c m k.n x) same is) }
+      deliver_some = record { events = _; does = delivers_does d x right (subst (λ m. d ≡ after_deliver c m k.n x) same is) }
 
       pub deliver_ends : (later : CoreSeat I) → Leaves d later → Adds (Deliver me.number k.n ∷ []) seat later
-      deliver_ends later leaves = adds of me seat c t _ later (leaves _ (delivers_does d x right (subst (λ m. d ≡ delivered c m k.n x) same is)).journal)
+      deliver_ends later leaves = adds of me seat c t _ later (leaves _ (delivers_does d x right (subst (λ m. d ≡ after_deliver c m k.n x) same is)).journal)
 
   -- An instance is given back.
 
@@ -341,10 +337,10 @@ module _ {I : Type 0} (of : Ghosts I) (me : WorkerValue) (seat : CoreSeat I) (c 
         let here = subst (λ o. IfSome o (λ s. ForAllOf of.feed of.faults s (λ book numbers. Fits of.feed of.faults book numbers me.plan l.place x))) t.sits.tag fits in
         subst (λ plan. Fits of.feed of.faults book numbers plan l.place x) (sym t.sits.window.plan_is) (here book numbers s)
 
-    pub back_stands : IfSome seat.tag (λ s. ForAllOf of.feed of.faults s (λ book numbers. Fits of.feed of.faults book numbers me.plan l.place l.value)) → StandsFor of.feed of.faults of.ends (left c n l.place l.value) t.sits.start
+    pub back_stands : IfSome seat.tag (λ s. ForAllOf of.feed of.faults s (λ book numbers. Fits of.feed of.faults book numbers me.plan l.place l.value)) → StandsFor of.feed of.faults of.ends (after_leave c n l.place l.value) t.sits.start
     back_stands fits = law.leave t.sits.start c n l.place l.value t.stands is_out (fits_now l.value fits)
 
-    gives_does : (d : CoreValue I) → IsLent of me seat l.place.node l → d ≡ left c n l.place l.value → DoesIt d (Leave me.number l.place.node l.place.instance ∷ [])
+    gives_does : (d : CoreValue I) → IsLent of me seat l.place.node l → d ≡ after_leave c n l.place l.value → DoesIt d (Leave me.number l.place.node l.place.instance ∷ [])
     gives_does d lent is = record {
       journal = ap (λ (z : CoreValue I). z.journal) is ∙ ap (λ m. c.journal ++ Leave m l.place.node l.place.instance ∷ []) same;
       mine = one_mine me.number (Leave me.number l.place.node l.place.instance) refl;
@@ -352,7 +348,7 @@ module _ {I : Type 0} (of : Ghosts I) (me : WorkerValue) (seat : CoreSeat I) (c 
       steady = subst (λ z. IsSteady of.faults z t.sits.start) (sym is) (steady_law.leave t.sits.start c n l.place l.value t.steady (subst (λ o. IfSome o (λ s. HasCount of.faults s.table l.place l.value)) t.sits.tag lent.count));
     }
 
-    module _ (d : CoreValue I) (lent : IsLent of me seat l.place.node l) (is : d ≡ left c n l.place l.value) where
+    module _ (d : CoreValue I) (lent : IsLent of me seat l.place.node l) (is : d ≡ after_leave c n l.place l.value) where
       pub leave_some : DoesAny d
       leave_some = record { events = _; does = gives_does d lent is }
 

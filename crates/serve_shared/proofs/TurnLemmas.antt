@@ -11,19 +11,17 @@ use Rattle.serve_machine.specs.declared.event.Event.{Event}
 use Rattle.serve_machine.specs.declared.event.Event.TheVariants.{Abandon, Fail}
 use Rattle.serve_machine.specs.declared.event.WindowStop.{WindowStop}
 use Rattle.serve_machine.specs.declared.event.WindowStop.TheVariants.{Memory}
-use Rattle.serve_machine.specs.Events.{worker_of}
-use Rattle.serve_machine.specs.Own.{own_events}
-use Rattle.serve_machine.specs.Closing.{abandons}
+use Rattle.serve_machine.specs.Events.{worker_of, own_events}
+use Rattle.serve_machine.specs.Work.{abandons}
 use Rattle.serve_machine.specs.Holdings.{own_holdings, claims_of}
-use Rattle.serve_machine.specs.Lifted.{keys_machine}
-use Rattle.serve_machine.specs.Stops.{first_stop}
+use Rattle.serve_machine.specs.Law.{keys_machine}
+use Rattle.serve_machine.specs.Machine.{first_stop}
 use Rattle.serve_machine.proofs.HoldingLemmas.{own_events_tell}
-use Rattle.serve_core.specs.Calls.{failing}
+use Rattle.serve_core.specs.Calls.{after_fail}
 use Rattle.serve_core.specs.CoreValue.{CoreValue}
 use Rattle.serve_core.specs.Runs.{IsRun, keys_alone, state_of}
 use Rattle.serve_core.specs.Stands.{StopFits, EndShows}
-use Rattle.serve_core.specs.Steady.{IsSteady, TurnsAreSteady}
-use Rattle.serve_core.specs.Turns.{ForAllOf, StandsFor, TurnsStand}
+use Rattle.serve_core.specs.Turns.{IsSteady, TurnsAreSteady, ForAllOf, StandsFor, TurnsStand}
 use Rattle.serve_core.specs.Workers.{HasTold, told_holdings}
 use Rattle.serve_core.proofs.WorkerLemmas.{has_told}
 use Rattle.serve_core.specs.WorkerValue.{WorkerValue}
@@ -81,12 +79,12 @@ module _ {I : Type 0} (of : Ghosts I) (me : WorkerValue) (seat : CoreSeat I) whe
   given_steady s w (k ∷ ks) c st = steady_law.abandon s (given_up w ks c) w k (given_steady s w ks c st)
 
   pub fails_stands : (s : CoreValue I) (w : ℕ) (why : WindowStop) (ks : List Key) (c : CoreValue I) → StandsFor of.feed of.faults of.ends c s → ForAllOf of.feed of.faults s (λ book numbers. StopFits of.feed of.faults book numbers s.fixed.plan c.table why) → EndShows of.ends c.table why
-      → StandsFor of.feed of.faults of.ends (failing (given_up w ks c) w why) s
+      → StandsFor of.feed of.faults of.ends (after_fail (given_up w ks c) w why) s
   fails_stands s w why ks c st fits ended =
       let same = sym (given_table w ks c) in
       law.fail s (given_up w ks c) w why (given_stands s w ks c st) (λ book numbers stood. subst (λ table. StopFits of.feed of.faults book numbers s.fixed.plan table why) same (fits book numbers stood)) (subst (λ table. EndShows of.ends table why) same ended)
 
-  pub fails_journal : (w : ℕ) (why : WindowStop) (c : CoreValue I) → (failing (closed w c) w why).journal ≡ c.journal ++ (abandons w (claims_of w c.claims) ++ Fail w why ∷ [])
+  pub fails_journal : (w : ℕ) (why : WindowStop) (c : CoreValue I) → (after_fail (closed w c) w why).journal ≡ c.journal ++ (abandons w (claims_of w c.claims) ++ Fail w why ∷ [])
   fails_journal w why c = ap (λ l. l ++ Fail w why ∷ []) (given_journal w (claims_of w c.claims) c) ∙ append_assoc c.journal (abandons w (claims_of w c.claims)) (Fail w why ∷ [])
 
   module _ (c : CoreValue I) (t : InTurn c) where

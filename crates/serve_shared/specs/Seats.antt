@@ -9,7 +9,7 @@ use Rattle.turn_lock.specs.Entries.{IsPrefix}
 use Rattle.turn_lock.specs.SeatView.{SeatView}
 use Rattle.serve_machine.specs.declared.event.Event.{Event}
 use Rattle.serve_machine.specs.Holdings.{Holdings, own_holdings}
-use Rattle.serve_machine.specs.Stops.{first_stop}
+use Rattle.serve_machine.specs.Machine.{first_stop}
 use Rattle.serve_core.specs.CoreValue.{CoreValue}
 use Rattle.serve_core.specs.Stands.{IsRight}
 use Rattle.serve_core.specs.Turns.{ForAllOf}

@@ -9,12 +9,9 @@ use Rattle.turn_lock.specs.Entries.{entries_of}
 use Rattle.serve_machine.specs.declared.event.Event.{Event}
 use Rattle.serve_machine.specs.declared.event.Event.TheVariants.{Enter, Leave, Publish, Fail}
 use Rattle.serve_machine.specs.declared.event.WindowStop.{WindowStop}
-use Rattle.serve_machine.specs.Events.{worker_of}
-use Rattle.serve_machine.specs.Keys.{mode_at, instance_of}
+use Rattle.serve_machine.specs.Events.{worker_of, mode_at, instance_of}
 use Rattle.serve_machine.specs.SerialRun.{eviction, leases}
-use Rattle.serve_machine.specs.Work.{Production, Productions, CutWork}
-use Rattle.serve_machine.specs.Closing.{abandons}
-use Rattle.serve_machine.specs.Worked.{Delivered, DeliversAll}
+use Rattle.serve_machine.specs.Work.{Production, Productions, CutWork, abandons, Delivered, DeliversAll}
 use Rattle.serve_core.specs.CoreValue.{CoreValue}
 use Rattle.serve_core.specs.Sources.{shape_at}
 use Rattle.serve_core.specs.WorkerValue.{WorkerValue}

@@ -7,7 +7,7 @@ use Rattle.serve_machine.specs.declared.event.WindowStop.TheVariants.{Memory}
 use Rattle.serve_machine.specs.Holdings.{claims_of}
 use Rattle.serve_core.specs.declared.answers.Ask.TheVariants.{Hit as IsCached, Claimed as IsClaimed, Taken as IsTaken}
 use Rattle.serve_core.specs.declared.answers.Admitted.TheVariants.{Leased as IsLeased, Busy as IsBusy}
-use Rattle.serve_core.specs.Calls.{Asked, Admits, TookOutput, abandoned, failing}
+use Rattle.serve_core.specs.Calls.{Asked, Admits, TookOutput, after_abandon, after_fail}
 use Rattle.serve_core.specs.CoreValue.{CoreValue}
 use Rattle.serve_core.specs.Sources.{shape_at, opened_at}
 use Rattle.serve_shared.specs.declared.steps.Found.{Found}
@@ -25,7 +25,7 @@ module _ {I : Type 0} where
   -- the worker's claims on these keys are given up, the last first
   abbrev pub given_up : ℕ → List Key → CoreValue I → CoreValue I
   given_up w [] c = c
-  given_up w (k ∷ ks) c = abandoned (given_up w ks c) w k
+  given_up w (k ∷ ks) c = after_abandon (given_up w ks c) w k
 
   -- all its claims are
   abbrev pub closed : ℕ → CoreValue I → CoreValue I
@@ -33,7 +33,7 @@ module _ {I : Type 0} where
 
   -- out of memory: the worker has closed its work, and failed
   abbrev pub RunsOut : ℕ → WindowStop → CoreValue I → CoreValue I → Type 0
-  RunsOut w why c d = (why ≡ Memory) × (d ≡ failing (closed w c) w Memory)
+  RunsOut w why c d = (why ≡ Memory) × (d ≡ after_fail (closed w c) w Memory)
 
   -- or it has closed its work as the window was stopped
   abbrev pub Refuses : ℕ → WindowStop → CoreValue I → CoreValue I → Type 0

@@ -8,16 +8,13 @@ use Rattle.turn_lock.specs.Entries.{entries_of}
 use Rattle.serve_machine.specs.declared.event.Event.{Event}
 use Rattle.serve_machine.specs.declared.event.Event.TheVariants.{Hit as Hits, Claim, Enter, Leave, Publish, Take}
 use Rattle.serve_machine.specs.declared.event.WindowStop.{WindowStop}
-use Rattle.serve_machine.specs.Events.{worker_of}
-use Rattle.serve_machine.specs.Keys.{IsKey, instance_of}
-use Rattle.serve_machine.specs.Own.{has_entered}
+use Rattle.serve_machine.specs.Events.{worker_of, IsKey, instance_of, has_entered}
 use Rattle.serve_machine.specs.SerialRun.{eviction}
-use Rattle.serve_machine.specs.Stops.{first_stop}
+use Rattle.serve_machine.specs.Machine.{first_stop}
 use Rattle.serve_core.specs.Sources.{shape_at, place_of, opened_at}
 use Rattle.serve_core.specs.Stands.{Fits}
-use Rattle.serve_core.specs.Steady.{HasCount}
-use Rattle.serve_core.specs.Turns.{ForAllOf}
-use Rattle.serve_machine.specs.Worked.{takes}
+use Rattle.serve_core.specs.Turns.{HasCount, ForAllOf}
+use Rattle.serve_machine.specs.Work.{takes}
 use Rattle.serve_core.specs.WorkerValue.{WorkerValue}
 use Rattle.serve_core.specs.Works.{MakeStops}
 use Rattle.serve_shared.specs.declared.steps.Found.{Found}

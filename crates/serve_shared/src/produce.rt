@@ -1,10 +1,8 @@
 // The production of a key among others: a hit, or its inputs and then itself. Frames are made between turns.
 ghost use Rattle.std.specs.Prelude.{◌≡◌, ◌<◌, true, false, [], ◌∷◌, IfOk, IfErr};
 ghost use Rattle.clip_graph.specs.Unfolding.{input_keys, AreOfKeys};
-ghost use Rattle.serve_machine.specs.Keys.{IsKey, has, mode_at};
-ghost use Rattle.serve_machine.specs.Own.{has_got_all, has_entered};
-ghost use Rattle.serve_machine.specs.Work.{CutShort, CutInputs};
-ghost use Rattle.serve_machine.specs.Closing.{AllPast};
+ghost use Rattle.serve_machine.specs.Events.{IsKey, has, mode_at, has_got_all, has_entered};
+ghost use Rattle.serve_machine.specs.Work.{CutShort, CutInputs, AllPast};
 ghost use Rattle.serve_core.specs.Sources.{shape_at};
 ghost use Rattle.serve_shared.specs.Seats.{AllFrom, seat_holdings, Adds, HasSeat, AtWork, RightFor};
 ghost use Rattle.serve_shared.specs.Shares.{StopsWithin, Produced, Gathered, Made, Finished, AllRightFor, CutMake};

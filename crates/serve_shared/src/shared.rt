@@ -4,7 +4,7 @@ ghost use Rattle.turn_lock.specs.Entries.{entries_of};
 ghost use Rattle.serve_machine.specs.Events.{worker_of};
 ghost use Rattle.serve_shared.specs.Seats.{HasWorker, AtWork, IsSeat};
 ghost use Rattle.serve_shared.specs.Shares.{Worked, Delivers};
-ghost use Rattle.serve_machine.specs.Worked.{Delivered};
+ghost use Rattle.serve_machine.specs.Work.{Delivered};
 
 use crate::gate::Gate;
 use crate::produce::produce;

@@ -2,9 +2,8 @@
 ghost use Rattle.std.specs.Prelude.{◌≡◌, ◌<◌, true, Some, IfOk, IfErr, OnOk};
 ghost use Rattle.clip_graph.specs.Unfolding.{input_keys};
 ghost use Rattle.frame_cache.specs.Cached.{at_key};
-ghost use Rattle.serve_machine.specs.Keys.{IsKey, mode_at};
-ghost use Rattle.serve_machine.specs.Own.{has_got_all, may_fail, names_source};
-ghost use Rattle.serve_core.specs.Calls.{published, failing};
+ghost use Rattle.serve_machine.specs.Events.{IsKey, mode_at, has_got_all, may_fail, names_source};
+ghost use Rattle.serve_core.specs.Calls.{after_publish, after_fail};
 ghost use Rattle.serve_core.specs.Holds.{claims_at, holds_none, IsThere};
 ghost use Rattle.serve_core.specs.Sources.{shape_at};
 ghost use Rattle.serve_shared.specs.Steps.{IsRunning, closed, RunsOut, Refuses, Finds, Enters, Takes};
@@ -53,7 +52,7 @@ pub(crate) fn fail<I: Held>(core: &mut Core<I>, bell: &Bell, number: u32, stop: 
     requires cause { may_fail number stop core.old.journal ≡ true }
     requires source { names_source core.old.fixed.plan stop ≡ true }
     requires there { IsThere core.old.table stop }
-    ensures { core.new ≡ failing (closed number core.old) number stop }
+    ensures { core.new ≡ after_fail (closed number core.old) number stop }
 {
     give_up(core, bell, number);
     core.fail(number, stop);
@@ -144,7 +143,7 @@ pub(crate) fn publish<I: Held>(
     requires hands { holds_none number core.old.table ≡ true }
     requires got { has_got_all number (input_keys core.old.fixed.plan key) core.old.journal ≡ true }
     requires shape { frame.shape ≡ shape_at core.old.fixed.plan key.node }
-    ensures ok { OnOk result (core.new ≡ published core.old number key frame) }
+    ensures ok { OnOk result (core.new ≡ after_publish core.old number key frame) }
     ensures err { IfErr result (λ stop. RunsOut number stop core.old core.new) }
 {
     match core.publish(number, key, frame) {

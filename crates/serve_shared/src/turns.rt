@@ -3,8 +3,7 @@ ghost use Rattle.std.specs.Prelude.{◌≡◌, ◌<◌, true, false, [], ◌∷�
 ghost use Rattle.clip_graph.specs.Unfolding.{input_keys};
 ghost use Rattle.serve_machine.specs.declared.event.Event.TheVariants.{Leave, Deliver};
 ghost use Rattle.serve_machine.specs.declared.event.WindowStop.TheVariants.{Memory};
-ghost use Rattle.serve_machine.specs.Keys.{IsKey, has, mode_at};
-ghost use Rattle.serve_machine.specs.Own.{has_got, has_got_all};
+ghost use Rattle.serve_machine.specs.Events.{IsKey, has, mode_at, has_got, has_got_all};
 ghost use Rattle.serve_machine.specs.Holdings.{has_number};
 ghost use Rattle.serve_core.specs.Sources.{shape_at};
 ghost use Rattle.serve_shared.specs.Seats.{seat_holdings, HasSeat, AtWork, Adds, RightFor};

@@ -7,11 +7,9 @@ use Rattle.fv_io.specs.Sink.{Puts, PutsPrefix}
 use Rattle.fv_io.specs.Told.{with_piece}
 use Rattle.fv_io.proofs.CallerLemmas.{with_piece_twice, with_no_piece, gets_after, gets_more}
 use Rattle.clip_graph.specs.Plan.{Application, application_at}
-use Rattle.serve_machine.specs.Windows.{WindowEvents}
-use Rattle.serve_text.specs.Report.{node_line, report_line}
+use Rattle.serve_machine.specs.Events.{WindowEvents}
+use Rattle.serve_text.specs.Report.{node_line, report_line, counts_of, lines_between, PutsUpTo}
 use Rattle.serve_text.specs.declared.counts.Counts.{Counts}
-use Rattle.serve_text.specs.Counts.{counts_of}
-use Rattle.serve_text.specs.ReportLines.{lines_between, PutsUpTo}
 
 module _ {K : Type 0} (sink : Ghosts K) where
   -- nothing was put

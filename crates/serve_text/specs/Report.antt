@@ -1,14 +1,17 @@
--- How often the frames of each node of a plan were made, found in the cache and dropped from it, and how often an
--- instance of the node was taken, as lines of text.
-use Rattle.std.specs.Prelude.{ℕ, ◌==◌, Bool, false, List, ◌++◌, length, codes}
-use Rattle.std.specs.Fmt.{decimal}
+-- The report of a render: how often the frames of each node of a plan were made, found in the cache and dropped from it.
+use Rattle.std.specs.Prelude.{ℕ, ◌+◌, ◌≤◌, ◌<◌, List, length, cond, slice_index_or, ◌==◌, Bool, false, ◌++◌, codes, ◌≡◌, ◌-◌, ◌⊎◌}
 use Rattle.std.specs.List.{count_by, sum_by, flat_map, range_with_len}
+use Rattle.std.specs.Fmt.{decimal}
+use Rattle.serve_machine.specs.declared.event.Event.{Event}
+use Rattle.serve_machine.specs.Events.{WindowEvents}
+use Rattle.serve_text.specs.declared.counts.Counts.{Counts}
 use Rattle.clip_term.specs.Filters.{name_of}
 use Rattle.clip_graph.specs.Plan.{Application, application_at}
 use Rattle.clip_term.specs.Ops.{filter_of}
-use Rattle.serve_machine.specs.declared.event.Event.{Event}
 use Rattle.serve_machine.specs.declared.event.Event.TheVariants.{Hit, Enter, Evict, Publish}
-use Rattle.serve_machine.specs.Windows.{WindowEvents}
+use Rattle.fv_io.specs.declared.sink.Sink.{Ghosts}
+use Rattle.fv_io.specs.Sink.{Puts, PutsPrefix, IsLater, SinkFailed}
+use Rattle.serve_text.specs.Lines.{Says, write_line}
 
 -- a frame of node i was made
 abbrev pub makes : ℕ → Event → Bool
@@ -48,3 +51,71 @@ report_line plan windows i = node_line i (application_at plan i) (number_of (mak
 -- a line for each node
 abbrev pub report : List Application → List WindowEvents → List ℕ
 report plan windows = flat_map (report_line plan windows) (range_with_len 0 (length plan))
+
+-- ---- The numbers of a node's events, counted.
+
+abbrev pub none : Counts
+none = record { made = 0; hit = 0; evicted = 0; entered = 0 }
+
+-- one more event
+abbrev pub with_event : ℕ → Event → Counts → Counts
+with_event i event counts = record {
+  made = counts.made + cond (makes i event) 1 0;
+  hit = counts.hit + cond (hits i event) 1 0;
+  evicted = counts.evicted + cond (evicts i event) 1 0;
+  entered = counts.entered + cond (enters i event) 1 0;
+}
+
+-- the events of a window more
+abbrev pub with_events : ℕ → List Event → Counts → Counts
+with_events i events counts = record {
+  made = counts.made + count_by (makes i) events;
+  hit = counts.hit + count_by (hits i) events;
+  evicted = counts.evicted + count_by (evicts i) events;
+  entered = counts.entered + count_by (enters i) events;
+}
+
+-- the numbers of node i's events in all windows
+abbrev pub counts_of : List WindowEvents → ℕ → Counts
+counts_of windows i = record {
+  made = number_of (makes i) windows;
+  hit = number_of (hits i) windows;
+  evicted = number_of (evicts i) windows;
+  entered = number_of (enters i) windows;
+}
+
+pub record IsAtMost (most : ℕ) (counts : Counts) : Type 0 where
+  pub made : counts.made ≤ most
+  pub hit : counts.hit ≤ most
+  pub evicted : counts.evicted ≤ most
+  pub entered : counts.entered ≤ most
+
+abbrev pub AreAtMost : ℕ → List Counts → Type 0
+AreAtMost most table = (k : ℕ) → k < length table → IsAtMost most (slice_index_or table k none)
+
+-- ---- Lines that were put.
+
+-- the lines of the nodes from `first` to before `end`
+abbrev pub lines_between : List Application → List WindowEvents → ℕ → ℕ → List ℕ
+lines_between plan windows first end = flat_map (report_line plan windows) (range_with_len first (end - first))
+
+-- all of this text was put but for its rest
+pub record PutsUpTo {K : Type 0} (sink : Ghosts K) (old new : K) (text rest : List ℕ) : Type 0 where
+  pub front : List ℕ
+  pub text_is : text ≡ front ++ rest
+  pub put : Puts sink old new front
+
+-- ---- A report or a journal that is put on standard error.
+
+module _ {E : Type 0} (lines : Ghosts E) (err said : E) (text : List ℕ) where
+  -- a prefix of the text was put before the sink failed, and after it the line of a failed write, as far as it could be
+  pub record CutsReport : Type 0 where
+    pub mid : E
+    pub cut : PutsPrefix lines err mid text
+    pub failed : SinkFailed lines err mid
+    pub line : Says lines mid said write_line
+
+  -- the text was put, or cut short
+  pub record Reports (status : ℕ) : Type 0 where
+    pub ends : ((status ≡ 0) × Puts lines err said text) ⊎ ((status ≡ 5) × CutsReport)
+    pub later : IsLater lines err said

@@ -1,7 +1,7 @@
 // The numbers of the events of some nodes, counted in one walk over a journal.
 ghost use Rattle.std.specs.Prelude.{◌≡◌, ℕ, ◌+◌, ◌-◌, ◌^◌, ◌<◌, length, slice_index_or};
-ghost use Rattle.serve_machine.specs.Windows.{windows_of};
-ghost use Rattle.serve_text.specs.Counts.{none, with_event, with_events, counts_of, IsAtMost, AreAtMost};
+ghost use Rattle.serve_machine.specs.Events.{windows_of};
+ghost use Rattle.serve_text.specs.Report.{none, with_event, with_events, counts_of, IsAtMost, AreAtMost};
 
 use serve_machine::{Event, Record};
 

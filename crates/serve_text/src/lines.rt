@@ -2,10 +2,8 @@
 ghost use Rattle.std.specs.Prelude.{◌≡◌, ◌+◌, ◌<◌, ◌≤◌, ℕ, length, flat_map, slice_index_or, OnOk, OnErr};
 ghost use Rattle.clip_graph.specs.Nodes.{application_of};
 ghost use Rattle.fv_io.specs.Sink.{Puts, PutsPrefix, SinkFailed, IsLater};
-ghost use Rattle.serve_machine.specs.Windows.{windows_of};
-ghost use Rattle.serve_text.specs.Counts.{none, counts_of};
-ghost use Rattle.serve_text.specs.Report.{report, node_line};
-ghost use Rattle.serve_text.specs.ReportLines.{lines_between};
+ghost use Rattle.serve_machine.specs.Events.{windows_of};
+ghost use Rattle.serve_text.specs.Report.{none, counts_of, report, node_line, lines_between};
 
 use crate::counts::{Counts, count_windows};
 use arrayvec::ArrayString;

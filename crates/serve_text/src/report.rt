@@ -2,9 +2,8 @@
 ghost use Rattle.std.specs.Prelude.{◌≡◌, OnOk, OnErr};
 ghost use Rattle.std.specs.List.{AllByRecursion};
 ghost use Rattle.serve_text.specs.Lines.{Says, write_line};
-ghost use Rattle.serve_text.specs.Reports.{Reports};
-ghost use Rattle.serve_machine.specs.Windows.{windows_of};
-ghost use Rattle.serve_text.specs.Report.{report};
+ghost use Rattle.serve_text.specs.Report.{Reports, report};
+ghost use Rattle.serve_machine.specs.Events.{windows_of};
 ghost use Rattle.run_text.specs.Lines.{LineFits, journal_lines, journal_text};
 
 use crate::lines::put_report;

@@ -18,7 +18,7 @@ use Rattle.inst_table.specs.declared.place.Slot.{Slot}
 use Rattle.inst_table.specs.declared.place.Slot.TheVariants.{Free, Leased}
 use Rattle.inst_table.specs.Places.{place_at, shared_place, own_place, same_place, slot_at, has_place, IsNewPair}
 use Rattle.inst_table.proofs.CallerLemmas.{test, same_places, place_itself, slot_added}
-use Rattle.serve_machine.specs.Keys.{mode_at}
+use Rattle.serve_machine.specs.Events.{mode_at}
 use Rattle.serve_core.specs.Kept.{leases_out}
 use Rattle.serve_core.specs.Sources.{opened_at, HoldTheirs}
 use Rattle.serve_core.proofs.Places.{free_same, some_same}

@@ -30,7 +30,7 @@ use Rattle.clip_term.specs.Terms.{AreLawful, IsSound, asked, check, make, join_i
 use Rattle.clip_term.proofs.AskedLemmas.{asks_in_range}
 use Rattle.clip_term.proofs.LawfulLemmas.{checks_lawful}
 use Rattle.clip_term.proofs.PassedLemmas.{passed, limits_shape}
-use Rattle.clip_term.proofs.TimeLocal.{time_local}
+use Rattle.clip_term.proofs.TimeFacts.{time_facts}
 use Rattle.clip_graph.specs.Plan.{Application, application_at, infos_at, IsPlan}
 use Rattle.clip_graph.specs.Unfolding.{input_keys, key_made, AreOfKeys}
 use Rattle.clip_term.proofs.ListedLemmas.{listed, blank_listed}
@@ -98,7 +98,7 @@ time_made op infos info n (p ∷ rest) picture sound lawful told shapes whole is
     let one = asks_in_range (time op) infos n sound lawful 0 o (omega arith) in
     let parts = passed (time_refusals op c infos) (limits c (time_length op c infos) (time_rate op c infos) c.shape) info told in
     let here : p.shape ≡ (info_at infos o.input).shape = cc in
-    let first = time_local op infos n parts.0 one.input in
+    let first = (time_facts op).local infos n parts.0 one.input in
     let told_shape = limits_shape c (time_length op c infos) (time_rate op c infos) c.shape info parts.1 in
     is ∙ sym (listed p (subst (λ (x : Picture). IsPicture x) is whole)) ∙ ap (λ s. picture_from s (look_in p)) (here ∙ first ∙ told_shape)
 

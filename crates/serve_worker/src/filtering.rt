@@ -3,7 +3,7 @@ ghost use Rattle.std.specs.Prelude.{◌≡◌, false, List, Option, IfOk, IfErr}
 ghost use Rattle.fv_plane.specs.Picture.{Picture};
 ghost use Rattle.clip_graph.specs.Plan.{application_at, is_source};
 ghost use Rattle.clip_graph.specs.Unfolding.{input_keys, AreOfKeys};
-ghost use Rattle.serve_machine.specs.Keys.{IsKey};
+ghost use Rattle.serve_machine.specs.Events.{IsKey};
 ghost use Rattle.serve_core.specs.Works.{IsMade};
 
 use crate::make::make_frame;
@@ -30,7 +30,7 @@ pub(crate) fn filtered(
 {
     match make_frame(alloc, memory, graph, key, inputs, scratch) {
         Ok(frame) => {
-            // Called for what its contract says.
+            // What is made is a picture.
             frame.shape();
             Ok(frame)
         }

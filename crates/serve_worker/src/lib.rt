@@ -9,6 +9,7 @@ mod instance;
 mod make;
 mod memory;
 
+pub use clip_frames::input_at;
 pub use furnishing::furnish;
 pub use instance::Instance;
 pub use make::make_frame;

@@ -9,9 +9,9 @@ use clip_graph::Graph;
 use clip_term::{Op, SoftOp};
 use flt_choice::make_run;
 use flt_field::make_field;
-use flt_merge::make_join;
-use flt_soft::{Scratch, make_soft};
-use flt_space::make_space;
+use flt_merge::make_join_in;
+use flt_soft::{Scratch, make_soft_in};
+use flt_space::make_space_in;
 use fv_plane::{Frame, FrameMemory, Key};
 use std::alloc::{AllocError, Global};
 
@@ -37,10 +37,10 @@ fn mixed(
     ensures { IfOk result (λ made. made ≡ soft_picture op.now frames.now) }
 {
     match scratch {
-        Some(scratch) => make_soft(alloc, memory, op, frames, scratch),
+        Some(scratch) => make_soft_in(alloc, memory, op, frames, scratch),
         None => {
             let mut scratch = Scratch::new(alloc);
-            make_soft(alloc, memory, op, frames, &mut scratch)
+            make_soft_in(alloc, memory, op, frames, &mut scratch)
         }
     }
 }
@@ -80,8 +80,8 @@ pub fn make_frame(
         Op::Source { .. } => unreachable!(),
         Op::Blank { info, colour } => Frame::blank(alloc, info.shape, *colour),
         Op::Time(_) => shown(&frames[0]),
-        Op::Space(op) => make_space(alloc, memory, op, &frames[0]),
-        Op::Join(op) => make_join(alloc, memory, op, frames),
+        Op::Space(op) => make_space_in(alloc, memory, op, &frames[0]),
+        Op::Join(op) => make_join_in(alloc, memory, op, frames),
         Op::Soft(op) => mixed(alloc, memory, op, frames, scratch),
         Op::Field(op) => {
             let clip = &graph.node(node.inputs[0]).info;

@@ -1,6 +1,6 @@
 // Spare memory for the frames of nodes.
 ghost use Rattle.std.specs.Prelude.{◌<◌};
-ghost use Rattle.serve_machine.specs.Keys.{IsKey};
+ghost use Rattle.serve_machine.specs.Events.{IsKey};
 
 use crate::make::writes;
 use clip_graph::{Graph, Node};

@@ -3,6 +3,8 @@
 #![tactic(auto)]
 
 #[cfg(test)]
+mod crowd;
+#[cfg(test)]
 mod meeting;
 #[cfg(test)]
 mod paused;

@@ -1,9 +1,12 @@
 // Renders by several workers, compared with the render by one.
+use crate::crowd::Crowd;
 use crate::meeting::Meeting;
 use crate::paused::PausedFiles;
-use crate::runs::{BOTH, CLIP, Left, files_in_pieces, files_of, run_one, run_together};
+use crate::runs::{
+    BOTH, CLIP, Left, count_events, files_in_pieces, files_of, run_one, run_together,
+};
 use fv_io::Trip;
-use serve_app::OpenGate;
+use serve_app::{Event, OpenGate};
 use std::sync::Arc;
 use std::test::Fail;
 
@@ -27,7 +30,12 @@ fn several_workers_write_what_one_writes(rt: HostRuntime) -> Result<(), Fail> {
         let many = run_together(&rt, alloc, &words, &mut files, 999, &OpenGate)?;
         let mut files = files_of(alloc, script, &[])?;
         let one = run_one(alloc, &words, &mut files, 999)?;
-        for Left { status, out, err } in [many, one] {
+        for Left {
+            status,
+            out,
+            err,
+            journal: _,
+        } in [many, one] {
             assert_eq!(rt; status, 0);
             assert!(rt; out.bytes() == text);
             assert!(rt; err.bytes().is_empty());
@@ -55,6 +63,30 @@ fn two_workers_run_at_once(rt: HostRuntime) -> Result<(), Fail> {
     let left = run_together(&rt, alloc, &words, &mut files, 999, &OpenGate)?;
     assert!(rt; left.status == 0 && left.out.bytes() == INTERLEAVED);
     assert_eq!(rt; meeting.seen(), 2);
+    Ok(())
+}
+
+// All workers that are asked for are at work at once: each waits at its first claim for the others. The gate is passed at each claim
+// of the journal, and with each frame that is published.
+#[test]
+fn all_workers_run_at_once(rt: HostRuntime) -> Result<(), Fail> {
+    let alloc = rt.alloc();
+    for (threads, size) in [("2", 2), ("4", 4), ("16", 16)] as [(&str, u64); 3] {
+        let gate = Crowd::new(size);
+        let script = b"BlankClip(length=64, width=16, height=16).Invert";
+        let mut files = files_of(alloc, script, &[])?;
+        let words = ["render", "s.avs", "--threads", threads];
+        let left = run_together(&rt, alloc, &words, &mut files, 99_999, &gate)?;
+        assert_eq!(rt; left.status, 0);
+        assert_eq!(rt; gate.met(), size);
+        let claims = count_events(&left.journal, |event| matches!(event, Event::Claim { .. }));
+        let made = count_events(
+            &left.journal,
+            |event| matches!(event, Event::Publish { .. }),
+        );
+        assert_eq!(rt; gate.claimed(), claims);
+        assert_eq!(rt; gate.made(), made);
+    }
     Ok(())
 }
 

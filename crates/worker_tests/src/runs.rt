@@ -1,6 +1,6 @@
 // Scripts and a clip in memory, and runs over them by several workers.
 use fv_io::{Files, MemFiles, MemSink, Text, Trip};
-use serve_app::{Gate, run, run_plain};
+use serve_app::{Ending, Event, Gate, Record, run, run_plain};
 use std::alloc::{AllocError, Global};
 use std::sync::Wait;
 use std::thread::Threads;
@@ -44,12 +44,28 @@ pub fn files_of(alloc: Global, script: &[u8], trips: &[Trip]) -> Result<MemFiles
     files_in_pieces(alloc, script, trips, 5)
 }
 
-// What a run leaves: its status, and what is on both outputs.
+// What a run leaves: its status, what is on both outputs, and its journal.
 #[derive(Drop)]
 pub struct Left {
     pub status: u8,
     pub out: MemSink,
     pub err: MemSink,
+    pub journal: Option<Record>,
+}
+
+// How many events of a journal are of this kind.
+pub fn count_events(journal: &Option<Record>, is: fn(&Event) -> bool) -> u64 {
+    let mut count = 0u64;
+    if let Some(journal) = journal {
+        for window in &journal.windows {
+            for event in &window.events {
+                if is(event) {
+                    count = count.saturating_add(1);
+                }
+            }
+        }
+    }
+    count
 }
 
 fn words_of(alloc: Global, words: &[&str]) -> Result<Vec<Text>, AllocError> {
@@ -73,8 +89,13 @@ pub fn run_together<R: Threads + Wait + Sync, F: Files, G: Gate>(
     let mut out = MemSink::new(alloc, room)?;
     let mut err = MemSink::new(alloc, 999)?;
     let ending = run(rt, alloc, &texts, files, &mut out, &mut err, gate);
-    let status = ending.status;
-    Ok(Left { status, out, err })
+    let Ending { status, journal } = ending;
+    Ok(Left {
+        status,
+        out,
+        err,
+        journal,
+    })
 }
 
 // A run by one worker.
@@ -88,6 +109,11 @@ pub fn run_one<F: Files>(
     let mut out = MemSink::new(alloc, room)?;
     let mut err = MemSink::new(alloc, 999)?;
     let ending = run_plain(alloc, &texts, files, &mut out, &mut err);
-    let status = ending.status;
-    Ok(Left { status, out, err })
+    let Ending { status, journal } = ending;
+    Ok(Left {
+        status,
+        out,
+        err,
+        journal,
+    })
 }

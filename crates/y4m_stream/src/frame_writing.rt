@@ -3,6 +3,7 @@ ghost use Rattle.std.specs.Prelude.{◌≡◌, ◌≤◌, ◌<◌, ◌+◌, ◌^
 ghost use Rattle.fv_io.specs.Sink.{Puts, PutsPrefix, IsLater, SinkFailed};
 ghost use Rattle.fv_plane.specs.Format.{planes, row_bytes, frame_bytes};
 ghost use Rattle.fv_plane.specs.Bytes.{bytes_of};
+ghost use Rattle.fv_plane.specs.Picture.{IsPicture};
 ghost use Rattle.y4m_stream.specs.Planes.{bytes_of_plane, PutsAllBut};
 ghost use Rattle.y4m_stream.specs.Stream.{frame_text};
 
@@ -25,6 +26,7 @@ fn make_room<K: Sink>(out: &mut K, buf: &[u8], end: usize, size: usize) -> Resul
     ensures put { IfOk result (λ left. PutsAllBut K.Sink out.old out.new (take end buf.now) (take left buf.now)) }
     ensures cut { OnErr result (PutsPrefix K.Sink out.old out.new (take end buf.now)) }
     ensures later { IsLater K.Sink out.old out.new }
+    ensures steady { OnOk result (K.faults out.new ≡ K.faults out.old) }
     ensures failed { OnErr result (SinkFailed K.Sink out.old out.new) }
 {
     if size <= buf.len() - end {
@@ -52,6 +54,7 @@ fn gather_plane<K: Sink>(
     ensures cut { OnErr result (PutsPrefix K.Sink out.old out.new
         (take start buf.old ++ bytes_of_plane frame.now plane)) }
     ensures later { IsLater K.Sink out.old out.new }
+    ensures steady { OnOk result (K.faults out.new ≡ K.faults out.old) }
     ensures failed { OnErr result (SinkFailed K.Sink out.old out.new) }
 {
     let mut end = start;
@@ -70,6 +73,7 @@ fn write_gathered<K: Sink>(out: &mut K, line: &[u8], frame: &Frame) -> Result<()
     ensures put { OnOk result (Puts K.Sink out.old out.new (line.now ++ bytes_of frame.now)) }
     ensures cut { OnErr result (PutsPrefix K.Sink out.old out.new (line.now ++ bytes_of frame.now)) }
     ensures later { IsLater K.Sink out.old out.new }
+    ensures steady { OnOk result (K.faults out.new ≡ K.faults out.old) }
     ensures failed { OnErr result (SinkFailed K.Sink out.old out.new) }
 {
     let mut buf = [0; SMALL];
@@ -87,6 +91,7 @@ fn write_long_rows<K: Sink>(out: &mut K, frame: &Frame, plane: u32) -> Result<()
     ensures put { OnOk result (Puts K.Sink out.old out.new (bytes_of_plane frame.now plane)) }
     ensures cut { OnErr result (PutsPrefix K.Sink out.old out.new (bytes_of_plane frame.now plane)) }
     ensures later { IsLater K.Sink out.old out.new }
+    ensures steady { OnOk result (K.faults out.new ≡ K.faults out.old) }
     ensures failed { OnErr result (SinkFailed K.Sink out.old out.new) }
 {
     for y in 0..frame.shape().plane_height(plane) {
@@ -102,6 +107,7 @@ fn write_short_rows<K: Sink>(out: &mut K, frame: &Frame, plane: u32) -> Result<(
     ensures put { OnOk result (Puts K.Sink out.old out.new (bytes_of_plane frame.now plane)) }
     ensures cut { OnErr result (PutsPrefix K.Sink out.old out.new (bytes_of_plane frame.now plane)) }
     ensures later { IsLater K.Sink out.old out.new }
+    ensures steady { OnOk result (K.faults out.new ≡ K.faults out.old) }
     ensures failed { OnErr result (SinkFailed K.Sink out.old out.new) }
 {
     let mut buf = [0; PIECE];
@@ -115,6 +121,7 @@ fn write_rows<K: Sink>(out: &mut K, frame: &Frame, plane: u32) -> Result<(), Fai
     ensures put { OnOk result (Puts K.Sink out.old out.new (bytes_of_plane frame.now plane)) }
     ensures cut { OnErr result (PutsPrefix K.Sink out.old out.new (bytes_of_plane frame.now plane)) }
     ensures later { IsLater K.Sink out.old out.new }
+    ensures steady { OnOk result (K.faults out.new ≡ K.faults out.old) }
     ensures failed { OnErr result (SinkFailed K.Sink out.old out.new) }
 {
     if frame.shape().row_bytes(plane) as usize > PIECE {
@@ -129,6 +136,7 @@ fn write_plane<K: Sink>(out: &mut K, frame: &Frame, plane: u32) -> Result<(), Fa
     ensures put { OnOk result (Puts K.Sink out.old out.new (bytes_of_plane frame.now plane)) }
     ensures cut { OnErr result (PutsPrefix K.Sink out.old out.new (bytes_of_plane frame.now plane)) }
     ensures later { IsLater K.Sink out.old out.new }
+    ensures steady { OnOk result (K.faults out.new ≡ K.faults out.old) }
     ensures failed { OnErr result (SinkFailed K.Sink out.old out.new) }
 {
     let height = frame.shape().plane_height(plane);
@@ -144,6 +152,7 @@ fn write_planes<K: Sink>(out: &mut K, frame: &Frame) -> Result<(), Failed>
     ensures put { OnOk result (Puts K.Sink out.old out.new (bytes_of frame.now)) }
     ensures cut { OnErr result (PutsPrefix K.Sink out.old out.new (bytes_of frame.now)) }
     ensures later { IsLater K.Sink out.old out.new }
+    ensures steady { OnOk result (K.faults out.new ≡ K.faults out.old) }
     ensures failed { OnErr result (SinkFailed K.Sink out.old out.new) }
 {
     for plane in 0..frame.shape().kind.planes() {
@@ -153,12 +162,14 @@ fn write_planes<K: Sink>(out: &mut K, frame: &Frame) -> Result<(), Failed>
 }
 
 /// Puts a line, whatever its bytes are, and the samples of a frame after it. Where both are small they are put in one
-/// piece. After `Failed` only a prefix of these was put.
+/// piece. After `Failed` only a prefix of these was put. A frame is a whole picture.
 pub fn write_after<K: Sink>(out: &mut K, line: &[u8], frame: &Frame) -> Result<(), Failed>
     ensures put { OnOk result (Puts K.Sink out.old out.new (line.now ++ bytes_of frame.now)) }
     ensures cut { OnErr result (PutsPrefix K.Sink out.old out.new (line.now ++ bytes_of frame.now)) }
     ensures later { IsLater K.Sink out.old out.new }
+    ensures steady { OnOk result (K.faults out.new ≡ K.faults out.old) }
     ensures failed { OnErr result (SinkFailed K.Sink out.old out.new) }
+    ensures whole { IsPicture frame.now }
 {
     if line.len() + frame.shape().bytes() as usize <= SMALL {
         return write_gathered(out, line, frame);
@@ -168,12 +179,14 @@ pub fn write_after<K: Sink>(out: &mut K, line: &[u8], frame: &Frame) -> Result<(
 }
 
 /// Puts a frame as a stream has it (yuv4mpeg(5) of mjpegtools): `FRAME`, a newline and the planes. After `Failed` only
-/// a prefix of these was put.
+/// a prefix of these was put. A frame is a whole picture, so no half of one is put.
 pub fn write_frame<K: Sink>(out: &mut K, frame: &Frame) -> Result<(), Failed>
     ensures put { OnOk result (Puts K.Sink out.old out.new (frame_text (bytes_of frame.now))) }
     ensures cut { OnErr result (PutsPrefix K.Sink out.old out.new (frame_text (bytes_of frame.now))) }
     ensures later { IsLater K.Sink out.old out.new }
+    ensures steady { OnOk result (K.faults out.new ≡ K.faults out.old) }
     ensures failed { OnErr result (SinkFailed K.Sink out.old out.new) }
+    ensures whole { IsPicture frame.now }
 {
     write_after(out, HEAD, frame)
 }

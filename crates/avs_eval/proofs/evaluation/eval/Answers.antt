@@ -13,7 +13,7 @@ pub returns-in_err-root-clause-told : goal.returns-in_err-root-clause-told
 returns-in_err-root-clause-told g c = λ told.
     let outside = outside_by g.H.Host.clips g.H.Host.scripts in
     let stop = c.in_err-root.field-0.0 in
-    let is : c.from_residual-in_err-root.result ≡ Err stop = search rules in
+    let is : c.from_residual.result ≡ Err stop = search rules in
     rw is (stop_shows _ stop
     (subst (λ s. Fails (Unit {0}) (executed outside c.args.name.now c.args.text.now s) stop) c.new-machine.ensures (c.in_err-root.ensures.told told)))
 

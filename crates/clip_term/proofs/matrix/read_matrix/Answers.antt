@@ -1,6 +1,6 @@
-use Rattle.std.proofs.Common.{◌≡◌, ◌∙◌, ℕ, List, [], ◌∷◌, ◌++◌, length, map, sym, ap, rules, tests, Some, None, w32, true}
-use Rattle.std.specs.Prelude.{ℤ, ◌&&◌, ◌||◌, ◌==◌}
-use Rattle.std.specs.List.{slice_split, list_all}
+use Rattle.std.proofs.Common.{◌≡◌, ◌∙◌, ℕ, List, [], ◌∷◌, ◌++◌, length, map, sym, ap, rules, tests, Some, None, w32, Bool, true}
+use Rattle.std.specs.Prelude.{ℤ, ◌&&◌, ◌||◌, ◌==◌, if◌then◌else◌}
+use Rattle.std.specs.List.{list_all}
 use Rattle.std.proofs.lemmas.Bool.{and_parts, and_from}
 use Rattle.std.proofs.lemmas.Int.{to_z-of_z}
 use Rattle.std.proofs.lemmas.List.{map-append}
@@ -9,7 +9,7 @@ use Rattle.std.proofs.lemmas.Iterator.Splits.{YieldsList-from_slice_split}
 use Rattle.std.proofs.lemmas.List.Folds.{list_all-append}
 use Rattle.clip_term.specs.Arguments.{is_weight}
 use Rattle.clip_term.specs.Texts.{is_gap, entry_of}
-use Rattle.clip_term.proofs.MatrixLemmas.{are_entries, are_less, are_more, entries_in, entries_less, entries_more, matrix_read, matrix_refused}
+use Rattle.clip_term.proofs.MatrixLemmas.{are_less, are_more, entries_less, entries_more, read_all}
 use Rattle.clip_term.proofs.matrix.read_matrix.Goals as goal
 use denote.Bor.{Bor}
 use mir.Val.{SFits}
@@ -28,29 +28,15 @@ loop-word-preserved-in-Ok c =
       small = ap (list_all is_weight) put ∙ list_all-append is_weight c.loop-word.entries (entry ∷ []) ∙ ap (λ b. b && (is_weight entry && true)) c.loop-word.invariant.small ∙ ap (λ b. b && true) c.in-Some-entry_of.ensures.small;
     })
 
-pub loop-word-preserved-then-are_entries : goal.loop-word-preserved-then-are_entries
-loop-word-preserved-then-are_entries c =
-    let word = c.in-Some.word.now in
-    let parts : List (List ℕ) = map (λ (p : Bor (List ℕ)). p.now) c.loop-word.yielded in
-    let more : map (λ (p : Bor (List ℕ)). p.now) (c.loop-word.yielded ++ c.in-Some.word ∷ []) ≡ parts ++ word ∷ [] = map-append _ c.loop-word.yielded (c.in-Some.word ∷ []) in
-    let none : entry_of word ≡ None = sym c.entry_of.ensures.entry ∙ c.in-None-entry_of.is in
-    let are = sym c.loop-word.invariant.all ∙ c.if-are_entries.true in
-    rw more (record {
-      entries = c.loop-word.invariant.entries ∙ sym (entries_less parts word none);
-      all = c.is_empty-are_entries.ensures ∙ sym (are_less parts word none ∙ ap (λ b. b && (length word == 0)) are);
-      small = c.loop-word.invariant.small;
-    })
-
 pub loop-word-preserved : goal.loop-word-preserved
 loop-word-preserved c =
     let word = c.in-Some.word.now in
     let parts : List (List ℕ) = map (λ (p : Bor (List ℕ)). p.now) c.loop-word.yielded in
     let more : map (λ (p : Bor (List ℕ)). p.now) (c.loop-word.yielded ++ c.in-Some.word ∷ []) ≡ parts ++ word ∷ [] = map-append _ c.loop-word.yielded (c.in-Some.word ∷ []) in
     let none : entry_of word ≡ None = sym c.entry_of.ensures.entry ∙ c.in-None-entry_of.is in
-    let are = sym c.loop-word.invariant.all ∙ c.if-are_entries.false in
     rw more (record {
       entries = c.loop-word.invariant.entries ∙ sym (entries_less parts word none);
-      all = c.if-are_entries.false ∙ sym (are_less parts word none ∙ ap (λ b. b && (length word == 0)) are);
+      all = ap (λ b. c.loop-word.are_entries && b) c.is_empty-are_entries.ensures ∙ ap (λ b. b && (length word == 0)) c.loop-word.invariant.all ∙ sym (are_less parts word none);
       small = c.loop-word.invariant.small;
     })
 
@@ -59,12 +45,9 @@ returns-then-is_square-clause-read c =
     let end = YieldsList-end
     (YieldsList-from_slice_split _ is_gap c.as_bytes.result.now (cc) (cc) (cc) (λ x b q k. search (rules, tests)))
     c.loop-word.yielded _ c.loop-word.yielded_by _ _ c.in-None.is c.next.ensures.steps in
-    let parts : List (List ℕ) = map (λ (p : Bor (List ℕ)). p.now) c.loop-word.yielded in
-    let whole : parts ≡ slice_split is_gap c.args.text.now = end.0 ∙ ap (slice_split is_gap) (c.as_bytes.ensures.value ∙ c.as_str.ensures) in
-    let test : (are_entries parts && (length (entries_in parts) == 9 || length (entries_in parts) == 25)) ≡ c.is_square.result
-    = sym (c.is_square.ensures ∙ ap (λ b. b && (length c.as_slice-count.result.now == 9 || length c.as_slice-count.result.now == 25)) c.loop-word.invariant.all
-    ∙ ap (λ (es : List ℤ). are_entries parts && (length es == 9 || length es == 25)) (c.as_slice-count.ensures ∙ c.loop-word.invariant.entries)) in
-    matrix_read parts c.args.text.now whole (test ∙ c.if-is_square.true) ∙ ap Some (sym c.loop-word.invariant.entries)
+    read_all _ c.args.text.now _ c.loop-word.entries c.loop-word.are_entries c.is_square.result end.0 (c.as_bytes.ensures.value ∙ c.as_str.ensures) c.loop-word.invariant.entries c.loop-word.invariant.all
+    (c.is_square.ensures ∙ ap (λ (es : List ℤ). c.loop-word.are_entries && (length es == 9 || length es == 25)) c.as_slice-count.ensures)
+    ∙ ap (λ (b : Bool). if b then Some c.loop-word.entries else None) c.if-is_square.true
 
 pub returns-then-is_square-clause-sound : goal.returns-then-is_square-clause-sound
 returns-then-is_square-clause-sound c =
@@ -76,9 +59,6 @@ returns-else-is_square-clause-bad_text c =
     let end = YieldsList-end
     (YieldsList-from_slice_split _ is_gap c.as_bytes.result.now (cc) (cc) (cc) (λ x b q k. search (rules, tests)))
     c.loop-word.yielded _ c.loop-word.yielded_by _ _ c.in-None.is c.next.ensures.steps in
-    let parts : List (List ℕ) = map (λ (p : Bor (List ℕ)). p.now) c.loop-word.yielded in
-    let whole : parts ≡ slice_split is_gap c.args.text.now = end.0 ∙ ap (slice_split is_gap) (c.as_bytes.ensures.value ∙ c.as_str.ensures) in
-    let test : (are_entries parts && (length (entries_in parts) == 9 || length (entries_in parts) == 25)) ≡ c.is_square.result
-    = sym (c.is_square.ensures ∙ ap (λ b. b && (length c.as_slice-count.result.now == 9 || length c.as_slice-count.result.now == 25)) c.loop-word.invariant.all
-    ∙ ap (λ (es : List ℤ). are_entries parts && (length es == 9 || length es == 25)) (c.as_slice-count.ensures ∙ c.loop-word.invariant.entries)) in
-    λ _. matrix_refused parts c.args.text.now whole (test ∙ c.if-is_square.false)
+    λ _. read_all _ c.args.text.now _ c.loop-word.entries c.loop-word.are_entries c.is_square.result end.0 (c.as_bytes.ensures.value ∙ c.as_str.ensures) c.loop-word.invariant.entries c.loop-word.invariant.all
+    (c.is_square.ensures ∙ ap (λ (es : List ℤ). c.loop-word.are_entries && (length es == 9 || length es == 25)) c.as_slice-count.ensures)
+    ∙ ap (λ (b : Bool). if b then Some c.loop-word.entries else None) c.if-is_square.false

@@ -4,8 +4,8 @@ use Rattle.clip_term.specs.Soft.{softened, samples_at}
 use Rattle.flt_soft.proofs.SoftenLemmas.{three_is, five_is}
 use Rattle.flt_soft.proofs.soften.soften_narrow.Goals as goal
 
-pub returns-in-3-clause-row : goal.returns-in-3-clause-row
-returns-in-3-clause-row c =
+pub returns-in-3 : goal.returns-in-3
+returns-in-3 c =
     let inputs = c.args.inputs.now in
     let p = c.args.plane in
     let y = c.args.y in
@@ -16,8 +16,8 @@ returns-in-3-clause-row c =
     ∙ three_is t inputs p x y c.row_in.result.now c.row_in-in-3.result.now c.row_in-in-3-2.result.now count c.row_in.ensures.row c.row_in-in-3.ensures.row c.row_in-in-3-2.ensures.row
     ∙ ap (λ r. softened r t (look_at (map look_in inputs) r p x y) (samples_at (map look_in inputs) p x y)) half
 
-pub returns-in-5-clause-row : goal.returns-in-5-clause-row
-returns-in-5-clause-row c =
+pub returns-in-5 : goal.returns-in-5
+returns-in-5 c =
     let inputs = c.args.inputs.now in
     let p = c.args.plane in
     let y = c.args.y in

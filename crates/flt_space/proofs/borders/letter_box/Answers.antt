@@ -9,4 +9,4 @@ returns c =
     let d = to_z-of_z w32 c.args.x1 c.ranges.x1 in
     let e = to_z-of_z w32 c.args.x2 c.ranges.x2 in
     let f = to_z-of_z w32 c.args.color_yuv c.ranges.color_yuv in
-    rw (a, b, d, e, f) at c.make_by_rows.ensures
+    rw (a, b, d, e, f) at c.make_moved.ensures

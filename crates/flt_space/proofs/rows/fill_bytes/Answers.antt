@@ -4,7 +4,7 @@ use Rattle.fv_plane.specs.Bytes.{wide_bytes}
 use Rattle.fv_plane.proofs.CallerLemmas.{bytes_of_narrow, bytes_of_wide, two_bytes}
 use Rattle.clip_term.specs.Space.{space_shape}
 use Rattle.flt_space.specs.Rows.{row_made}
-use Rattle.flt_space.proofs.RowLemmas.{more_bits, wide_kept, wide_row, wide_row_bytes}
+use Rattle.flt_space.proofs.RowLemmas.{more_bits, wide_kept, wide_row_bytes}
 use Rattle.flt_turn.proofs.PartLemmas.{narrow_bytes}
 use Rattle.flt_space.proofs.rows.fill_bytes.Goals as goal
 
@@ -20,10 +20,7 @@ fill_samples-requires-clause-wide g c =
     two_bytes c.args.input.now.shape (more_bits c.args.input.now.shape c.shape.result c.shape.ensures.shape c.if-shape-eq8.false)
 
 pub fill_samples-requires-clause-whole : goal.fill_samples-requires-clause-whole
-fill_samples-requires-clause-whole g c =
-    let op = g.F.RowFilter.op c.args.filter.now in
-    let shape = c.args.input.now.shape in
-    c.requires.wide ∙ wide_row (space_shape op shape) c.args.plane (wide_kept (space_shape op shape) shape c.requires.bits (more_bits shape c.shape.result c.shape.ensures.shape c.if-shape-eq8.false))
+fill_samples-requires-clause-whole g c = c.requires.wide
 
 pub write_samples-requires : goal.write_samples-requires
 write_samples-requires g c =

@@ -1,9 +1,8 @@
 -- Window after window.
 use Rattle.std.proofs.Common.{◌≡◌, ◌∙◌, ◌<◌, ◌-◌, ◌+◌, min, sym, ap, subst, arith}
-use Rattle.serve_machine.specs.Windows.{windows_of}
+use Rattle.serve_machine.specs.Events.{windows_of}
 use Rattle.serve_core.proofs.Tables.{all_free}
-use Rattle.prefetch.specs.Crew.{AreOfCrew}
-use Rattle.prefetch.specs.NextWindow.{MakesNext, NextShows}
+use Rattle.prefetch.specs.Crew.{AreOfCrew, MakesNext, NextShows}
 use Rattle.prefetch.specs.Windows.{frames_at}
 use Rattle.prefetch.proofs.CrewTogether.{IsFirstOf, none_crew, first_crew, more_crew, next_stops}
 use Rattle.prefetch.proofs.RenderLemmas.{Waits, keeps_first, keeps_on, none_waits, put_waiting, waiting_fails, more_waits, renders_all}

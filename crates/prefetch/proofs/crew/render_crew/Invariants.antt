@@ -1,9 +1,9 @@
 -- The windows before were rendered. The frames of all but the last were put.
 use Rattle.std.proofs.Common.{◌-◌, ◌≤◌}
 use Rattle.fv_io.specs.Sink.{IsLater}
-use Rattle.serve_machine.specs.Windows.{windows_of}
+use Rattle.serve_machine.specs.Events.{windows_of}
 use Rattle.prefetch.specs.Crew.{AreOfCrew}
-use Rattle.prefetch.specs.OneWindow.{Keeps}
+use Rattle.prefetch.specs.Windows.{Keeps}
 use Rattle.prefetch.proofs.RenderLemmas.{Waits}
 use Rattle.prefetch.proofs.crew.render_crew.Given as goal
 

@@ -3,10 +3,10 @@ use Rattle.std.proofs.Common.{◌≡◌, ◌∙◌, ap, map, inl, inr, Option, S
 use Rattle.std.specs.Option.{is_some}
 use Rattle.std.specs.Result.{is_err}
 use Rattle.fv_io.specs.declared.source.Failed.{Failed}
-use Rattle.serve_machine.specs.Windows.{windows_of, window_of}
+use Rattle.serve_machine.specs.Events.{windows_of, window_of}
 use Rattle.serve_machine.specs.declared.event.WindowStop.{WindowStop}
 use Rattle.prefetch.specs.Crew.{IsCrewWindow, IsCutCrew}
-use Rattle.prefetch.specs.OneWindow.{with_window, PutsFrames, AddsWindow}
+use Rattle.prefetch.specs.Windows.{with_window, PutsFrames, AddsWindow}
 use Rattle.prefetch.proofs.PutLemmas.{puts_not}
 use Rattle.prefetch.proofs.RenderLemmas.{ends_early, adds_window}
 use Rattle.prefetch.proofs.crew.render_crew_window.Given.{Over}

@@ -1,11 +1,11 @@
 -- The frames before were put.
 use Rattle.std.proofs.Common.{take}
-use Rattle.fv_io.specs.Sink.{Puts, IsLater}
-use Rattle.prefetch.specs.Windows.{given, pictures_text}
+use Rattle.fv_io.specs.Sink.{IsLater}
+use Rattle.prefetch.specs.Windows.{given, PutsPictures}
 use Rattle.prefetch.proofs.frames.put_frames.Given as goal
 
 abbrev pub invariant-loop-frame : goal.invariant-loop-frame
 invariant-loop-frame g l = record {
-  put : Puts g.K.Sink l.fn.out l.out (pictures_text (given (take l.frame-index l.frames)));
+  put : PutsPictures g.K.Sink l.fn.out l.out (given (take l.frame-index l.frames));
   later : IsLater g.K.Sink l.fn.out l.out;
 }

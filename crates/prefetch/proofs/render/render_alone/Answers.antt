@@ -1,4 +1,4 @@
-use Rattle.serve_machine.specs.Windows.{windows_of}
+use Rattle.serve_machine.specs.Events.{windows_of}
 use Rattle.prefetch.proofs.CoreRenders.{alone_renders, alone_stops}
 use Rattle.prefetch.proofs.render.render_alone.Goals as goal
 

@@ -1,5 +1,5 @@
 use Rattle.std.proofs.Common.{arith}
-use Rattle.serve_machine.specs.Windows.{windows_of}
+use Rattle.serve_machine.specs.Events.{windows_of}
 use Rattle.prefetch.proofs.CoreRenders.{together_renders, together_stops}
 use Rattle.prefetch.proofs.render.render_together.Goals as goal
 

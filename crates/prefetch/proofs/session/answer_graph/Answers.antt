@@ -5,7 +5,7 @@ use Rattle.serve_core.specs.Kept.{leases_out}
 use Rattle.serve_worker.specs.Furnishing.{sources_in}
 use Rattle.serve_worker.specs.declared.instance.Instance.{Instance}
 use Rattle.serve_core.proofs.Tables.{none_leased}
-use Rattle.prefetch.specs.declared.staff.Hands.{Hands}
+use Rattle.prefetch.specs.declared.pool_size.Pool.{Pool}
 use Rattle.prefetch.specs.Sessions.{IsToldSession}
 use Rattle.prefetch.proofs.CoreLemmas.{sources_stay, counts_stay}
 use Rattle.prefetch.proofs.AnsweredLemmas.{played, fresh, stop_is_named, session_stays, session_steady, session_answered, nothing_answered}
@@ -13,7 +13,7 @@ use Rattle.prefetch.proofs.session.answer_graph.Goals as goal
 use Rattle.prefetch.proofs.session.answer_graph.Given.{Over}
 use Rattle.prefetch.proofs.session.answer_graph.Goals.{After-serve-done, After-told_session-told}
 
-abbrev one : Hands
+abbrev one : Pool
 one = record { workers = 1; window = 1 }
 
 ok : (g : Over) (c : After-serve-done g) → OnOk c.serve-done.result (ServesAll (played g.S.Source) g.K.Sink g.L.Source fresh (record { core = c.in-Ok.core; windows = []; stop = None }) c.serve-done.new.player c.args.list.now c.serve-done.new.source c.args.out.now c.serve-done.new.out)

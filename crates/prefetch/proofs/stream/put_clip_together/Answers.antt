@@ -1,5 +1,5 @@
 use Rattle.std.proofs.Common.{rules}
-use Rattle.serve_machine.specs.Windows.{windows_of}
+use Rattle.serve_machine.specs.Events.{windows_of}
 use Rattle.serve_worker.specs.Instances.{holds_of}
 use Rattle.serve_core.proofs.Tables.{all_free}
 use Rattle.prefetch.specs.Windows.{Stays}
@@ -27,7 +27,7 @@ pub returns-clause-streamed : goal.returns-clause-streamed
 returns-clause-streamed g c =
     streamed g.S.Source g.K.Sink c.args.core c.args.window c.node.result.now.info c.args.out.now c.put_head.new.out c.render_together-core.new.out c.render_together-core.new.journal
     c.render_together-core.result.0 c.render_together-core.result.1 c.args.kept c.whole_of-whole.result c.requires.some c.requires.stands (search rules) c.in-Ok.ensures.put
-    c.put_head.ensures.later c.requires.kept c.render_together-core.ensures.ok c.render_together-core.ensures.stop c.whole_of-whole.ensures
+    c.in-Ok.ensures.steady c.put_head.ensures.later c.requires.kept c.render_together-core.ensures.ok c.render_together-core.ensures.stop c.whole_of-whole.ensures
 
 stays : (g : Over) (c : After-whole_of-whole g) → Stays holds_of c.args.core c.render_together-core.result.0
 stays g c =

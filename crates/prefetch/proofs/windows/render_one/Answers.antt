@@ -1,7 +1,7 @@
 -- The window that ended.
 use Rattle.std.proofs.Common.{◌≡◌, ◌∙◌, ap, map, refl}
-use Rattle.serve_machine.specs.Windows.{windows_of, window_of}
-use Rattle.prefetch.specs.OneWindow.{with_window}
+use Rattle.serve_machine.specs.Events.{windows_of, window_of}
+use Rattle.prefetch.specs.Windows.{with_window}
 use Rattle.prefetch.specs.SerialWindows.{IsSerialWindow, IsCutSerial}
 use Rattle.prefetch.proofs.RenderLemmas.{adds_window, cuts_window}
 use Rattle.prefetch.proofs.SerialLemmas.{serial_ends}

@@ -1,10 +1,10 @@
 -- Window after window.
 use Rattle.std.proofs.Common.{◌≡◌, ◌∙◌, ◌<◌, ◌-◌, ◌+◌, min, sym, ap, subst, arith}
 use Rattle.std.specs.Map.{keys_of}
-use Rattle.serve_machine.specs.Windows.{windows_of}
+use Rattle.serve_machine.specs.Events.{windows_of}
 use Rattle.serve_core.proofs.Tables.{all_free}
 use Rattle.prefetch.specs.Crew.{AreOfCrew}
-use Rattle.serve_machine.specs.CrewJournal.{AreAloneFirst, AreAloneCut}
+use Rattle.serve_machine.specs.Journals.{AreAloneFirst, AreAloneCut}
 use Rattle.prefetch.specs.SerialWindows.{IsAloneWindow, IsAloneCut, AreSerial}
 use Rattle.prefetch.specs.Windows.{frames_at}
 use Rattle.prefetch.proofs.CrewTogether as together

@@ -1,11 +1,10 @@
 -- The windows before were rendered, and their frames put.
 use Rattle.std.proofs.Common.{◌≡◌, ◌-◌, ◌≤◌}
 use Rattle.fv_io.specs.Sink.{IsLater}
-use Rattle.serve_machine.specs.Windows.{windows_of}
+use Rattle.serve_machine.specs.Events.{windows_of}
 use Rattle.prefetch.specs.Crew.{AreOfCrew}
-use Rattle.prefetch.specs.OneWindow.{Keeps}
+use Rattle.prefetch.specs.Windows.{Keeps, PutsFirst}
 use Rattle.prefetch.specs.SerialWindows.{AreSerial}
-use Rattle.prefetch.specs.Windows.{PutsFirst}
 use Rattle.prefetch.proofs.windows.render_plain.Given as goal
 
 abbrev pub invariant-loop-first : goal.invariant-loop-first

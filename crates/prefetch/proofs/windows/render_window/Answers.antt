@@ -1,7 +1,7 @@
 -- The window that ended, and what was put of it.
 use Rattle.std.proofs.Common.{◌≡◌, ◌∙◌, ap, map}
-use Rattle.serve_machine.specs.Windows.{windows_of, window_of}
-use Rattle.prefetch.specs.OneWindow.{with_window}
+use Rattle.serve_machine.specs.Events.{windows_of, window_of}
+use Rattle.prefetch.specs.Windows.{with_window}
 use Rattle.prefetch.specs.SerialWindows.{IsAloneWindow, IsAloneCut}
 use Rattle.prefetch.proofs.RenderLemmas.{window_put, window_not_put}
 use Rattle.prefetch.proofs.windows.render_window.Given.{Over}

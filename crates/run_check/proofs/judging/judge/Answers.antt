@@ -1,6 +1,6 @@
 use Rattle.std.proofs.Common.{◌≡◌, suc, [], ◌∷◌, ◌++◌, length, sym, ap, subst, length-append, arith}
 use Rattle.std.proofs.lemmas.Bool.{eqb-true, eqb-false}
-use Rattle.run_text.specs.Judging.{IsFirstWrong}
+use Rattle.run_text.specs.Journal.{IsFirstWrong}
 use Rattle.run_text.specs.Progress.{unread}
 use Rattle.run_text.proofs.JudgeLemmas.{Consumed, nothing_read, read_more, all_read, wrong_next}
 use Rattle.run_check.proofs.StepLemmas.{no_text}

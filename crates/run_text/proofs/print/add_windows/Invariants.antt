@@ -1,7 +1,7 @@
 use Rattle.std.proofs.Common.{◌++◌, map, take}
 use Rattle.std.specs.List.{flat_map, AllByRecursion}
 use Rattle.fv_io.specs.Sink.{IsLater}
-use Rattle.serve_machine.specs.Windows.{window_of}
+use Rattle.serve_machine.specs.Events.{window_of}
 use Rattle.run_text.specs.Lines.{LineFits, lines_text, window_lines}
 use Rattle.run_text.specs.Gathered.{PutsAllBut}
 use Rattle.run_text.proofs.print.add_windows.Given as goal

@@ -1,6 +1,6 @@
 -- Output after output, up to a stop.
 use Rattle.std.proofs.Common.{◌≡◌, ◌<◌, true, length, slice_get, subst, sym, ap, ◌∙◌, arith}
-use Rattle.serve_machine.specs.Own.{names_source}
+use Rattle.serve_machine.specs.Events.{names_source}
 use Rattle.serve_alone.specs.Windows.{Stepped}
 use Rattle.serve_alone.proofs.Serving.{served_none, served_alone, served_ready, served_more, served_all, one_more, cut_window}
 use Rattle.serve_alone.proofs.alone.deliver_all.Goals as goal

@@ -4,8 +4,7 @@ use Rattle.serve_core.specs.Calls.{TookOutput}
 use Rattle.serve_core.specs.CoreValue.{CoreValue}
 use Rattle.serve_core.specs.Kept.{IsUndelivered}
 use Rattle.serve_core.specs.Sources.{shape_at}
-use Rattle.serve_machine.specs.Keys.{frame_key}
-use Rattle.serve_machine.specs.Own.{has_got}
+use Rattle.serve_machine.specs.Events.{frame_key, has_got}
 use Rattle.serve_alone.specs.Alone.{AllFrom}
 use Rattle.serve_alone.proofs.Serving.{is_taken, still_open, output_key, taken_alone, taken_claims, step_ok, untaken_cut, taken_cut}
 use Rattle.serve_alone.proofs.alone.deliver_next.Goals as goal

@@ -1,7 +1,7 @@
 -- With no instance, or with one that is out for a while. Memory that is taken before changes nothing.
 use Rattle.std.proofs.Common.{◌≡◌, IfOk, IfErr, sym, ap, ◌∙◌, subst}
-use Rattle.serve_machine.specs.Keys.{mode_at}
-use Rattle.serve_machine.specs.Stops.{first_stop}
+use Rattle.serve_machine.specs.Events.{mode_at}
+use Rattle.serve_machine.specs.Machine.{first_stop}
 use Rattle.serve_core.specs.declared.answers.Admitted.TheVariants.{Leased as Lends, Busy as IsBusy}
 use Rattle.serve_core.specs.Calls.{Admits}
 use Rattle.serve_core.specs.CoreValue.{CoreValue}

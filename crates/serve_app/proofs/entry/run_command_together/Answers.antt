@@ -1,7 +1,7 @@
 -- What a render leaves is told with what is to be told of it.
 use Rattle.std.proofs.Common.{◌≡◌, rules}
 use Rattle.serve_app.specs.Journals.{cache_of}
-use Rattle.serve_app.specs.Run.{staff_by}
+use Rattle.serve_app.specs.Run.{size_by}
 use Rattle.serve_app.proofs.EndLemmas.{render_does}
 use Rattle.serve_app.proofs.entry.run_command_together.Goals as goal
 
@@ -9,5 +9,5 @@ pub returns-in-Render-clause-does : goal.returns-in-Render-clause-does
 returns-in-Render-clause-does g c =
     let cache : c.unwrap_or-cache.result ≡ cache_of c.in-Render.options.cache = search rules in
     rw c.in-Render.is (rw c.telling_of.ensures
-    (render_does g.F.Files g.K.Sink c.args.files.now c.render_together-done.new.files c.args.out.now c.render_together-done.new.out c.render_together-done.new.journal staff_by c.in-Render.script
-    c.in-Render.options c.render_together-done.result (rw (cache, c.staff_of.ensures) at c.render_together-done.ensures.render) c.render_together-done.ensures.reads))
+    (render_does g.F.Files g.K.Sink c.args.files.now c.render_together-done.new.files c.args.out.now c.render_together-done.new.out c.render_together-done.new.journal size_by c.in-Render.script
+    c.in-Render.options c.render_together-done.result (rw (cache, c.pool_size_of-pool_size.ensures) at c.render_together-done.ensures.render) c.render_together-done.ensures.reads))

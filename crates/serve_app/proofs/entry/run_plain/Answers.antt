@@ -1,7 +1,7 @@
 -- Each ending has its cause.
 use Rattle.std.proofs.Common.{◌∙◌, refl, sym}
 use Rattle.serve_app.proofs.OptionLemmas.{is_fit}
-use Rattle.serve_app.specs.Run.{plain_staff}
+use Rattle.serve_app.specs.Run.{plain_size}
 use Rattle.serve_app.proofs.EndLemmas.{ends_of, ends_of_memory, has_log}
 use Rattle.serve_app.proofs.RunLemmas.{said_later}
 use Rattle.serve_app.proofs.entry.run_plain.Goals as goal
@@ -11,16 +11,18 @@ run_command_alone-done-requires-clause-fits g c = λ lifetimes longer. is_fit c.
 
 pub finish-status-requires : goal.finish-status-requires
 finish-status-requires g c =
-    has_log g.F.Files g.K.Sink c.args.files.now c.run_command_alone-done.new.files c.args.out.now c.run_command_alone-done.new.out c.run_command_alone-done.new.journal plain_staff c.in-Ok-Some.command c.run_command_alone-done.result
+    has_log g.F.Files g.K.Sink c.args.files.now c.run_command_alone-done.new.files c.args.out.now c.run_command_alone-done.new.out c.run_command_alone-done.new.journal plain_size c.in-Ok-Some.command c.run_command_alone-done.result
     c.run_command_alone-done.ensures.does
 
 pub returns-in-Ok-Some : goal.returns-in-Ok-Some
 returns-in-Ok-Some g c =
-    ends_of g.F.Files g.K.Sink g.E.Sink c.args.files.now c.run_command_alone-done.new.files c.args.out.now c.run_command_alone-done.new.out c.args.err.now c.finish-status.new.err plain_staff c.args.words.now
+    let both = ends_of g.F.Files g.K.Sink g.E.Sink c.args.files.now c.run_command_alone-done.new.files c.args.out.now c.run_command_alone-done.new.out c.args.err.now c.finish-status.new.err plain_size c.args.words.now
     c.run_command_alone-done.new.journal c.in-Ok-Some.command c.run_command_alone-done.result c.finish-status.result (sym c.in-Ok-Some.ensures ∙ c.in-Ok-Some.field-0-is) c.run_command_alone-done.ensures.does c.run_command_alone-done.ensures.leaves c.finish-status.ensures
-    (c.run_command_alone-done.ensures.keeps, c.run_command_alone-done.ensures.later, said_later g.E.Sink c.args.err.now c.finish-status.new.err c.run_command_alone-done.result c.run_command_alone-done.new.journal c.finish-status.result c.finish-status.ensures)
+    (c.run_command_alone-done.ensures.keeps, c.run_command_alone-done.ensures.later, said_later g.E.Sink c.args.err.now c.finish-status.new.err c.run_command_alone-done.result c.run_command_alone-done.new.journal c.finish-status.result c.finish-status.ensures) in
+    record { ends = both.0; journal = both.1 }
 
 pub returns-in-Err : goal.returns-in-Err
 returns-in-Err g c =
-    ends_of_memory g.F.Files g.K.Sink g.E.Sink c.args.files.now c.args.out.now c.args.err.now c.finish-status-in-Err.new.err plain_staff c.args.words.now _ refl c.finish-status-in-Err.result
-    c.finish-status-in-Err.ensures
+    let both = ends_of_memory g.F.Files g.K.Sink g.E.Sink c.args.files.now c.args.out.now c.args.err.now c.finish-status-in-Err.new.err plain_size c.args.words.now _ refl c.finish-status-in-Err.result
+    c.finish-status-in-Err.ensures in
+    record { ends = both.0; journal = both.1 }

@@ -5,4 +5,4 @@ use Rattle.serve_app.proofs.replay.put_replay.Goals as goal
 pub returns-clause-replay : goal.returns-clause-replay
 returns-clause-replay g c =
     judged_replay (g.F.Files.world c.args.files.now) c.args.script.now c.args.name c.args.cache g.K.Sink c.args.out.now c.put_judged.new.out _ c.in_ok-graph.field-0
-    (rw c.in_ok-graph.was at c.read_held-lent.ensures.charge) (rw c.in_ok-graph.was at c.read_held-lent.ensures.clip) c.put_judged.result (rw c.deref.ensures.value at c.put_judged.ensures.put) (rw c.deref.ensures.value at c.put_judged.ensures.stop)
+    c.in_ok-graph.ensures.charge c.in_ok-graph.ensures.clip c.put_judged.result (rw c.deref.ensures.value at c.put_judged.ensures.put) (rw c.deref.ensures.value at c.put_judged.ensures.stop)

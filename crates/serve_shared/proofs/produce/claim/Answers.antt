@@ -1,5 +1,5 @@
 use Rattle.std.proofs.Common.{rules, Ok, ap, ◌∙◌}
-use Rattle.serve_machine.specs.Keys.{has}
+use Rattle.serve_machine.specs.Events.{has}
 use Rattle.serve_machine.specs.Holdings.{Holdings}
 use Rattle.serve_shared.proofs.SeatLemmas.{adds_nothing, same_lock, work_waits, holdings_wait, asks_hit, asks_claimed, asks_stopped, asks_again}
 use Rattle.serve_shared.proofs.produce.claim.Goals as goal

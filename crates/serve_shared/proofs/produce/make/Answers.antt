@@ -1,5 +1,5 @@
 use Rattle.std.proofs.Common.{◌≡◌, sym, ap, ◌∙◌}
-use Rattle.serve_machine.specs.Keys.{mode_at}
+use Rattle.serve_machine.specs.Events.{mode_at}
 use Rattle.serve_shared.proofs.MakeLemmas.{sits_now, out_now, entered_it, lent_later, right_later, made_between, unmade_between, not_got}
 use Rattle.serve_shared.proofs.produce.make.Goals as goal
 

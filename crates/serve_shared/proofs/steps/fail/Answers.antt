@@ -1,7 +1,7 @@
 use Rattle.std.proofs.Common.{◌≡◌, ◌<◌, true, slice_get, sym, ap, ◌∙◌, subst}
-use Rattle.serve_machine.specs.Own.{may_fail, names_source}
+use Rattle.serve_machine.specs.Events.{may_fail, names_source}
 use Rattle.serve_machine.proofs.OwnLemmas.{still_fails}
-use Rattle.serve_machine.specs.Closing.{abandons}
+use Rattle.serve_machine.specs.Work.{abandons}
 use Rattle.serve_machine.specs.Holdings.{claims_of}
 use Rattle.serve_core.specs.CoreValue.{CoreValue}
 use Rattle.serve_core.specs.Holds.{IsThere}

@@ -1,5 +1,5 @@
 use Rattle.std.proofs.Common.{◌≡◌, ℕ, ◌<◌, length, get_or}
-use Rattle.serve_text.specs.Counts.{none}
+use Rattle.serve_text.specs.Report.{none}
 use Rattle.serve_text.proofs.counts.clear.Given as goal
 
 -- the counts before are zero

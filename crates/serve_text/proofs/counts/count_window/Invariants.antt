@@ -1,5 +1,5 @@
 use Rattle.std.proofs.Common.{◌≡◌, ℕ, ◌+◌, ◌<◌, length, take, get_or}
-use Rattle.serve_text.specs.Counts.{none, with_events}
+use Rattle.serve_text.specs.Report.{none, with_events}
 use Rattle.serve_text.proofs.counts.count_window.Given as goal
 
 -- the events before are counted

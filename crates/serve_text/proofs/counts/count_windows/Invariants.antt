@@ -1,6 +1,6 @@
 use Rattle.std.proofs.Common.{◌≡◌, ℕ, ◌+◌, ◌*◌, ◌^◌, ◌<◌, length, map, take, get_or}
-use Rattle.serve_machine.specs.Windows.{window_of}
-use Rattle.serve_text.specs.Counts.{none, counts_of, AreAtMost}
+use Rattle.serve_machine.specs.Events.{window_of}
+use Rattle.serve_text.specs.Report.{none, counts_of, AreAtMost}
 use Rattle.serve_text.proofs.counts.count_windows.Given as goal
 
 -- the windows before are counted

@@ -1,6 +1,6 @@
 -- One more line.
 use Rattle.std.proofs.Common.{◌-◌, ◌∙◌, arith}
-use Rattle.serve_machine.specs.Windows.{windows_of}
+use Rattle.serve_machine.specs.Events.{windows_of}
 use Rattle.serve_text.proofs.LineLemmas.{less_left, cut_short, next_line, line_is}
 use Rattle.serve_text.proofs.lines.put_lines.Goals as goal
 

@@ -1,6 +1,6 @@
 -- The lines of one more block.
 use Rattle.std.proofs.Common.{◌+◌, length, arith}
-use Rattle.serve_machine.specs.Windows.{windows_of}
+use Rattle.serve_machine.specs.Events.{windows_of}
 use Rattle.serve_text.proofs.LineLemmas.{less_left, cut_short, lines_apart}
 use Rattle.serve_text.proofs.lines.put_report.Goals as goal
 

@@ -1,8 +1,7 @@
 use Rattle.std.proofs.Common.{◌≤◌, ◌-◌, length}
 use Rattle.fv_io.specs.Sink.{IsLater}
-use Rattle.serve_machine.specs.Windows.{windows_of}
-use Rattle.serve_text.specs.ReportLines.{lines_between, PutsUpTo}
-use Rattle.serve_text.specs.Report.{report}
+use Rattle.serve_machine.specs.Events.{windows_of}
+use Rattle.serve_text.specs.Report.{lines_between, PutsUpTo, report}
 use Rattle.serve_text.proofs.lines.put_report.Given as goal
 
 -- the lines of the nodes before were put

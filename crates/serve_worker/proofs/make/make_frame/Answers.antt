@@ -40,8 +40,8 @@ returns-in-Time c =
     (time_made op (infos_at plan key.node) (application_at plan key.node).info key.n frames frame.result can.sound can.lawful can.told can.shapes c.shown.ensures.whole frame.is) in
     record { made = m.made; shape = m.shape }
 
-pub make_space-requires-clause-accepted : goal.make_space-requires-clause-accepted
-make_space-requires-clause-accepted c =
+pub make_space_in-requires-clause-accepted : goal.make_space_in-requires-clause-accepted
+make_space_in-requires-clause-accepted c =
     let plan = c.args.graph.now in
     let key = c.args.key in
     let frames = c.args.frames.now in
@@ -51,8 +51,8 @@ make_space-requires-clause-accepted c =
     let can = can_make plan key (space op) frames c.len.ensures.plan c.requires.key.node c.requires.shapes act in
     space_accepted op (infos_at plan key.node) (application_at plan key.node).info key.n frames frame.result can.told can.shapes frame.is
 
-pub make_space-requires-clause-legal : goal.make_space-requires-clause-legal
-make_space-requires-clause-legal c =
+pub make_space_in-requires-clause-legal : goal.make_space_in-requires-clause-legal
+make_space_in-requires-clause-legal c =
     let plan = c.args.graph.now in
     let key = c.args.key in
     let frames = c.args.frames.now in
@@ -71,12 +71,12 @@ returns-in-Space c =
     let frame = c.index-frames-0-in-Space in
     let act = sym (ap act_of c.in-Space.is) ∙ ap (λ (a : Application). a.act) c.node-node.ensures in
     let can = can_make plan key (space op) frames c.len.ensures.plan c.requires.key.node c.requires.shapes act in
-    let m = makes plan key (space op) frames c.make_space.result _ act c.make_space.ensures
+    let m = makes plan key (space op) frames c.make_space_in.result _ act c.make_space_in.ensures
     (space_made op (infos_at plan key.node) (application_at plan key.node).info key.n frames frame.result can.told can.shapes frame.is) in
     record { made = m.made; shape = m.shape }
 
-pub make_join-requires : goal.make_join-requires
-make_join-requires c =
+pub make_join_in-requires : goal.make_join_in-requires
+make_join_in-requires c =
     let plan = c.args.graph.now in
     let key = c.args.key in
     let frames = c.args.frames.now in
@@ -93,7 +93,7 @@ returns-in-Join c =
     let op = c.in-Join.op in
     let act = sym (ap act_of c.in-Join.is) ∙ ap (λ (a : Application). a.act) c.node-node.ensures in
     let can = can_make plan key (joined op) frames c.len.ensures.plan c.requires.key.node c.requires.shapes act in
-    let m = makes plan key (joined op) frames c.make_join.result _ act c.make_join.ensures
+    let m = makes plan key (joined op) frames c.make_join_in.result _ act c.make_join_in.ensures
     (join_made op (infos_at plan key.node) (application_at plan key.node).info key.n frames can.told can.shapes) in
     record { made = m.made; shape = m.shape }
 

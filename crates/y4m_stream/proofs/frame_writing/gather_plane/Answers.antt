@@ -40,6 +40,7 @@ loop-y-preserved g c =
       size = length-put_from buf piece left size size_is fits ∙ i.size;
       put = rw (whole, wait) (more_waits g.K.Sink c.args.out.now c.make_room.new.out (first ++ done) (take left buf) row fewer);
       later = omega (arith, i.later, c.in_ok-left.ensures.later);
+      steady = c.in_ok-left.ensures.steady ∙ i.steady;
     }
 
 pub returns-in_err-left-clause-cut : goal.returns-in_err-left-clause-cut

@@ -13,4 +13,5 @@ invariant-loop-y g l =
       size : length l.buf ≡ length l.fn.buf;
       put : PutsAllBut sink l.fn.out l.out (take l.start l.fn.buf ++ bytes_of_rows l.frame.shape (take l.y rows)) (take l.end l.buf);
       later : sink.faults l.fn.out ≤ sink.faults l.out;
+      steady : sink.faults l.out ≡ sink.faults l.fn.out;
     }

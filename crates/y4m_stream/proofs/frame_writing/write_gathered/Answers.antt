@@ -32,6 +32,7 @@ loop-plane-preserved g c =
       inside = c.in_ok-end.ensures.inside;
       put = rw more (fewer_wait sink c.args.out.now c.loop-plane.out c.gather_plane.new.out (done ++ plane) (take c.loop-plane.end c.loop-plane.buf ++ plane) (take c.in_ok-end.end c.gather_plane.new.buf) waits c.in_ok-end.ensures.put);
       later = omega (arith, i.later, c.in_ok-end.ensures.later);
+      steady = c.in_ok-end.ensures.steady ∙ i.steady;
     }
 
 pub returns-in_err-end-clause-cut : goal.returns-in_err-end-clause-cut

@@ -1,4 +1,4 @@
-use Rattle.std.proofs.Common.{◌≤◌, ◌++◌, length, take}
+use Rattle.std.proofs.Common.{◌≡◌, ◌≤◌, ◌++◌, length, take}
 use Rattle.std.specs.List.{flat_map}
 use Rattle.fv_plane.specs.Bytes.{bytes_of_rows}
 use Rattle.y4m_stream.specs.Planes.{PutsAllBut}
@@ -12,4 +12,5 @@ invariant-loop-plane g l =
       inside : l.end ≤ length l.buf;
       put : PutsAllBut sink l.fn.out l.out (l.line ++ flat_map (bytes_of_rows l.frame.shape) (take l.plane l.frame.planes)) (take l.end l.buf);
       later : sink.faults l.fn.out ≤ sink.faults l.out;
+      steady : sink.faults l.out ≡ sink.faults l.fn.out;
     }

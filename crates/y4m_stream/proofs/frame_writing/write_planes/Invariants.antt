@@ -1,4 +1,4 @@
-use Rattle.std.proofs.Common.{◌≤◌, take}
+use Rattle.std.proofs.Common.{◌≡◌, ◌≤◌, take}
 use Rattle.std.specs.List.{flat_map}
 use Rattle.fv_io.specs.Sink.{Puts}
 use Rattle.fv_plane.specs.Bytes.{bytes_of_rows}
@@ -11,4 +11,5 @@ invariant-loop-plane g l =
     record {
       put : Puts sink l.fn.out l.out (flat_map (bytes_of_rows l.frame.shape) (take l.plane l.frame.planes));
       later : sink.faults l.fn.out ≤ sink.faults l.out;
+      steady : sink.faults l.out ≡ sink.faults l.fn.out;
     }

@@ -12,19 +12,19 @@ use Rattle.avs_eval.specs.OutsideBy.{context_in}
 use Rattle.avs_eval.specs.Ranges.{given_view}
 use Rattle.avs_eval.proofs.walker.Walker.+calls.Goals as goal
 
-pub call-apply_range-requires : goal.call-apply_range-requires
-call-apply_range-requires g t c κs within =
-    let same : callee_view c.args.callee.now ≡ builtin b.ApplyRange = search rules in
-    let is : fit_or_last (takes (callee_view c.args.callee.now)) c.args.args.items c.args.last ≡ Some (c.in-Some.signature, bound_view c.in-Some.given) = search rules in
+pub call_builtin-apply_range-requires : goal.call_builtin-apply_range-requires
+call_builtin-apply_range-requires g t c κs within =
+    let same : builtin c.args.builtin ≡ builtin b.ApplyRange = search rules in
+    let is : fit_or_last (takes (builtin c.args.builtin)) c.args.args.items c.args.last ≡ Some (c.in-Some.signature, bound_view c.in-Some.given) = search rules in
     let few : length c.in-Some.given.rest.items + 3 ≤ length c.args.args.items =
-    few_further (callee_view c.args.callee.now) c.args.args.items c.args.last c.in-Some.signature (bound_view c.in-Some.given) same is in
+    few_further (builtin c.args.builtin) c.args.args.items c.args.last c.in-Some.signature (bound_view c.in-Some.given) same is in
     (omega (arith, few, c.decreases), (within.0, (within.1, c.requires.deeper)))
 
-pub call-returns-in-Builtin-clause-told : goal.call-returns-in-Builtin-clause-told
-call-returns-in-Builtin-clause-told g t c = λ told.
-    let same : callee_view c.args.callee.now ≡ builtin b.ApplyRange = search rules in
-    let is : fit_or_last (takes (callee_view c.args.callee.now)) c.args.args.items c.args.last ≡ Some (c.in-Some.signature, bound_view c.in-Some.given) = search rules in
-    rw (range_applies (context_in g.H.Host c.args.self.now.depth) c.args.self.now.script_name.now c.args.line (callee_view c.args.callee.now) c.args.args.items c.args.last
+pub call_builtin-returns-in-ApplyRange-clause-told : goal.call_builtin-returns-in-ApplyRange-clause-told
+call_builtin-returns-in-ApplyRange-clause-told g t c = λ told.
+    let same : builtin c.args.builtin ≡ builtin b.ApplyRange = search rules in
+    let is : fit_or_last (takes (builtin c.args.builtin)) c.args.args.items c.args.last ≡ Some (c.in-Some.signature, bound_view c.in-Some.given) = search rules in
+    rw (range_applies (context_in g.H.Host c.args.self.now.depth) c.args.self.now.script_name.now c.args.line (builtin c.args.builtin) c.args.args.items c.args.last
     (state_of c.args.machine.now) c.in-Some.signature (bound_view c.in-Some.given) same is)
     (c.apply_range.ensures.told told)
 

@@ -16,4 +16,4 @@ returns-in-Err-clause-gives c =
     let places : f.are_places inputs plan ≡ true = search rules in
     let checked : check act (infos_among plan inputs) ≡ Err c.in-Err.fault
     = ap (check act) (sym (c.deref.ensures.value ∙ c.in_ok-infos.ensures)) ∙ sym c.check.ensures.exact ∙ c.in-Err.is in
-    refused c.args.script_name.now c.args.filter act inputs c.args.line (state_of c.args.self.now) c.in-Err.fault c.fault_at-in-Err.result places checked c.fault_at-in-Err.ensures
+    refused c.args.at.name.now c.args.filter act inputs c.args.at.line (state_of c.args.self.now) c.in-Err.fault c.fault_at-in-Err.result places checked c.fault_at-in-Err.ensures

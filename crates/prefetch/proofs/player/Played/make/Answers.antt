@@ -1,5 +1,5 @@
 use Rattle.std.proofs.Common.{Some, refl, subst}
-use Rattle.serve_machine.specs.Windows.{windows_of}
+use Rattle.serve_machine.specs.Events.{windows_of}
 use Rattle.prefetch.specs.Played.{PlayedValue, MakesFrame, StopsInFrame, IsFrameOf}
 use Rattle.prefetch.specs.Windows.{given}
 use Rattle.serve_worker.specs.declared.instance.Instance.{Instance}

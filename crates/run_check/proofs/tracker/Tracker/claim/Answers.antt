@@ -1,7 +1,7 @@
 use Rattle.std.proofs.Common.{not, ◌&&◌, sym}
 use Rattle.frame_cache.specs.Cached.{at_key, has_key}
 use Rattle.frame_cache.proofs.CallerLemmas.{left_true, right_true}
-use Rattle.serve_machine.specs.State.{is_key, is_running}
+use Rattle.serve_machine.specs.Machine.{is_key, is_running}
 use Rattle.serve_machine.proofs.TruthLemmas.{none_there}
 use Rattle.run_check.proofs.MirrorLemmas.{apart_claimed, claimed_push}
 use Rattle.run_check.proofs.tracker.Tracker.claim.Goals as goal

@@ -1,8 +1,8 @@
 use Rattle.std.proofs.Common.{◌-◌, ℕ, Bool, true, not, ◌&&◌, List, sym, ap, ◌∙◌}
 use Rattle.std.specs.Prelude.{nat_lt, is_some, slice_get, slice_set}
 use Rattle.frame_cache.proofs.CallerLemmas.{right_true}
-use Rattle.serve_machine.specs.Keys.{frame_key}
-use Rattle.serve_machine.specs.State.{is_by, is_some_and, is_open, got_at}
+use Rattle.serve_machine.specs.Events.{frame_key}
+use Rattle.serve_machine.specs.Machine.{is_by, is_some_and, is_open, got_at}
 use Rattle.run_check.proofs.MirrorLemmas.{delivered_set}
 use Rattle.run_check.proofs.tracker.Tracker.deliver.Goals as goal
 

@@ -4,8 +4,8 @@ use Rattle.std.specs.Map.{lookup}
 use Rattle.clip_graph.specs.Plan.{Application}
 use Rattle.frame_cache.proofs.CallerLemmas.{left_true, right_true}
 use Rattle.inst_table.specs.Places.{same_place}
-use Rattle.serve_machine.specs.Keys.{mode_at, instance_of}
-use Rattle.serve_machine.specs.State.{claims_at, holds_nothing, is_entered, is_open, is_running, is_some_and, place_named}
+use Rattle.serve_machine.specs.Events.{mode_at, instance_of}
+use Rattle.serve_machine.specs.Machine.{claims_at, holds_nothing, is_entered, is_open, is_running, is_some_and, place_named}
 use Rattle.serve_machine.proofs.TruthLemmas.{open_none}
 use Rattle.run_check.proofs.EnterLemmas.{present_set, cond_or}
 use Rattle.run_check.proofs.tracker.Tracker.enter.Goals as goal

@@ -2,9 +2,9 @@ use Rattle.std.proofs.Common.{List, None, sym, ap, ◌∙◌}
 use Rattle.std.specs.Map.{lookup}
 use Rattle.clip_graph.specs.Plan.{Application}
 use Rattle.inst_table.specs.Places.{same_place}
-use Rattle.serve_machine.specs.Keys.{instance_of}
+use Rattle.serve_machine.specs.Events.{instance_of}
 use Rattle.serve_machine.specs.Law.{worker_at}
-use Rattle.serve_machine.specs.State.{place_named, is_by}
+use Rattle.serve_machine.specs.Machine.{place_named, is_by}
 use Rattle.serve_machine.proofs.TruthLemmas.{held_some}
 use Rattle.run_check.proofs.EnterLemmas.{present_set}
 use Rattle.run_check.proofs.MirrorLemmas.{lease_test}

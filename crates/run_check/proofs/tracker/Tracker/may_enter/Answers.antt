@@ -2,8 +2,8 @@ use Rattle.std.proofs.Common.{◌&&◌, not}
 use Rattle.std.specs.Prelude.{◌==◌}
 use Rattle.std.specs.Map.{lookup}
 use Rattle.inst_table.specs.Places.{same_place}
-use Rattle.serve_machine.specs.Keys.{mode_at, instance_of}
-use Rattle.serve_machine.specs.State.{claims_at, holds_nothing, is_running, place_named}
+use Rattle.serve_machine.specs.Events.{mode_at, instance_of}
+use Rattle.serve_machine.specs.Machine.{claims_at, holds_nothing, is_running, place_named}
 use Rattle.run_check.proofs.EnterLemmas.{enter_test, meant_there}
 use Rattle.run_check.proofs.tracker.Tracker.may_enter.Goals as goal
 

@@ -1,7 +1,7 @@
 use Rattle.std.proofs.Common.{◌&&◌}
 use Rattle.std.specs.Prelude.{◌==◌}
 use Rattle.std.specs.List.{list_any}
-use Rattle.serve_machine.specs.State.{holds_nothing}
+use Rattle.serve_machine.specs.Machine.{holds_nothing}
 use Rattle.run_check.proofs.MirrorLemmas.{last_test}
 use Rattle.run_check.proofs.tracker.Tracker.may_evict.Goals as goal
 

@@ -3,7 +3,7 @@ use Rattle.std.specs.Prelude.{is_some}
 use Rattle.clip_graph.specs.Plan.{Application}
 use Rattle.clip_graph.specs.Unfolding.{input_keys}
 use Rattle.frame_cache.specs.Cached.{at_key}
-use Rattle.serve_machine.specs.State.{is_by, holds_nothing, is_key, gathered}
+use Rattle.serve_machine.specs.Machine.{is_by, holds_nothing, is_key, gathered}
 use Rattle.run_check.proofs.EnterLemmas.{ready, unready, ready_key, if_ok_map}
 use Rattle.run_check.proofs.NodeLemmas.{key_below}
 use Rattle.run_check.proofs.tracker.Tracker.may_publish.Goals as goal

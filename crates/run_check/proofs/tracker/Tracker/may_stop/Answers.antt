@@ -1,7 +1,6 @@
 use Rattle.std.proofs.Common.{◌&&◌, sym, ap, ◌∙◌}
 use Rattle.std.specs.Prelude.{nat_lt}
-use Rattle.serve_machine.specs.Machine.{may_stop}
-use Rattle.serve_machine.specs.State.{is_entered}
+use Rattle.serve_machine.specs.Machine.{may_stop, is_entered}
 use Rattle.run_check.proofs.EnterLemmas.{and_true}
 use Rattle.run_check.proofs.tracker.Tracker.may_stop.Goals as goal
 

@@ -14,13 +14,6 @@ returns-clause-told g c frames is =
     told_at c.self.inside.index (g.S.Source.bytes c.self.inside.source) c.args.n c.in_ok-frame.frame c.in_ok-frame.ensures.read.picture frames
     (ap (frames_of g.S.Source) c.self.view_is ∙ is)
 
-pub returns-clause-frame : goal.returns-clause-frame
-returns-clause-frame g c clip has =
-    let here : HasFrames g.S.Source c.self.inside.source c.self.inside.index clip = subst (λ v. HasFrames g.S.Source v.source v.index clip) (sym c.self.view_is) has in
-    let told = clip_told g.S.Source (record { source = c.self.inside.source; index = c.self.inside.index; place = c.self.inside.place }) clip here c.read_indexed.ensures.count in
-    let at = told_at c.self.inside.index (g.S.Source.bytes c.self.inside.source) c.args.n c.in_ok-frame.frame c.in_ok-frame.ensures.read.picture clip.pictures told in
-    sym (get_or_from_slice_get clip.pictures c.args.n c.in_ok-frame.frame _ at)
-
 pub returns-in_err-frame-clause-kept : goal.returns-in_err-frame-clause-kept
 returns-in_err-frame-clause-kept g c told =
     let index = c.self.inside.index in
@@ -29,14 +22,5 @@ returns-in_err-frame-clause-kept g c told =
     let within : c.args.n < length index.offsets = omega (arith, frames, c.requires, c.read_indexed.ensures.count) in
     let bytes = has_told index (g.S.Source.bytes c.self.inside.source) here in
     let fact : IsNoChange c.in_err-frame.field-0.0 = no_change g.S.Source c.self.inside.source c.read_indexed.new.source c.args.n _ bytes.0 bytes.1 (each_inside index bytes.0 c.args.n within bytes.2) c.in_err-frame.field-0.0 c.in_err-frame.ensures.fault in
-    let is : c.from_residual.result ≡ Err c.in_err-frame.field-0.0 = search rules in
-    rw is fact
-
-pub returns-in_err-frame-clause-unchanged : goal.returns-in_err-frame-clause-unchanged
-returns-in_err-frame-clause-unchanged g c clip has =
-    let here : HasFrames g.S.Source c.self.inside.source c.self.inside.index clip = subst (λ v. HasFrames g.S.Source v.source v.index clip) (sym c.self.view_is) has in
-    let index = c.self.inside.index in
-    let inside = frame_inside here.told index clip here.indexes c.args.n (let frames : index.info.frames ≡ c.args.self.now.index.info.frames = ap (λ v. v.index.info.frames) c.self.view_is in omega (arith, frames, c.requires)) in
-    let fact : IsNoChange c.in_err-frame.field-0.0 = no_change g.S.Source c.self.inside.source c.read_indexed.new.source c.args.n _ here.told here.tells inside c.in_err-frame.field-0.0 c.in_err-frame.ensures.fault in
     let is : c.from_residual.result ≡ Err c.in_err-frame.field-0.0 = search rules in
     rw is fact

@@ -3,7 +3,7 @@ use Rattle.std.specs.Vec.{vec_len, vec_capacity}
 use Rattle.serve_core.specs.CoreValue.{CoreValue}
 use Rattle.frame_cache.specs.Cached.{at_key}
 use Rattle.serve_machine.specs.declared.event.Event.TheVariants.{Hit, Claim}
-use Rattle.serve_machine.specs.Keys.{IsKey}
+use Rattle.serve_machine.specs.Events.{IsKey}
 use Rattle.serve_core.specs.Sources.{shape_at}
 use Rattle.serve_core.proofs.Keeping.{hit_kept, claim_kept}
 use Rattle.serve_core.proofs.state.Core.ask.Goals as goal

@@ -1,7 +1,6 @@
 use Rattle.std.proofs.Common.{◌≡◌, ◌-◌, ◌<◌, ◌≤◌, true, slice_get, Some, None, refl, sym, subst, arith}
 use Rattle.serve_core.specs.CoreValue.{CoreValue}
-use Rattle.serve_machine.specs.Keys.{frame_key}
-use Rattle.serve_machine.specs.Own.{has_got}
+use Rattle.serve_machine.specs.Events.{frame_key, has_got}
 use Rattle.serve_core.specs.Sources.{shape_at}
 use Rattle.serve_core.proofs.Keeping.{output_owed, delivered_kept}
 use Rattle.serve_core.proofs.state.Core.deliver.Goals as goal

@@ -5,7 +5,7 @@ use Rattle.inst_table.specs.declared.place.Place.{Place}
 use Rattle.inst_table.specs.Places.{place_meant}
 use Rattle.inst_table.proofs.CallerLemmas.{is_there}
 use Rattle.serve_machine.specs.declared.event.Event.TheVariants.{Enter}
-use Rattle.serve_machine.specs.Keys.{mode_at}
+use Rattle.serve_machine.specs.Events.{mode_at}
 use Rattle.serve_core.specs.Holds.{claims_at, holds_none}
 use Rattle.serve_core.proofs.Furnished.{meant_is, meant_there}
 use Rattle.serve_core.proofs.Keeping.{entered_kept}

@@ -1,6 +1,6 @@
 use Rattle.std.proofs.Common.{◌≡◌, ◌-◌, ◌<◌, slice_get, Some, true, false, refl, sym, ap, subst, arith}
 use Rattle.serve_core.specs.CoreValue.{CoreValue}
-use Rattle.serve_machine.specs.Own.{may_fail, names_source}
+use Rattle.serve_machine.specs.Events.{may_fail, names_source}
 use Rattle.serve_core.proofs.Keeping.{fail_owed, failed_kept}
 use Rattle.serve_core.proofs.state.Core.fail.Goals as goal
 

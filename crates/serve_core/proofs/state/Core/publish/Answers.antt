@@ -4,7 +4,7 @@ use Rattle.serve_core.specs.CoreValue.{CoreValue}
 use Rattle.frame_cache.specs.Cached.{Cached, at_key}
 use Rattle.clip_graph.specs.Unfolding.{input_keys}
 use Rattle.serve_machine.specs.declared.event.Event.TheVariants.{Publish}
-use Rattle.serve_machine.specs.Own.{has_got_all}
+use Rattle.serve_machine.specs.Events.{has_got_all}
 use Rattle.serve_machine.specs.SerialRun.{eviction}
 use Rattle.serve_core.specs.Holds.{holds_none}
 use Rattle.serve_core.specs.Sources.{shape_at}

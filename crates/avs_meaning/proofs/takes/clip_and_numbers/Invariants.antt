@@ -1,6 +1,0 @@
-use Rattle.std.proofs.Common.{◌≡◌}
-use Rattle.avs_meaning.specs.Signatures as d
-use Rattle.avs_meaning.proofs.takes.clip_and_numbers.Given as goal
-
-abbrev pub invariant-loop-i : goal.invariant-loop-i
-invariant-loop-i l = l.params.items ≡ d.clip_and_numbers l._i

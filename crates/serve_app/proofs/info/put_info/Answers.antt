@@ -1,0 +1,11 @@
+-- A prefix of the text of the plan is one of what is known of the script's clip.
+use Rattle.serve_app.proofs.OpeningLemmas.{info_cut}
+use Rattle.serve_app.proofs.info.put_info.Goals as goal
+
+pub returns-clause-stop : goal.returns-clause-stop
+returns-clause-stop g c = (
+  c.in-Err.ensures.failed,
+  c.in_ok-opened.ensures.clip,
+  info_cut g.K.Sink c.args.out.now c.put.new.self (g.F.Files.world c.args.files.now) c.args.script.now c.in_ok-opened.opened c.in_ok-opened.ensures.means c.in_ok-text.text.items c.in_ok-text.ensures
+      (rw c.deref.ensures.value at c.in-Err.ensures.cut),
+)

@@ -1,9 +1,0 @@
--- What is known of the files is what they tell.
-use Rattle.serve_app.proofs.PickLemmas.{picked}
-use Rattle.serve_app.proofs.info.tell_held.Goals as goal
-
-pub returns-clause-stop : goal.returns-clause-stop
-returns-clause-stop g c = rw (picked (g.H.HeldFiles.world c.args.files)) c.tell_in.ensures.stop
-
-pub returns-clause-reads : goal.returns-clause-reads
-returns-clause-reads g c = rw (picked (g.H.HeldFiles.world c.args.files)) c.tell_in.ensures.reads
