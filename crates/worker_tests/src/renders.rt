@@ -2,11 +2,9 @@
 use crate::crowd::Crowd;
 use crate::meeting::Meeting;
 use crate::paused::PausedFiles;
-use crate::runs::{
-    BOTH, CLIP, Left, count_events, files_in_pieces, files_of, run_one, run_together,
-};
+use crate::runs::{BOTH, CLIP, Left, count_keys, files_in_pieces, files_of, run_one, run_together};
 use fv_io::Trip;
-use serve_app::{Event, OpenGate};
+use serve_app::OpenGate;
 use std::sync::Arc;
 use std::test::Fail;
 
@@ -79,13 +77,9 @@ fn all_workers_run_at_once(rt: HostRuntime) -> Result<(), Fail> {
         let left = run_together(&rt, alloc, &words, &mut files, 99_999, &gate)?;
         assert_eq!(rt; left.status, 0);
         assert_eq!(rt; gate.met(), size);
-        let claims = count_events(&left.journal, |event| matches!(event, Event::Claim { .. }));
-        let made = count_events(
-            &left.journal,
-            |event| matches!(event, Event::Publish { .. }),
-        );
-        assert_eq!(rt; gate.claimed(), claims);
-        assert_eq!(rt; gate.made(), made);
+        let (claimed, published) = count_keys(&left.journal);
+        assert_eq!(rt; gate.claimed(), claimed);
+        assert_eq!(rt; gate.made(), published);
     }
     Ok(())
 }

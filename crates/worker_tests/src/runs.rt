@@ -53,19 +53,21 @@ pub struct Left {
     pub journal: Option<Record>,
 }
 
-// How many events of a journal are of this kind.
-pub fn count_events(journal: &Option<Record>, is: fn(&Event) -> bool) -> u64 {
-    let mut count = 0u64;
+// How many keys a journal says were claimed, and how many published.
+pub fn count_keys(journal: &Option<Record>) -> (u64, u64) {
+    let (mut claimed, mut published) = (0u64, 0u64);
     if let Some(journal) = journal {
         for window in &journal.windows {
             for event in &window.events {
-                if is(event) {
-                    count = count.saturating_add(1);
+                match event {
+                    Event::Claim { .. } => claimed = claimed.saturating_add(1),
+                    Event::Publish { .. } => published = published.saturating_add(1),
+                    _ => {}
                 }
             }
         }
     }
-    count
+    (claimed, published)
 }
 
 fn words_of(alloc: Global, words: &[&str]) -> Result<Vec<Text>, AllocError> {
