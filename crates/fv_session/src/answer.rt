@@ -55,6 +55,7 @@ pub fn answer_line(answer: &Answer) -> ArrayString<LINE>
 pub fn put_answer<K: Sink>(out: &mut K, answer: &Answer) -> Result<(), Failed>
     ensures put { OnOk result (Puts K.Sink out.old out.new (answer_line answer.now)) }
     ensures cut { OnErr result (PutsPrefix K.Sink out.old out.new (answer_line answer.now)) }
+    ensures steady { OnOk result (K.faults out.new ≡ K.faults out.old) }
     ensures failed { OnErr result (SinkFailed K.Sink out.old out.new) }
     ensures later { IsLater K.Sink out.old out.new }
 {

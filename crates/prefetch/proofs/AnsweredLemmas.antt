@@ -1,5 +1,5 @@
 -- What a session over the core of a graph leaves.
-use Rattle.std.proofs.Common.{◌≡◌, ◌∙◌, ℕ, true, false, List, [], ◌∷◌, ◌++◌, Option, Some, None, Result, Ok, Err, OnOk, IfErr, refl, inl, inr, sym, ap, subst, arith}
+use Rattle.std.proofs.Common.{◌≡◌, ◌∙◌, ℕ, true, false, List, [], ◌∷◌, ◌++◌, Option, Some, None, Result, Ok, Err, OnOk, IfErr, IsErrOf, refl, inl, inr, sym, ap, subst, arith}
 use Rattle.std.specs.Prelude.{drop}
 use Rattle.std.specs.Map.{keys_of}
 use Rattle.std.proofs.lemmas.List.{append_assoc, append-nil}
@@ -376,6 +376,15 @@ module _ {S L K : Type 0} (of : of_source.Ghosts S) (list : of_source.Ghosts L) 
           (subst (λ r. IsAnswered c.fixed.plan r capacity (faults_of of) (book_told of sources) list s t sink old new (Some log) q.core.table answer) is.root_is
           (subst (λ n. IsAnswered c.fixed.plan c.fixed.root n (faults_of of) (book_told of sources) list s t sink old new (Some log) q.core.table answer) is.capacity_is
           (subst (λ b. IsAnswered c.fixed.plan c.fixed.root c.fixed.capacity (faults_of of) b list s t sink old new (Some log) q.core.table answer) is.book_is (answered_here log windows))))
+
+-- a failed write is told as one
+told_write : (plan : List Application) (stop : Option WindowStop) (told : Result (Unit {0}) SessionStop) → IsToldSession plan (Err (Play of_play.Write)) stop told → IsErrOf told (Stopped of_stop.Write)
+told_write plan stop (Ok u) is = absurd is
+told_write plan stop (Err why) is = ap Err is
+
+pub not_written : (plan : List Application) (done : Result (Unit {0}) ServeStop) (stop : Option WindowStop) (told : Result (Unit {0}) SessionStop) → IsToldSession plan done stop told
+    → (IsErrOf told (Stopped of_stop.Write) → ⊥) → IsErrOf done (Play of_play.Write) → ⊥
+not_written plan done stop told is other failed = other (told_write plan stop told (subst (λ (d : Result (Unit {0}) ServeStop). IsToldSession plan d stop told) failed is))
 
 module _ {S L K : Type 0} (of : of_source.Ghosts S) (list : of_source.Ghosts L) (sink : Ghosts K) (graph : List Application) (root capacity : ℕ) (sources : List (FrameSource S)) (s t : L) (old new : K) where
   -- where no memory was found for a core nothing was answered

@@ -1,5 +1,5 @@
 -- What a render leaves, whether one worker made it or several.
-use Rattle.std.proofs.Common.{◌≡◌, ℕ, ◌<◌, List, Result, Ok, Err, OnOk, IfErr, arith}
+use Rattle.std.proofs.Common.{◌≡◌, ℕ, ◌<◌, List, Result, Ok, Err, OnOk, IfErr, IsErrOf, ap, arith}
 use Rattle.std.proofs.lemmas.Result.{IfErr-weaker}
 use Rattle.std.specs.Map.{keys_of}
 use Rattle.fv_io.specs.declared.source.Source as of_source
@@ -20,6 +20,7 @@ use Rattle.prefetch.specs.Cores.{IsTold}
 use Rattle.prefetch.specs.Streams.{NamesSource}
 use Rattle.prefetch.specs.declared.stream.RenderedClip.{RenderedClip}
 use Rattle.serve_text.specs.declared.stop.Stop.{Stop}
+use Rattle.serve_text.specs.declared.stop.Stop.TheVariants as of_stop
 use Rattle.clip_graph.specs.Plan.{Application}
 
 module _ {S K : Type 0} (of : of_source.Ghosts S) (c : CoreValue (Instance S)) (sink : Ghosts K) (old new : K) (window : ℕ)
@@ -107,6 +108,15 @@ module _ {S K : Type 0} (of : of_source.Ghosts S) (c : CoreValue (Instance S)) (
   steady_by (Ok u) plan workers frames graph (Err stop) whole told = absurd told
   steady_by (Err why) plan workers frames graph (Ok all) whole told = absurd told
   steady_by (Err why) plan workers frames graph (Err stop) whole told = tt
+
+  -- where no write is told to have failed none did
+  pub unfailed_by : (done : Result (Unit {0}) RenderStop) (plan : List Application) (workers frames : ℕ) (graph : List Application) (answer : Result RenderedClip Stop) → OnOk done (RendersBy of c sink old new window windows d)
+      → IfErr done (StopsBy of c sink old new window windows d) → IsTold plan workers done frames graph answer → (IsErrOf answer of_stop.Write → ⊥) → sink.faults new ≡ sink.faults old
+  unfailed_by (Ok u) plan workers frames graph answer whole stopped told other = let put = whole.put.put in put.steady
+  unfailed_by (Err (Stopped why)) plan workers frames graph answer whole stopped told other = let put = stopped.put.put in put.steady
+  unfailed_by (Err Write) plan workers frames graph (Ok all) whole stopped told other = absurd told
+  unfailed_by (Err Write) plan workers frames graph (Err stop) whole stopped told other = absurd (other (ap Err told))
+  unfailed_by (Err Memory) plan workers frames graph answer whole stopped told other = let put = stopped.put.put in put.steady
 
   -- the stop names a source of its plan
   pub named_by : (done : Result (Unit {0}) RenderStop) → IfErr done (StopsBy of c sink old new window windows d) → IfErr done (NamesSource d.fixed.plan)

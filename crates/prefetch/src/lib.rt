@@ -19,7 +19,6 @@ mod frames;
 mod graph;
 mod player;
 mod pool_size;
-mod render;
 mod session;
 mod stops;
 mod stream;

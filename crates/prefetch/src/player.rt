@@ -63,6 +63,7 @@ fn put_answered<K: Sink>(out: &mut K, n: u32, frame: &Frame) -> Result<(), PlayS
     ensures cut { OnErr result (PutsPrefix K.Sink out.old out.new (frame_text n (bytes_of frame.now))) }
     ensures written { OnErr result (SinkFailed K.Sink out.old out.new) }
     ensures write { IfErr result (λ stop. stop ≡ PlayStop.Write) }
+    ensures steady { OnOk result (K.faults out.new ≡ K.faults out.old) }
     ensures later { IsLater K.Sink out.old out.new }
 {
     let length = frame.shape().bytes();

@@ -1,5 +1,5 @@
 // A session: the requests of a source, answered from a core.
-ghost use Rattle.std.specs.Prelude.{◌≡◌, ◌+◌, ◌++◌, ◌<◌, ◌≤◌, length, false, OnOk, IfOk, IfErr};
+ghost use Rattle.std.specs.Prelude.{◌≡◌, ◌+◌, ◌++◌, ◌<◌, ◌≤◌, length, false, OnOk, IfOk, IfErr, IsErrOf};
 ghost use Rattle.fv_io.specs.Sink.{IsLater};
 ghost use Rattle.fv_io.specs.Source.{KeepsSource};
 ghost use Rattle.serve_worker.specs.Sources.{AreSources};
@@ -84,6 +84,7 @@ pub fn answer_graph<S: Source, L: Source, K: Sink>(
     ensures all { length sources.old.items ≡ length sources.new.items + length (sources_in result.0) }
     ensures steady { OnOk result.1 (fault_counts S.Source (sources.new.items ++ sources_in result.0) ≡
         fault_counts S.Source sources.old.items) }
+    ensures unfailed { (IsErrOf result.1 (SessionStop.Stopped Stop.Write) → ⊥) → K.faults out.new ≡ K.faults out.old }
     ensures keeps { KeepsSource L.Source list.old list.new }
     ensures later { IsLater K.Sink out.old out.new }
 {

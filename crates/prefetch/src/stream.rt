@@ -1,5 +1,5 @@
 // The stream of a clip: its head, and its frames from a core.
-ghost use Rattle.std.specs.Prelude.{◌≡◌, ◌<◌, ◌≤◌, true, [], length, None, IfOk, OnOk, OnErr, IfErr};
+ghost use Rattle.std.specs.Prelude.{◌≡◌, ◌<◌, ◌≤◌, true, [], length, None, IfOk, OnOk, OnErr, IfErr, IsErrOf};
 ghost use Rattle.fv_io.specs.Sink.{Puts, IsLater};
 ghost use Rattle.y4m_stream.specs.Head.{head};
 ghost use Rattle.clip_graph.specs.Plan.{application_at, is_source};
@@ -14,9 +14,10 @@ ghost use Rattle.prefetch.specs.Cores.{book_at, StandsForSources, IsTold};
 ghost use Rattle.prefetch.specs.Streamed.{IsStreamed};
 ghost use Rattle.prefetch.specs.Streams.{HeadStops, NamesSource, file_at, ToldAs, stop_in, TellsStop, HeadShows};
 
+use crate::crew::render_crew;
 use crate::graph::SharedGraph;
-use crate::render::{render_alone, render_together};
 use crate::stops::RenderStop;
+use crate::windows::render_plain;
 use clip_graph::Graph;
 use clip_term::Op;
 use fv_io::{Failed, Sink, Source, Text};
@@ -34,7 +35,7 @@ use y4m_stream::print_head;
 // Puts the head of this info.
 fn put_head<K: Sink>(alloc: Global, out: &mut K, info: &Info) -> Result<(), Stop>
     ensures put { OnOk result (Puts K.Sink out.old out.new (head info.now)) }
-    ensures steady { OnOk result (K.faults out.new ≡ K.faults out.old) }
+    ensures unfailed { (IsErrOf result Stop.Write → ⊥) → K.faults out.new ≡ K.faults out.old }
     ensures stop { IfErr result (HeadStops K.Sink out.old out.new (head info.now)) }
     ensures later { IsLater K.Sink out.old out.new }
 {
@@ -148,6 +149,7 @@ pub(crate) fn put_clip_alone<S: Source, K: Sink>(
     ensures held { held_in holds_of result.0.table ≡ held_in holds_of core.table }
     ensures steady { OnOk result.1 (counts_in (faults_of S.Source) result.0.table ≡
         counts_in (faults_of S.Source) core.table) }
+    ensures unfailed { (IsErrOf result.1 Stop.Write → ⊥) → K.faults out.new ≡ K.faults out.old }
     ensures unclaimed { result.0.claims ≡ [] }
     ensures later { IsLater K.Sink out.old out.new }
 {
@@ -157,13 +159,14 @@ pub(crate) fn put_clip_alone<S: Source, K: Sink>(
         Err(stop) => return (core, Err(stop)),
     }
     let mut record = Record::new(alloc);
-    let (core, done) = render_alone(alloc, core, window, out, &mut record);
+    let mut core = core;
+    let done = render_plain(alloc, &mut core, window, out, &mut record);
     *journal = Some(record);
     let whole = whole_of(alloc, &core, done, info.frames, kept);
     (core, whole)
 }
 
-/// Puts the stream of the clip of a core's root, by as many workers as the core has.
+/// Puts the stream of the clip of a core's root, by its workers, of which there are several.
 pub(crate) fn put_clip_together<R: Threads + Wait + Sync, G: Gate, S: Source + Send, K: Sink>(
     rt: &R,
     gate: &G,
@@ -174,6 +177,7 @@ pub(crate) fn put_clip_together<R: Threads + Wait + Sync, G: Gate, S: Source + S
     out: &mut K,
     journal: &mut Option<Record>,
 ) -> (Core<Instance<S>>, Result<RenderedClip, Stop>)
+    requires several { 1 < core.fixed.workers }
     requires kept { kept ≡ core.fixed.plan }
     requires between { core.fixed.count ≡ 0 }
     requires unclaimed { core.claims ≡ [] }
@@ -189,6 +193,7 @@ pub(crate) fn put_clip_together<R: Threads + Wait + Sync, G: Gate, S: Source + S
     ensures held { held_in holds_of result.0.table ≡ held_in holds_of core.table }
     ensures steady { OnOk result.1 (counts_in (faults_of S.Source) result.0.table ≡
         counts_in (faults_of S.Source) core.table) }
+    ensures unfailed { (IsErrOf result.1 Stop.Write → ⊥) → K.faults out.new ≡ K.faults out.old }
     ensures unclaimed { result.0.claims ≡ [] }
     ensures later { IsLater K.Sink out.old out.new }
 {
@@ -198,7 +203,8 @@ pub(crate) fn put_clip_together<R: Threads + Wait + Sync, G: Gate, S: Source + S
         Err(stop) => return (core, Err(stop)),
     }
     let mut record = Record::new(alloc);
-    let (core, done) = render_together(rt, gate, alloc, core, window, out, &mut record);
+    let workers = core.workers();
+    let (core, done) = render_crew(rt, alloc, core, workers, window, gate, out, &mut record);
     *journal = Some(record);
     let whole = whole_of(alloc, &core, done, info.frames, kept);
     (core, whole)

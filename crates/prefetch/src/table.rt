@@ -1,5 +1,5 @@
 // The core of a graph, and the instances after its render.
-ghost use Rattle.std.specs.Prelude.{◌≡◌, ◌+◌, ◌++◌, ◌≤◌, ◌<◌, length, None, IfOk, IfErr, OnOk};
+ghost use Rattle.std.specs.Prelude.{◌≡◌, ◌+◌, ◌++◌, ◌≤◌, ◌<◌, length, None, IfOk, IfErr, OnOk, IsErrOf};
 ghost use Rattle.fv_io.specs.Sink.{IsLater};
 ghost use Rattle.serve_worker.specs.Sources.{AreSources};
 ghost use Rattle.serve_core.specs.Tables.{AllFree};
@@ -91,6 +91,7 @@ pub fn put_graph_alone<S: Source, K: Sink>(
     ensures all { length sources.old.items ≡ length sources.new.items + length (sources_in result.0) }
     ensures steady { OnOk result.1 (fault_counts S.Source (sources.new.items ++ sources_in result.0) ≡
         fault_counts S.Source sources.old.items) }
+    ensures unfailed { (IsErrOf result.1 Stop.Write → ⊥) → K.faults out.new ≡ K.faults out.old }
     ensures later { IsLater K.Sink out.old out.new }
 {
     let (core, kept) = match open_core(alloc, pool, graph, root, sources, cache) {
@@ -101,7 +102,7 @@ pub fn put_graph_alone<S: Source, K: Sink>(
     (core.into_table(), put)
 }
 
-/// The same by several workers, each in a thread of its own.
+/// The same by as many workers as the pool has, each in a thread of its own where there are several.
 pub fn put_graph_together<R: Threads + Wait + Sync, G: Gate, S: Source + Send, K: Sink>(
     rt: &R,
     gate: &G,
@@ -127,8 +128,12 @@ pub fn put_graph_together<R: Threads + Wait + Sync, G: Gate, S: Source + Send, K
     ensures all { length sources.old.items ≡ length sources.new.items + length (sources_in result.0) }
     ensures steady { OnOk result.1 (fault_counts S.Source (sources.new.items ++ sources_in result.0) ≡
         fault_counts S.Source sources.old.items) }
+    ensures unfailed { (IsErrOf result.1 Stop.Write → ⊥) → K.faults out.new ≡ K.faults out.old }
     ensures later { IsLater K.Sink out.old out.new }
 {
+    if pool.workers == 1 {
+        return put_graph_alone(alloc, pool, graph, root, sources, cache, out, journal);
+    }
     let (core, kept) = match open_core(alloc, pool, graph, root, sources, cache) {
         Ok(opened) => opened,
         Err(table) => return (table, Err(Stop::Memory)),

@@ -17,6 +17,7 @@ pub(crate) fn put_all<K: Sink>(out: &mut K, buf: &mut ArrayString<BLOCK>) -> Res
     ensures put { OnOk result (Puts K.Sink out.old out.new buf.old.bytes) }
     ensures empty { OnOk result (buf.new.bytes ≡ []) }
     ensures cut { OnErr result (PutsPrefix K.Sink out.old out.new buf.old.bytes) }
+    ensures steady { OnOk result (K.faults out.new ≡ K.faults out.old) }
     ensures failed { OnErr result (SinkFailed K.Sink out.old out.new) }
     ensures later { IsLater K.Sink out.old out.new }
 {
@@ -38,6 +39,7 @@ pub(crate) fn add<K: Sink>(
     ensures put { OnOk result
         (PutsAllBut K.Sink out.old out.new (buf.old.bytes ++ line.now.bytes) buf.new.bytes) }
     ensures cut { OnErr result (PutsPrefix K.Sink out.old out.new buf.old.bytes) }
+    ensures steady { OnOk result (K.faults out.new ≡ K.faults out.old) }
     ensures failed { OnErr result (SinkFailed K.Sink out.old out.new) }
     ensures later { IsLater K.Sink out.old out.new }
 {

@@ -23,6 +23,7 @@ fn add_events<K: Sink>(
         (buf.old.bytes ++ lines_text (map Did events.now)) buf.new.bytes) }
     ensures fits { OnOk result (AllByRecursion LineFits (map Did events.now)) }
     ensures cut { OnErr result (PutsPrefix K.Sink out.old out.new (buf.old.bytes ++ lines_text (map Did events.now))) }
+    ensures steady { OnOk result (K.faults out.new ≡ K.faults out.old) }
     ensures failed { OnErr result (SinkFailed K.Sink out.old out.new) }
     ensures later { IsLater K.Sink out.old out.new }
 {
@@ -46,6 +47,7 @@ fn add_window<K: Sink>(
     ensures fits { OnOk result (AllByRecursion LineFits (window_lines (window_of windowed.now))) }
     ensures cut { OnErr result (PutsPrefix K.Sink out.old out.new
         (buf.old.bytes ++ lines_text (window_lines (window_of windowed.now)))) }
+    ensures steady { OnOk result (K.faults out.new ≡ K.faults out.old) }
     ensures failed { OnErr result (SinkFailed K.Sink out.old out.new) }
     ensures later { IsLater K.Sink out.old out.new }
 {
@@ -67,6 +69,7 @@ fn add_windows<K: Sink>(
     ensures fits { OnOk result (AllByRecursion LineFits (flat_map window_lines (map window_of windows.now))) }
     ensures cut { OnErr result (PutsPrefix K.Sink out.old out.new
         (buf.old.bytes ++ lines_text (flat_map window_lines (map window_of windows.now)))) }
+    ensures steady { OnOk result (K.faults out.new ≡ K.faults out.old) }
     ensures failed { OnErr result (SinkFailed K.Sink out.old out.new) }
     ensures later { IsLater K.Sink out.old out.new }
 {
@@ -85,6 +88,7 @@ pub fn print_journal<K: Sink>(out: &mut K, workers: u32, journal: &Record) -> Re
     ensures put { OnOk result (Puts K.Sink out.old out.new (journal_text workers (windows_of journal.now))) }
     ensures fits { OnOk result (AllByRecursion LineFits (journal_lines workers (windows_of journal.now))) }
     ensures cut { OnErr result (PutsPrefix K.Sink out.old out.new (journal_text workers (windows_of journal.now))) }
+    ensures steady { OnOk result (K.faults out.new ≡ K.faults out.old) }
     ensures failed { OnErr result (SinkFailed K.Sink out.old out.new) }
     ensures later { IsLater K.Sink out.old out.new }
 {

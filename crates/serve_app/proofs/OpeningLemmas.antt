@@ -1,5 +1,5 @@
 -- A script that was opened over files, and what a stop before shows.
-use Rattle.std.proofs.Common.{◌≡◌, ◌∙◌, ℕ, Bool, IsTrue, List, Option, None, Result, Err, refl, inl, sym}
+use Rattle.std.proofs.Common.{◌≡◌, ◌∙◌, ℕ, Bool, IsTrue, List, Option, None, Result, Err, refl, inl, sym, subst}
 use Rattle.fv_io.specs.Faults.{HasRisen}
 use Rattle.fv_io.specs.World.{World, InWorld}
 use Rattle.fv_io.specs.Sink.{PutsPrefix}
@@ -30,7 +30,7 @@ use Rattle.serve_app.specs.Journals.{IsPool}
 use Rattle.serve_app.specs.Meaning.{meaning_in}
 use Rattle.serve_app.specs.Opening.{Tells, EndsBefore, IsOpenScript, MeansPlan, OpeningShows}
 use Rattle.serve_app.specs.Renders.{IsScriptRender}
-use Rattle.serve_app.specs.Stop.{RenderShows, ScriptHasClip}
+use Rattle.serve_app.specs.Stop.{IsByScript, RenderShows, ScriptHasClip}
 use Rattle.serve_app.proofs.ClosingLemmas.{none_failed}
 use Rattle.serve_app.proofs.MeaningLemmas.{same_plan, same_root, same_crew}
 use Rattle.serve_app.proofs.PlayLemmas.{fit, has_one, in_told, script_render}
@@ -47,6 +47,20 @@ opening_stops told world script failed before now (of_stop.File name fault) tell
 opening_stops told world script failed before now of_stop.Read tells ends fails = fails ends
 opening_stops told world script failed before now of_stop.Write tells ends fails = absurd ends
 opening_stops told world script failed before now of_stop.Memory tells ends fails = tt
+
+-- and counts no fault, but for a failed read
+pub opening_counts : (before now : ℕ) (stop : Stop) → EndsBefore {X = Opened} before now (Err stop) → (stop ≡ of_stop.Read → ⊥) → now ≡ before
+opening_counts before now (of_stop.Script kind name line) ends other = ends
+opening_counts before now (of_stop.Input name fault) ends other = ends
+opening_counts before now (of_stop.Changed name frame want got) ends other = absurd ends
+opening_counts before now (of_stop.File name fault) ends other = absurd ends
+opening_counts before now of_stop.Read ends other = absurd (other refl)
+opening_counts before now of_stop.Write ends other = absurd ends
+opening_counts before now of_stop.Memory ends other = ends
+
+-- a stop for the script is no failed read
+pub not_read : (stop : Stop) → IsByScript stop → stop ≡ of_stop.Read → ⊥
+not_read stop by is = subst IsByScript is by
 
 module _ {K : Type 0} (told : Option World) (script : List ℕ) (sink : Ghosts K) (out : K) (failed : Type 0) where
   before_stops : (stop : Stop) → OpeningShows told script failed stop → RenderShows failed sink told script out out stop

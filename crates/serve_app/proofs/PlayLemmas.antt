@@ -1,5 +1,5 @@
 -- A clip that was put, and what a script means.
-use Rattle.std.proofs.Common.{◌≡◌, ◌∙◌, ◌⊎◌, ℕ, zero, suc, ◌<◌, arith, Bool, true, false, IsTrue, List, [], ◌∷◌, ◌++◌, length, map, get_or, slice_get, Option, Some, None, Result, Ok, Err, refl, inl, inr, sym, ap, ap₂, subst}
+use Rattle.std.proofs.Common.{◌≡◌, ◌∙◌, ◌⊎◌, ℕ, zero, suc, ◌<◌, arith, Bool, true, false, IsTrue, List, [], ◌∷◌, ◌++◌, length, map, get_or, slice_get, Option, Some, None, Result, Ok, Err, IfErr, refl, inl, inr, sym, ap, ap₂, subst}
 use Rattle.std.proofs.lemmas.List.{take_all, length-map}
 use Rattle.std.proofs.lemmas.List.FromFn.{length-range_with_len}
 use Rattle.std.specs.List.{range_with_len}
@@ -54,7 +54,8 @@ use Rattle.serve_app.specs.Journals.{IsPool, IsPlanOf, IsScriptRendered, IsRunOf
 use Rattle.serve_app.specs.Renders.{IsScriptRender, PutsClip}
 use Rattle.serve_app.specs.Opening.{Tells, EndsBefore}
 use Rattle.prefetch.specs.Rendered.{PutsWholeFrames}
-use Rattle.serve_app.specs.Stop.{IsOfScript, ScriptHasClip, HasInfo, RenderShows}
+use Rattle.serve_core.specs.Stands.{Book}
+use Rattle.serve_app.specs.Stop.{IsOfScript, ScriptHasClip, HasInfo, IsByScript, RenderShows}
 use Rattle.prefetch.specs.Streams.{TellsStop, HeadShows}
 use Rattle.serve_app.proofs.MeaningLemmas.{same_plan, same_root, same_crew}
 
@@ -272,7 +273,7 @@ module _ {S : Type 0} (of : of_source.Ghosts S) (told : Bool) (world : World) (s
     script_render faults table failed fails capacity pool_size journal (Ok all) is inside is_pool streamed = record {
       whole = all_frames all.frames streamed.frames streamed.put;
       stop = tt;
-      untorn = (let put = streamed.put in record { frames = record { part = put.part; pictures = put.pictures; put = put.put }; steady = put.steady });
+      untorn = (let put = streamed.put in record { part = put.part; pictures = put.pictures; put = put.put });
       rendered = script_run capacity pool_size journal is inside is_pool streamed.rendered all.graph streamed.graph all.workers streamed.workers;
       cut = script_cuts capacity pool_size None journal is inside streamed.cut;
       head = script_head None journal streamed.head;
@@ -294,3 +295,19 @@ told_as meaning (of_text.Fault kind name line) is = is
 told_as meaning (of_text.Input name fault) is = is
 told_as meaning of_text.Read is = tt
 told_as meaning of_text.Memory is = tt
+
+-- a stream that isn't put whole isn't the script's fault
+no_script : {I K : Type 0} (sink : Ghosts K) (plan : List Application) (root : ℕ) (book : Book) (out put : K) (faults : I → ℕ) (table : List (Place × Slot I)) (stop : Stop)
+    → StreamShows sink plan root book out put faults table stop → IsByScript stop → ⊥
+no_script sink plan root book out put faults table (of_stop.Script kind name line) shown by = absurd shown
+no_script sink plan root book out put faults table (of_stop.Input name fault) shown by = absurd shown
+no_script sink plan root book out put faults table (of_stop.Changed name frame want got) shown by = by
+no_script sink plan root book out put faults table (of_stop.File name fault) shown by = by
+no_script sink plan root book out put faults table of_stop.Read shown by = by
+no_script sink plan root book out put faults table of_stop.Write shown by = by
+no_script sink plan root book out put faults table of_stop.Memory shown by = by
+
+pub not_by_script : {I K : Type 0} (sink : Ghosts K) (plan : List Application) (root : ℕ) (book : Book) (out put : K) (faults : I → ℕ) (table : List (Place × Slot I)) {X : Type 0} (done : Result X Stop) (P : Type 0)
+    → IfErr done (StreamShows sink plan root book out put faults table) → IfErr done (λ stop. IsByScript stop → P)
+not_by_script sink plan root book out put faults table (Ok x) P shown = tt
+not_by_script sink plan root book out put faults table (Err stop) P shown = λ by. absurd (no_script sink plan root book out put faults table stop shown by)

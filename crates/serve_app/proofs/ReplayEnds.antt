@@ -27,7 +27,7 @@ use Rattle.serve_app.specs.Replays.{HasText, IsVerdictOf, IsToldVerdict, IsJourn
 use Rattle.serve_app.specs.Run.{ReplayDoes}
 use Rattle.serve_app.specs.Stop.{ScriptHasClip}
 use Rattle.serve_app.proofs.MeaningLemmas.{means_one_thing, same_plan, same_root}
-use Rattle.serve_app.proofs.RunLemmas.{never_zero, Cause, Fails, causes_of, causes_of_whole}
+use Rattle.serve_app.proofs.RunLemmas.{Before, never_zero, Cause, Fails, causes_of, causes_of_whole}
 
 -- one line is said in a world
 pub one_verdict : (world : World) (script name : List ℕ) (capacity : ℕ) (one other : List ℕ) → IsVerdictOf world script name capacity one → IsVerdictOf world script name capacity other → one ≡ other
@@ -98,15 +98,15 @@ module _ {F S K E : Type 0} (files : of_files.Ghosts F S) (sink : Ghosts K) (lin
   abbrev InputFails : Type 0
   InputFails = EndsByInput files sink lines f g out new err said script ⊎ EndsByJournal files sink lines f g out new err said script name capacity
 
-  input_of : (stop : Stop) → Shows stop → Says lines err said (stop_line stop) → status_of_stop stop ≡ 3 → InputFails
-  input_of (Script kind text line) shown says is = absurd (omega (arith, is))
-  input_of (Input file fault) shown says is = inl (record { name = file; fault = fault; is = shown.0; line = says; put = shown.1 })
-  input_of (Changed file frame want got) shown says is = absurd shown.0
-  input_of (of_stop.File file fault) shown says is =
+  input_of : (stop : Stop) → Shows stop → Before files sink lines f g out new err said script stop → Says lines err said (stop_line stop) → status_of_stop stop ≡ 3 → InputFails
+  input_of (Script kind text line) shown before says is = absurd (omega (arith, is))
+  input_of (Input file fault) shown before says is = inl (record { name = file; fault = fault; is = shown.0; line = says; put = shown.1; steady = before tt })
+  input_of (Changed file frame want got) shown before says is = absurd shown.0
+  input_of (of_stop.File file fault) shown before says is =
       inr (record { fault = fault; is = (shown.0).1; line = subst (λ (n : List ℕ). Says lines err said (file_line n (file_kind fault))) (shown.0).0 says; put = shown.1 })
-  input_of Read shown says is = absurd (omega (arith, is))
-  input_of Write shown says is = absurd (omega (arith, is))
-  input_of Memory shown says is = absurd (omega (arith, is))
+  input_of Read shown before says is = absurd (omega (arith, is))
+  input_of Write shown before says is = absurd (omega (arith, is))
+  input_of Memory shown before says is = absurd (omega (arith, is))
 
   -- ---- all of it
 
@@ -163,8 +163,8 @@ module _ {F S K E : Type 0} (files : of_files.Ghosts F S) (sink : Ghosts K) (lin
             (λ world meaning is means. zero_is world meaning (λ w told. (let one = replay.whole w told in let said = one.is in said.has)) replay.clip is means) quiet;
       }
 
-  pub replay_stop : (stop : Stop) → ReplayDoes files sink f g out new script name capacity (Err stop) → Says lines err said (stop_line stop) → Ended (status_of_stop stop)
-  replay_stop stop did says =
+  pub replay_stop : (stop : Stop) → ReplayDoes files sink f g out new script name capacity (Err stop) → Before files sink lines f g out new err said script stop → Says lines err said (stop_line stop) → Ended (status_of_stop stop)
+  replay_stop stop did before says =
       let replay = did.replay in
       record {
         whole = λ zero. absurd (never_zero stop zero);
@@ -174,5 +174,5 @@ module _ {F S K E : Type 0} (files : of_files.Ghosts F S) (sink : Ghosts K) (lin
         steady = λ zero. absurd (never_zero stop zero);
         fetched = λ zero. absurd (never_zero stop zero);
         causes = causes_of files sink lines f g out new err said script OfFile due (λ world fault. refl) of_file_is (said ≡ err) InputFails (Fails files sink lines f g out new err said script) (λ failed. failed)
-            stop (cause_of stop replay.stop) says (input_of stop replay.stop says);
+            stop (cause_of stop replay.stop) before says (input_of stop replay.stop before says);
       }

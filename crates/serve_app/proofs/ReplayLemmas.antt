@@ -1,5 +1,5 @@
 -- What is read for a replay, and what it shows.
-use Rattle.std.proofs.Common.{◌≡◌, ◌∙◌, ℕ, ◌<◌, ◌≤◌, List, length, Option, Some, None, Result, Ok, Err, IfOk, IfErr, OnOk, refl, sym, ap}
+use Rattle.std.proofs.Common.{◌≡◌, ◌∙◌, ℕ, ◌<◌, ◌≤◌, List, length, Option, Some, None, Result, Ok, Err, IfOk, IfErr, OnOk, refl, sym, ap, subst}
 use Rattle.std.specs.Prelude.{IsErrOf, Vec}
 use Rattle.std.specs.FinMap.{get}
 use Rattle.std.specs.Option.{ForSome}
@@ -20,9 +20,9 @@ use Rattle.serve_text.specs.declared.stop.Stop.TheVariants as of_stop
 use Rattle.serve_app.specs.declared.replay.Charge.{Charge}
 use Rattle.serve_app.specs.Meaning.{meaning_in}
 use Rattle.serve_app.specs.Opening.{OpeningShows}
-use Rattle.serve_app.specs.Replays.{HasText, IsToldVerdict, charge_with, ReadingShows, IsCharge, ReplayShows, IsScriptReplay}
+use Rattle.serve_app.specs.Replays.{HasText, IsToldVerdict, journal_stop, charge_with, ReadingShows, IsCharge, ReplayShows, IsScriptReplay}
 use Rattle.serve_app.specs.Sessions.{fetch_stop}
-use Rattle.serve_app.specs.Stop.{ScriptHasClip}
+use Rattle.serve_app.specs.Stop.{ScriptHasClip, IsByScript}
 use Rattle.serve_app.proofs.MeaningLemmas.{same_plan, same_root}
 use Rattle.serve_app.proofs.SessionLemmas.{given}
 
@@ -146,3 +146,51 @@ module _ {K : Type 0} (told : Option World) (script name : List ℕ) (capacity :
     judged_replay (Err (of_stop.Changed file frame want got)) due stop = absurd stop
     judged_replay (Err (of_stop.File file fault)) due stop = absurd stop
     judged_replay (Err of_stop.Read) due stop = absurd stop
+
+-- ---- stops that aren't for the script
+
+no_journal : (name : List ℕ) (why : JournalStop) → IsByScript (journal_stop name why) → ⊥
+no_journal name of_journal.TooLong by = by
+no_journal name of_journal.Read by = by
+no_journal name of_journal.Memory by = by
+
+pub no_charge : (opened : Opened) (name : List ℕ) (done : Result (Vec ℕ Global) JournalStop) (P : Type 0) → IfErr (charge_with opened name done) (λ stop. IsByScript stop → P)
+no_charge opened name (Ok text) P = tt
+no_charge opened name (Err why) P = λ by. absurd (no_journal name why by)
+
+not_write : (name : List ℕ) (why : JournalStop) → journal_stop name why ≡ of_stop.Write → ⊥
+not_write name of_journal.TooLong is = let no : ⊥ = cc is in no
+not_write name of_journal.Read is = let no : ⊥ = cc is in no
+not_write name of_journal.Memory is = let no : ⊥ = cc is in no
+
+-- and none is a failed write
+pub unwritten : (opened : Opened) (name : List ℕ) (done : Result (Vec ℕ Global) JournalStop) → IsErrOf (charge_with opened name done) of_stop.Write → ⊥
+unwritten opened name (Ok text) is = let no : ⊥ = cc is in no
+unwritten opened name (Err why) is = not_write name why (let same : journal_stop name why ≡ of_stop.Write = cc is in same)
+
+unopened_write : (name : List ℕ) (fault : FetchFault) → fetch_stop name fault ≡ of_stop.Write → ⊥
+unopened_write name of_fetch.NotThere is = let no : ⊥ = cc is in no
+unopened_write name of_fetch.Failed is = let no : ⊥ = cc is in no
+unopened_write name of_fetch.Memory is = let no : ⊥ = cc is in no
+
+pub unopened_unwritten : {X : Type 0} (name : List ℕ) (fault : FetchFault) → IsErrOf {T = X} (Err (fetch_stop name fault)) of_stop.Write → ⊥
+unopened_unwritten name fault is = unopened_write name fault (let same : fetch_stop name fault ≡ of_stop.Write = cc is in same)
+
+opening_write : (told : Option World) (script : List ℕ) (failed : Type 0) (stop : Stop) → OpeningShows told script failed stop → stop ≡ of_stop.Write → ⊥
+opening_write told script failed stop shown is = subst (OpeningShows told script failed) is shown
+
+pub opening_unwritten : {X : Type 0} (told : Option World) (script : List ℕ) (failed : Type 0) (stop : Stop) → OpeningShows told script failed stop → IsErrOf {T = X} (Err stop) of_stop.Write → ⊥
+opening_unwritten told script failed stop shown is = opening_write told script failed stop shown (let same : stop ≡ of_stop.Write = cc is in same)
+
+due_script : {K : Type 0} (sink : Ghosts K) (old new : K) (IsDue : List ℕ → Type 0) (stop : Stop) → DueStops sink old new IsDue stop → IsByScript stop → ⊥
+due_script sink old new IsDue (of_stop.Script kind name line) shown by = shown
+due_script sink old new IsDue (of_stop.Input name fault) shown by = shown
+due_script sink old new IsDue (of_stop.Changed name frame want got) shown by = by
+due_script sink old new IsDue (of_stop.File name fault) shown by = by
+due_script sink old new IsDue of_stop.Read shown by = by
+due_script sink old new IsDue of_stop.Write shown by = by
+due_script sink old new IsDue of_stop.Memory shown by = by
+
+pub no_due : {K : Type 0} (sink : Ghosts K) (old new : K) (IsDue : List ℕ → Type 0) (done : Result (Unit {0}) Stop) (P : Type 0) → IfErr done (DueStops sink old new IsDue) → IfErr done (λ stop. IsByScript stop → P)
+no_due sink old new IsDue (Ok u) P shown = tt
+no_due sink old new IsDue (Err stop) P shown = λ by. absurd (due_script sink old new IsDue stop shown by)

@@ -18,10 +18,10 @@ use Rattle.serve_text.specs.declared.stop.Stop.TheVariants as of_stop
 use Rattle.serve_text.specs.declared.stop.Stop.TheVariants.{Script, Input, Changed, Read, Write, Memory}
 use Rattle.serve_text.specs.StopKinds.{status_of_stop}
 use Rattle.serve_app.specs.Info.{IsInfoOf, IsToldInfo, InfoShows, PutsInfo}
-use Rattle.serve_app.specs.Renders.{PutsClip, PutsUntorn}
+use Rattle.serve_app.specs.Renders.{PutsClip}
 use Rattle.serve_app.specs.Meaning.{ReadsOnce, Meaning, a_clip, a_fault, MeansClip, Means, status_of, status_of_fault, script_status}
-use Rattle.prefetch.specs.Rendered.{PutsNothing, PutsWholeFrames, EndsInFrame, PutsHead, PutsNoHead, IsUntorn}
-use Rattle.serve_app.specs.Stop.{IsOfScript, ScriptHasClip, HasInfo, HasFault, HasChanged, IsScriptFault, RenderShows}
+use Rattle.prefetch.specs.Rendered.{PutsNothing, PutsWholeFrames, PutsFramesOnly, EndsInFrame, PutsHead, PutsNoHead, IsUntorn}
+use Rattle.serve_app.specs.Stop.{IsOfScript, ScriptHasClip, HasInfo, HasFault, HasChanged, IsScriptFault, IsByScript, RenderShows}
 use Rattle.prefetch.specs.Streams.{file_at, TellsStop, HeadShows}
 use Rattle.serve_text.specs.Lines.{Says, stop_line, read_line, memory_line}
 use Rattle.prefetch.specs.declared.pool_size.PoolSize.{PoolSize}
@@ -74,6 +74,10 @@ module _ {F S K E : Type 0} (files : of_files.Ghosts F S) (sink : Ghosts K) (lin
   abbrev ReadsThem : Type 0
   ReadsThem = ReadsOnce (files.world f) script (files.faults f) (files.faults g) (files.fetched f) (files.fetched g)
 
+  -- where the script has no clip no fault of the files was counted
+  abbrev pub Before : Stop → Type 0
+  Before stop = IsByScript stop → files.faults g ≡ files.faults f
+
   -- ---- causes
 
   memory_of : (stop : Stop) → Says lines err said (stop_line stop) → status_of_stop stop ≡ 6 → Says lines err said memory_line
@@ -96,14 +100,14 @@ module _ {F S K E : Type 0} (files : of_files.Ghosts F S) (sink : Ghosts K) (lin
     Cause Write = SinkFailed sink out new × ScriptHasClip (files.world f) script
     Cause Memory = Unit {0}
 
-    script_of : (stop : Stop) → Cause stop → Says lines err said (stop_line stop) → status_of_stop stop ≡ 2 → EndsByScript files sink lines f g out new err said script
-    script_of (Script kind name line) shown says is = record { kind = kind; name = name; at = line; is = shown.0; line = says; put = shown.1 }
-    script_of (Input name fault) shown says is = absurd (omega (arith, is))
-    script_of (Changed name frame want got) shown says is = absurd (omega (arith, is))
-    script_of (of_stop.File name fault) shown says is = absurd (omega (arith, is))
-    script_of Read shown says is = absurd (omega (arith, is))
-    script_of Write shown says is = absurd (omega (arith, is))
-    script_of Memory shown says is = absurd (omega (arith, is))
+    script_of : (stop : Stop) → Cause stop → Before stop → Says lines err said (stop_line stop) → status_of_stop stop ≡ 2 → EndsByScript files sink lines f g out new err said script
+    script_of (Script kind name line) shown before says is = record { kind = kind; name = name; at = line; is = shown.0; line = says; put = shown.1; steady = before tt }
+    script_of (Input name fault) shown before says is = absurd (omega (arith, is))
+    script_of (Changed name frame want got) shown before says is = absurd (omega (arith, is))
+    script_of (of_stop.File name fault) shown before says is = absurd (omega (arith, is))
+    script_of Read shown before says is = absurd (omega (arith, is))
+    script_of Write shown before says is = absurd (omega (arith, is))
+    script_of Memory shown before says is = absurd (omega (arith, is))
 
     read_of : (stop : Stop) → Cause stop → Says lines err said (stop_line stop) → status_of_stop stop ≡ 4 → FilesFailed files f g × Says lines err said read_line
     read_of (Script kind name line) shown says is = absurd (omega (arith, is))
@@ -140,12 +144,12 @@ module _ {F S K E : Type 0} (files : of_files.Ghosts F S) (sink : Ghosts K) (lin
       complete_of Memory shown says world meaning is means no_fault no_failure = inr refl
 
       -- where a failed write to the output shows that a write failed
-      pub causes_of : (Well ByInput Failed : Type 0) → (WriteFails files sink lines f g out new err said script → Failed) → (stop : Stop) → Cause stop → Says lines err said (stop_line stop) → (status_of_stop stop ≡ 3 → ByInput)
+      pub causes_of : (Well ByInput Failed : Type 0) → (WriteFails files sink lines f g out new err said script → Failed) → (stop : Stop) → Cause stop → Before stop → Says lines err said (stop_line stop) → (status_of_stop stop ≡ 3 → ByInput)
           → Causes files sink lines f g out new err said script Well ByInput Failed due (status_of_stop stop)
-      causes_of Well ByInput Failed fails stop shown says by_input = record {
+      causes_of Well ByInput Failed fails stop shown before says by_input = record {
         known = known_of stop;
         quiet = λ zero. absurd (never_zero stop zero);
-        by_script = script_of stop shown says;
+        by_script = script_of stop shown before says;
         by_input = by_input;
         read = read_of stop shown says;
         write = λ is. fails (write_of stop shown says is);
@@ -164,9 +168,9 @@ module _ {F S K E : Type 0} (files : of_files.Ghosts F S) (sink : Ghosts K) (lin
     abbrev Caused : ℕ → Type 0
     Caused status = Causes files sink lines f g out new err said script Well ByInput Failed script_status status
 
-    script_causes : (WriteFails files sink lines f g out new err said script → Failed) → (stop : Stop) → Cause NoList stop → Says lines err said (stop_line stop) → (status_of_stop stop ≡ 3 → ByInput) → Caused (status_of_stop stop)
-    script_causes fails stop shown says by_input =
-        causes_of NoList script_status (λ world fault. refl) (λ name fault none world meaning is means. absurd none) Well ByInput Failed fails stop shown says by_input
+    script_causes : (WriteFails files sink lines f g out new err said script → Failed) → (stop : Stop) → Cause NoList stop → Before stop → Says lines err said (stop_line stop) → (status_of_stop stop ≡ 3 → ByInput) → Caused (status_of_stop stop)
+    script_causes fails stop shown before says by_input =
+        causes_of NoList script_status (λ world fault. refl) (λ name fault none world meaning is means. absurd none) Well ByInput Failed fails stop shown before says by_input
 
     -- nothing was wrong, and the status 0 is due
     pub causes_of_whole : (due : World → Meaning → ℕ) → ((world : World) (meaning : Meaning) → files.world f ≡ Some world → Means world script meaning → 0 ≡ due world meaning) → Well
@@ -227,21 +231,20 @@ module _ {F S K E : Type 0} (files : of_files.Ghosts F S) (sink : Ghosts K) (lin
     Ended asked status = Headline files sink lines f g out new err said script capacity pool_size journal asked status
 
     -- the whole text was put, and what is on `err` shows the status
-    headline_by : (asked : Tells) (status frames : ℕ) → InWorld (files.world f) (λ world. PutsClip sink world script out new frames) → ReadsThem → PutsUntorn sink out new → ((status ≡ 0) ⊎ (status ≡ 5))
+    headline_by : (asked : Tells) (status frames : ℕ) → InWorld (files.world f) (λ world. PutsClip sink world script out new frames) → ReadsThem → PutsFramesOnly sink out new → ((status ≡ 0) ⊎ (status ≡ 5))
         → Caused (Well asked) InputFails (Failed asked) status → Ended asked status
     headline_by asked status frames whole reads put which causes = record {
       whole = λ zero. whole_of frames whole;
       prefix = prefix_of_whole frames whole;
       nothing = λ world is none. (let one = whole world is in absurd (none one.clip one.means));
       whole_frames = λ other. absurd (omega (arith, which, other));
-      untorn = λ other. inr put.frames;
+      untorn = λ other. inr put;
       steady = λ zero. reads.steady;
-      unfailed = λ zero. put.steady;
       fetched = λ zero. reads.fetched;
       causes = causes;
     }
 
-    pub headline_of_whole : (asked : Tells) (frames : ℕ) → InWorld (files.world f) (λ world. PutsClip sink world script out new frames) → ReadsThem → PutsUntorn sink out new → Well asked → Ended asked 0
+    pub headline_of_whole : (asked : Tells) (frames : ℕ) → InWorld (files.world f) (λ world. PutsClip sink world script out new frames) → ReadsThem → PutsFramesOnly sink out new → Well asked → Ended asked 0
     headline_of_whole asked frames whole reads put quiet = headline_by asked 0 frames whole reads put (inl refl)
         (causes_of_whole (Well asked) InputFails (Failed asked) script_status (zero_due (Well asked) InputFails (Failed asked) (has_clip frames whole)) quiet)
 
@@ -250,7 +253,7 @@ module _ {F S K E : Type 0} (files : of_files.Ghosts F S) (sink : Ghosts K) (lin
         → EndsInText files sink lines f g out new err said script capacity pool_size journal IsText
     cut_in IsText frames whole text is cut = record { whole = whole_of frames whole; text = text; is = is; cut = cut }
 
-    pub headline_of_cut : (asked : Tells) (frames : ℕ) → InWorld (files.world f) (λ world. PutsClip sink world script out new frames) → ReadsThem → PutsUntorn sink out new → Failed asked → Ended asked 5
+    pub headline_of_cut : (asked : Tells) (frames : ℕ) → InWorld (files.world f) (λ world. PutsClip sink world script out new frames) → ReadsThem → PutsFramesOnly sink out new → Failed asked → Ended asked 5
     headline_of_cut asked frames whole reads put failed = headline_by asked 5 frames whole reads put (inr refl) (causes_of_cut (Well asked) InputFails (Failed asked) failed)
 
   module _ (stop : Stop) where
@@ -266,14 +269,14 @@ module _ {F S K E : Type 0} (files : of_files.Ghosts F S) (sink : Ghosts K) (lin
   cause_of Write shown = (shown.0, (let front = shown.1 in front.has_one))
   cause_of Memory shown = tt
 
-  input_of : (stop : Stop) → Shown stop → Says lines err said (stop_line stop) → status_of_stop stop ≡ 3 → InputFails
-  input_of (Script kind name line) shown says is = absurd (omega (arith, is))
-  input_of (Input name fault) shown says is = inl (record { name = name; fault = fault; is = shown.0; line = says; put = shown.1 })
-  input_of (Changed name frame want got) shown says is = inr (record { name = name; frame = frame; want = want; got = got; is = shown.0; line = says; put = shown.1 })
-  input_of (of_stop.File name fault) shown says is = absurd shown
-  input_of Read shown says is = absurd (omega (arith, is))
-  input_of Write shown says is = absurd (omega (arith, is))
-  input_of Memory shown says is = absurd (omega (arith, is))
+  input_of : (stop : Stop) → Shown stop → Before stop → Says lines err said (stop_line stop) → status_of_stop stop ≡ 3 → InputFails
+  input_of (Script kind name line) shown before says is = absurd (omega (arith, is))
+  input_of (Input name fault) shown before says is = inl (record { name = name; fault = fault; is = shown.0; line = says; put = shown.1; steady = before tt })
+  input_of (Changed name frame want got) shown before says is = inr (record { name = name; frame = frame; want = want; got = got; is = shown.0; line = says; put = shown.1 })
+  input_of (of_stop.File name fault) shown before says is = absurd shown
+  input_of Read shown before says is = absurd (omega (arith, is))
+  input_of Write shown before says is = absurd (omega (arith, is))
+  input_of Memory shown before says is = absurd (omega (arith, is))
 
   prefix_of : (stop : Stop) → Shown stop → (clip : Clip) → IsOfScript (files.world f) script clip → PutsPrefix sink out new (stream clip)
   prefix_of (Script kind name line) shown clip is = none_is_prefix sink out new clip shown.1
@@ -331,17 +334,16 @@ module _ {F S K E : Type 0} (files : of_files.Ghosts F S) (sink : Ghosts K) (lin
     fails_by of_tells.Report failed = inl failed
     fails_by of_tells.Journal failed = inl failed
 
-    pub headline_of_stop : (asked : Tells) (stop : Stop) → Shown stop → Says lines err said (stop_line stop) → Ended capacity pool_size journal asked (status_of_stop stop)
-    headline_of_stop asked stop shown says = record {
+    pub headline_of_stop : (asked : Tells) (stop : Stop) → Shown stop → Before stop → Says lines err said (stop_line stop) → Ended capacity pool_size journal asked (status_of_stop stop)
+    headline_of_stop asked stop shown before says = record {
       whole = λ zero. absurd (never_zero stop zero);
       prefix = prefix_of stop shown;
       nothing = nothing_of stop shown;
       whole_frames = frames_of stop shown;
       untorn = untorn_of stop shown;
       steady = λ zero. absurd (never_zero stop zero);
-      unfailed = λ zero. absurd (never_zero stop zero);
       fetched = λ zero. absurd (never_zero stop zero);
-      causes = script_causes (Well capacity pool_size journal asked) InputFails (Failed capacity pool_size journal asked) (fails_by asked) stop (cause_of stop shown) says (input_of stop shown says);
+      causes = script_causes (Well capacity pool_size journal asked) InputFails (Failed capacity pool_size journal asked) (fails_by asked) stop (cause_of stop shown) before says (input_of stop shown before says);
     }
 
   -- ---- what is known of the clip
@@ -415,24 +417,24 @@ module _ {F S K E : Type 0} (files : of_files.Ghosts F S) (sink : Ghosts K) (lin
   info_unwritten Write shown which = absurd (omega (arith, which))
   info_unwritten Memory shown which = shown
 
-  info_input : (stop : Stop) → Told stop → Says lines err said (stop_line stop) → status_of_stop stop ≡ 3 → EndsByInput files sink lines f g out new err said script
-  info_input (Script kind name line) shown says is = absurd (omega (arith, is))
-  info_input (Input name fault) shown says is = record { name = name; fault = fault; is = shown.0; line = says; put = shown.1 }
-  info_input (Changed name frame want got) shown says is = absurd shown
-  info_input (of_stop.File name fault) shown says is = absurd shown
-  info_input Read shown says is = absurd (omega (arith, is))
-  info_input Write shown says is = absurd (omega (arith, is))
-  info_input Memory shown says is = absurd (omega (arith, is))
+  info_input : (stop : Stop) → Told stop → Before stop → Says lines err said (stop_line stop) → status_of_stop stop ≡ 3 → EndsByInput files sink lines f g out new err said script
+  info_input (Script kind name line) shown before says is = absurd (omega (arith, is))
+  info_input (Input name fault) shown before says is = record { name = name; fault = fault; is = shown.0; line = says; put = shown.1; steady = before tt }
+  info_input (Changed name frame want got) shown before says is = absurd shown
+  info_input (of_stop.File name fault) shown before says is = absurd shown
+  info_input Read shown before says is = absurd (omega (arith, is))
+  info_input Write shown before says is = absurd (omega (arith, is))
+  info_input Memory shown before says is = absurd (omega (arith, is))
 
-  pub info_of_stop : (stop : Stop) → Told stop → Says lines err said (stop_line stop) → InfoEnds files sink lines f g out new err said script (status_of_stop stop)
-  info_of_stop stop shown says = record {
+  pub info_of_stop : (stop : Stop) → Told stop → Before stop → Says lines err said (stop_line stop) → InfoEnds files sink lines f g out new err said script (status_of_stop stop)
+  info_of_stop stop shown before says = record {
     whole = λ zero. absurd (never_zero stop zero);
     prefix = info_prefix stop shown;
     nothing = info_nothing stop shown;
     unwritten = info_unwritten stop shown;
     steady = λ zero. absurd (never_zero stop zero);
     fetched = λ zero. absurd (never_zero stop zero);
-    causes = script_causes (said ≡ err) OneInput Fails (λ failed. failed) stop (info_cause stop shown) says (info_input stop shown says);
+    causes = script_causes (said ≡ err) OneInput Fails (λ failed. failed) stop (info_cause stop shown) before says (info_input stop shown before says);
   }
 
 -- ---- the self test

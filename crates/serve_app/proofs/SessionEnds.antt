@@ -25,7 +25,7 @@ use Rattle.serve_app.specs.Run.{SessionDoes}
 use Rattle.serve_app.specs.Sessions.{IsAnswersOf, AnswersList, IsListFault, SessionShows, SessionCuts, TellsCut, status_of_end, status_of_list, session_status}
 use Rattle.serve_app.specs.Stop.{ScriptHasClip}
 use Rattle.serve_app.proofs.MeaningLemmas.{means_one_thing}
-use Rattle.serve_app.proofs.RunLemmas.{never_zero, known_of, Cause, Fails, causes_of, causes_of_whole, ends_by}
+use Rattle.serve_app.proofs.RunLemmas.{Before, never_zero, known_of, Cause, Fails, causes_of, causes_of_whole, ends_by}
 
 module _ {F S K E : Type 0} (files : of_files.Ghosts F S) (sink : Ghosts K) (lines : Ghosts E) (f g : F) (out new : K) (err said : E) (script list : List ℕ) (capacity : ℕ) (journal : Option Record) where
   abbrev Ended : ℕ → Type 0
@@ -77,14 +77,14 @@ module _ {F S K E : Type 0} (files : of_files.Ghosts F S) (sink : Ghosts K) (lin
   InputFails = EndsByInput files sink lines f g out new err said script
       ⊎ (EndsByList files sink lines f g out new err said script list ⊎ EndsByChange files sink lines f g out new err said script EndsEarly)
 
-  input_of : (stop : Stop) → Shows stop → Says lines err said (stop_line stop) → status_of_stop stop ≡ 3 → InputFails
-  input_of (Script kind name line) shown says is = absurd (omega (arith, is))
-  input_of (Input name fault) shown says is = inl (record { name = name; fault = fault; is = shown.0; line = says; put = shown.1 })
-  input_of (Changed name frame want got) shown says is = inr (inr (record { name = name; frame = frame; want = want; got = got; is = shown.0; line = says; put = shown.1 }))
-  input_of (of_stop.File name fault) shown says is = inr (inl (record { fault = fault; is = shown.1; line = subst (λ (n : List ℕ). Says lines err said (file_line n (file_kind fault))) shown.0 says }))
-  input_of Read shown says is = absurd (omega (arith, is))
-  input_of Write shown says is = absurd (omega (arith, is))
-  input_of Memory shown says is = absurd (omega (arith, is))
+  input_of : (stop : Stop) → Shows stop → Before files sink lines f g out new err said script stop → Says lines err said (stop_line stop) → status_of_stop stop ≡ 3 → InputFails
+  input_of (Script kind name line) shown before says is = absurd (omega (arith, is))
+  input_of (Input name fault) shown before says is = inl (record { name = name; fault = fault; is = shown.0; line = says; put = shown.1; steady = before tt })
+  input_of (Changed name frame want got) shown before says is = inr (inr (record { name = name; frame = frame; want = want; got = got; is = shown.0; line = says; put = shown.1 }))
+  input_of (of_stop.File name fault) shown before says is = inr (inl (record { fault = fault; is = shown.1; line = subst (λ (n : List ℕ). Says lines err said (file_line n (file_kind fault))) shown.0 says }))
+  input_of Read shown before says is = absurd (omega (arith, is))
+  input_of Write shown before says is = absurd (omega (arith, is))
+  input_of Memory shown before says is = absurd (omega (arith, is))
 
   -- how the last window ended
   ends_at : (stop : Stop) → Says lines err said (stop_line stop) → (plan : List Application) (cut : Option WindowStop) → TellsCut stop plan cut
@@ -132,8 +132,8 @@ module _ {F S K E : Type 0} (files : of_files.Ghosts F S) (sink : Ghosts K) (lin
   excused stop (inl is) = inl (ap status_of_stop is)
   excused stop (inr is) = inr (ap status_of_stop is)
 
-  pub session_stop : (stop : Stop) → Did (Err stop) → Says lines err said (stop_line stop) → Ended (status_of_stop stop)
-  session_stop stop did says =
+  pub session_stop : (stop : Stop) → Did (Err stop) → Before files sink lines f g out new err said script stop → Says lines err said (stop_line stop) → Ended (status_of_stop stop)
+  session_stop stop did before says =
       let session = did.session in (
         record {
           whole = λ zero. absurd (never_zero stop zero);
@@ -141,7 +141,7 @@ module _ {F S K E : Type 0} (files : of_files.Ghosts F S) (sink : Ghosts K) (lin
           nothing = nothing_of (Err stop) did journal refl;
           steady = λ zero. absurd (never_zero stop zero);
           causes = causes_of files sink lines f g out new err said script OfList due (λ world fault. refl) of_list_is (said ≡ err) InputFails (Fails files sink lines f g out new err said script) (λ failed. failed)
-              stop (cause_of stop session.stop) says (input_of stop session.stop says);
+              stop (cause_of stop session.stop) before says (input_of stop session.stop before says);
         },
         record {
           run = λ zero. absurd (never_zero stop zero);

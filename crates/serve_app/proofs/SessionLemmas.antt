@@ -1,5 +1,5 @@
 -- What a session over files leaves, from what is answered over a graph.
-use Rattle.std.proofs.Common.{◌≡◌, ◌∙◌, ◌⊎◌, ⊎_elim, ℕ, ◌<◌, ◌≤◌, Bool, true, false, IsTrue, List, [], ◌∷◌, ◌++◌, length, Option, Some, None, Result, Ok, Err, OnSome, OnOk, refl, inl, inr, sym, ap, ap₂, subst, nat_lt, arith}
+use Rattle.std.proofs.Common.{◌≡◌, ◌∙◌, ◌⊎◌, ⊎_elim, ℕ, ◌<◌, ◌≤◌, Bool, true, false, IsTrue, List, [], ◌∷◌, ◌++◌, length, Option, Some, None, Result, Ok, Err, OnSome, OnOk, IfErr, refl, inl, inr, sym, ap, ap₂, subst, nat_lt, arith}
 use Rattle.std.specs.Prelude.{IsErrOf, drop}
 use Rattle.std.specs.FinMap.{get}
 use Rattle.std.proofs.lemmas.Bool.Decides.{nat_tests}
@@ -52,8 +52,9 @@ use Rattle.prefetch.specs.declared.session.SessionStop.TheVariants.{Stopped, Lis
 use Rattle.serve_app.specs.Journals.{IsPlanOf}
 use Rattle.serve_app.specs.Meaning.{meaning_in}
 use Rattle.serve_app.specs.Opening.{OpeningShows}
-use Rattle.serve_app.specs.Sessions.{answers_of, IsAnswersOf, IsToldAnswers, HasAnswers, InList, AnswersList, SessionCuts, fetch_stop, stop_with, ended_with, TellsCut, SessionShows, IsScriptSession}
-use Rattle.serve_app.specs.Stop.{ScriptHasClip, HasFault}
+use Rattle.serve_app.specs.Sessions.{answers_of, IsAnswersOf, IsToldAnswers, HasAnswers, InList, AnswersList, SessionCuts, fetch_stop, list_stop, stop_with, ended_with, TellsCut, SessionShows, IsScriptSession}
+use Rattle.serve_core.specs.Stands.{Book}
+use Rattle.serve_app.specs.Stop.{ScriptHasClip, HasFault, IsByScript}
 use Rattle.serve_app.proofs.PlayLemmas.{in_told, told_same, a_clip_at, of_means, none_of, plan_of, has_one}
 
 -- ---- answers over a clip
@@ -302,3 +303,34 @@ list_rose before start mid now after faults first closed more last failed = omeg
 -- and one that didn't leaves it as it was
 pub list_stays : (start mid faults : ℕ) → mid ≡ with_faults start faults → faults ≡ 0 → mid ≡ start
 list_stays start mid faults closed none = omega (arith, closed, none)
+
+-- ---- stops that aren't for the script
+
+pub no_fetch : (name : List ℕ) (fault : FetchFault) → IsByScript (fetch_stop name fault) → ⊥
+no_fetch name of_fetch.NotThere by = by
+no_fetch name of_fetch.Failed by = by
+no_fetch name of_fetch.Memory by = by
+
+no_list : (name : List ℕ) (fault : SessionFault) → IsByScript (list_stop name fault) → ⊥
+no_list name of_fault.Read by = by
+no_list name of_fault.LineTooLong by = by
+no_list name of_fault.TooManyLines by = by
+
+no_answer : {I L K : Type 0} (plan : List Application) (root capacity : ℕ) (faults : I → ℕ) (book : Book) (list : of_source.Ghosts L) (s t : L) (sink : Ghosts K) (old new : K)
+    (table : List (Place × Slot I)) (stop : Stop) → AnswerShows plan root capacity faults book list s t sink old new table (Stopped stop) → IsByScript stop → ⊥
+no_answer plan root capacity faults book list s t sink old new table (of_stop.Script kind name line) shown by = absurd shown
+no_answer plan root capacity faults book list s t sink old new table (of_stop.Input name fault) shown by = absurd shown
+no_answer plan root capacity faults book list s t sink old new table (of_stop.Changed name frame want got) shown by = by
+no_answer plan root capacity faults book list s t sink old new table (of_stop.File name fault) shown by = by
+no_answer plan root capacity faults book list s t sink old new table of_stop.Read shown by = by
+no_answer plan root capacity faults book list s t sink old new table of_stop.Write shown by = by
+no_answer plan root capacity faults book list s t sink old new table of_stop.Memory shown by = by
+
+-- one of the answers, or of their list
+pub answered_before : {I L K : Type 0} (plan : List Application) (root capacity : ℕ) (faults : I → ℕ) (book : Book) (list : of_source.Ghosts L) (s t : L) (sink : Ghosts K) (old new : K)
+    (table : List (Place × Slot I)) (journal : Option Record) (done : Result (Unit {0}) SessionStop) (name : List ℕ) (P : Type 0)
+    → IsAnswered plan root capacity faults book list s t sink old new journal table done → IfErr (ended_with name done) (λ stop. IsByScript stop → P)
+answered_before plan root capacity faults book list s t sink old new table journal (Ok u) name P answered = tt
+answered_before plan root capacity faults book list s t sink old new table journal (Err (Stopped stop)) name P answered =
+    λ by. absurd (no_answer plan root capacity faults book list s t sink old new table stop (let some = answered.stop in some.shows) by)
+answered_before plan root capacity faults book list s t sink old new table journal (Err (ListFault fault)) name P answered = λ by. absurd (no_list name fault by)

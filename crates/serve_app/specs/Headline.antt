@@ -41,7 +41,8 @@ use Rattle.serve_text.specs.declared.stop.FileFault.{FileFault}
 module _ {F S K E : Type 0} (files : of_files.Ghosts F S) (sink : Ghosts K) (lines : Ghosts E)
     (f g : F) (out new : K) (err said : E) where
   module _ (script : List ℕ) where
-    -- the text of this name has a fault at a line, the line of the fault is put, and nothing is on the output
+    -- the text of this name has a fault at a line, the line of the fault is put, and nothing is on the output; no read failed
+    -- before
     pub record EndsByScript : Type 0 where
       pub kind : ScriptKind
       pub name : List ℕ
@@ -49,14 +50,16 @@ module _ {F S K E : Type 0} (files : of_files.Ghosts F S) (sink : Ghosts K) (lin
       pub is : IsScriptFault (files.world f) script kind name at
       pub line : Says lines err said (script_line kind name at)
       pub put : PutsNothing sink out new
+      pub steady : files.faults g ≡ files.faults f
 
-    -- an input is no clip, its line is put, and nothing is on the output
+    -- an input is no clip, its line is put, and nothing is on the output; no read failed before
     pub record EndsByInput : Type 0 where
       pub name : List ℕ
       pub fault : InputFault
       pub is : HasFault (files.world f) script (input name fault)
       pub line : Says lines err said (input_line name fault)
       pub put : PutsNothing sink out new
+      pub steady : files.faults g ≡ files.faults f
 
     -- an input changed, its line is put, and of the frame and both offsets this is so
     pub record EndsByChange (Is : ℕ → ℕ → ℕ → Type 0) : Type 0 where
@@ -147,7 +150,6 @@ module _ {F S K E : Type 0} (files : of_files.Ghosts F S) (sink : Ghosts K) (lin
         pub untorn : (status ≡ 5 → ⊥) → IsUntorn sink out new
         -- no fault was counted, so nothing that failed was tried again; as many files were fetched as the script reads
         pub steady : status ≡ 0 → files.faults g ≡ files.faults f
-        pub unfailed : status ≡ 0 → sink.faults new ≡ sink.faults out
         pub fetched : status ≡ 0 → InWorld (files.world f) (λ world.
             files.fetched g ≡ files.fetched f + files_in world script)
         -- an input that changed did so after whole frames and a part of one
@@ -268,6 +270,9 @@ module _ {F S K E : Type 0} (files : of_files.Ghosts F S) (sink : Ghosts K) (lin
     pub asked : (command : Command) → command_in words ≡ Some command → CommandEnds pool_size journal command status
     pub refused : command_in words ≡ None → IsRefused status
     pub usage : status ≡ 1 → command_in words ≡ None
+    -- a write failed only where that is the status, and none of what is told
+    pub unfailed : (status ≡ 5 → ⊥) → sink.faults new ≡ sink.faults out
+    pub unfailed_lines : status ≡ 0 → lines.faults said ≡ lines.faults err
     -- each file that was fetched is closed, and no count of faults falls
     pub keeps : KeepsFiles files f g
     pub later : IsLater sink out new

@@ -22,11 +22,6 @@ pub record PutsClip {K : Type 0} (sink : Ghosts K) (world : World) (script : Lis
   pub put : Puts sink old new (stream clip)
   pub frames_are : frames ≡ clip.info.frames
 
--- a head and whole frames were put, and no fault of the sink was counted
-pub record PutsUntorn {K : Type 0} (sink : Ghosts K) (old new : K) : Type 0 where
-  pub frames : PutsFramesOnly sink old new
-  pub steady : sink.faults new ≡ sink.faults old
-
 -- the render of this script, with a cache of so many frames and a pool of this size, where a read failed only if this holds
 module _ {K : Type 0} (told : Option World) (script : List ℕ) (capacity : ℕ) (pool_size : PoolSize) (failed : Type 0)
     (sink : Ghosts K) (old new : K) where
@@ -34,7 +29,7 @@ module _ {K : Type 0} (told : Option World) (script : List ℕ) (capacity : ℕ)
     -- its clip was put, or what stopped it
     pub whole : IfOk done (λ all. InWorld told (λ world. PutsClip sink world script old new all.frames))
     pub stop : IfErr done (RenderShows failed sink told script old new)
-    pub untorn : OnOk done (PutsUntorn sink old new)
+    pub untorn : OnOk done (PutsFramesOnly sink old new)
     -- the journal is that of the whole render, or the beginning of it; there is one where the head was put
     pub rendered : IfOk done (λ all. IsRunOf told script capacity pool_size journal all.graph all.workers)
     pub cut : ScriptCuts told script capacity pool_size sink old new (TellsStop (stop_in done)) journal

@@ -21,12 +21,13 @@ use Rattle.prefetch.specs.declared.pool_size.PoolSize.{PoolSize}
 use Rattle.prefetch.specs.declared.pool_size.PoolSize.TheVariants.{One, Asked}
 use Rattle.prefetch.specs.declared.stream.RenderedClip.{RenderedClip}
 use Rattle.prefetch.specs.Pool.{AreThreads}
+use Rattle.prefetch.specs.Rendered.{PutsFramesOnly}
 use Rattle.serve_app.specs.declared.entry.Telling.{Telling}
 use Rattle.serve_app.specs.declared.entry.Telling.TheVariants as telling
 use Rattle.serve_app.specs.Info.{InfoShows, PutsInfo}
 use Rattle.serve_app.specs.Journals.{cache_of, IsScriptRendered, IsRunOf, ScriptCuts}
 use Rattle.serve_text.specs.Lines.{Says, stop_line}
-use Rattle.serve_app.specs.Renders.{PutsClip, PutsUntorn}
+use Rattle.serve_app.specs.Renders.{PutsClip}
 use Rattle.serve_app.specs.Meaning.{ReadsOnce, files_in}
 use Rattle.serve_app.specs.Replays.{IsScriptReplay}
 use Rattle.serve_app.specs.SelfTest.{PutsSelfLine, SelfTestShows}
@@ -95,7 +96,7 @@ module _ {F S K : Type 0} (files : of_files.Ghosts F S) (sink : Ghosts K) (f g :
 
   abbrev pub RenderDoes : List ℕ → RenderOptions → PoolSize → Result Telling Stop → Type 0
   RenderDoes script options pool_size (Ok tells) =
-      PutsAll script × Reads script × PutsUntorn sink out new × IsToldOf script options pool_size tells
+      PutsAll script × Reads script × PutsFramesOnly sink out new × IsToldOf script options pool_size tells
   RenderDoes script options pool_size (Err stop) = RenderShows (FilesFailed files f g) sink (files.world f) script out new stop
 
   -- requests were answered, by one worker

@@ -38,6 +38,12 @@ IsScriptFault told script kind name line = HasFault told script (of_fault.script
 abbrev pub HasChanged : Option World → Type 0
 HasChanged told = InWorld told (λ world. ⊥)
 
+-- the script has no clip: it is at fault, or an input that it names
+abbrev pub IsByScript : Stop → Type 0
+IsByScript (of_stop.Script kind name line) = Unit {0}
+IsByScript (of_stop.Input name fault) = Unit {0}
+IsByScript _ = ⊥
+
 -- what a stop of the render of this script shows, where a read failed only if this holds
 abbrev pub RenderShows : {K : Type 0} → Type 0 → Ghosts K → Option World → List ℕ → K → K → Stop → Type 0
 RenderShows failed sink told script old new (of_stop.Script kind name line) =

@@ -1,10 +1,11 @@
 // `run` and `run_plain`: the program as a call over words, files and streams.
-ghost use Rattle.std.specs.Prelude.{◌≡◌, None};
+ghost use Rattle.std.specs.Prelude.{◌≡◌, None, IfErr, IsErrOf};
 ghost use Rattle.command_line.specs.declared.command.RenderOptions.{RenderOptions};
 ghost use Rattle.prefetch.specs.declared.pool_size.PoolSize.{PoolSize};
 ghost use Rattle.fv_io.specs.Files.{KeepsFiles};
 ghost use Rattle.fv_io.specs.Sink.{IsLater};
 ghost use Rattle.serve_app.specs.Headline.{Ends, LeavesJournal};
+ghost use Rattle.serve_app.specs.Stop.{IsByScript};
 ghost use Rattle.serve_app.specs.Run.{plain_size, size_by, told_in, IsFit, IsOther, HasLog, Does, LeavesNone, Finishes};
 
 use crate::info::put_info;
@@ -87,6 +88,8 @@ fn run_other<F: Files, K: Sink>(
     ensures does { (by : RenderOptions → PoolSize) →
         Does F.Files K.Sink files.old files.new out.old out.new journal.new by command result }
     ensures leaves { LeavesNone command journal.new }
+    ensures before { IfErr result (λ stop. IsByScript stop → F.faults files.new ≡ F.faults files.old) }
+    ensures unfailed { (IsErrOf result Stop.Write → ⊥) → K.faults out.new ≡ K.faults out.old }
     ensures keeps { KeepsFiles F.Files files.old files.new }
     ensures later { IsLater K.Sink out.old out.new }
 {
@@ -137,6 +140,8 @@ fn run_command_alone<F: Files, K: Sink>(
     requires none { journal.old ≡ None }
     ensures does { Does F.Files K.Sink files.old files.new out.old out.new journal.new plain_size command result }
     ensures leaves { LeavesNone command journal.new }
+    ensures before { IfErr result (λ stop. IsByScript stop → F.faults files.new ≡ F.faults files.old) }
+    ensures unfailed { (IsErrOf result Stop.Write → ⊥) → K.faults out.new ≡ K.faults out.old }
     ensures keeps { KeepsFiles F.Files files.old files.new }
     ensures later { IsLater K.Sink out.old out.new }
 {
@@ -164,6 +169,8 @@ fn run_command_together<R: Threads + Wait + Sync, G: Gate, F: Files, K: Sink>(
     requires none { journal.old ≡ None }
     ensures does { Does F.Files K.Sink files.old files.new out.old out.new journal.new size_by command result }
     ensures leaves { LeavesNone command journal.new }
+    ensures before { IfErr result (λ stop. IsByScript stop → F.faults files.new ≡ F.faults files.old) }
+    ensures unfailed { (IsErrOf result Stop.Write → ⊥) → K.faults out.new ≡ K.faults out.old }
     ensures keeps { KeepsFiles F.Files files.old files.new }
     ensures later { IsLater K.Sink out.old out.new }
 {
@@ -213,7 +220,8 @@ fn finish<E: Sink>(err: &mut E, done: Result<Telling, Stop>, journal: &Option<Re
 /// a fault of an input, of a session's list or of a replay's journal; 4 where a read failed; 5 where a write failed; 6
 /// where it is out of memory. Each status but 0 puts one line on `err`. A fault of `err` changes no status, but for that of
 /// a render whose report or journal can't be put: that is 5.
-/// A read that failed isn't tried again: where the status is 0 no fault of the files was counted.
+/// What failed isn't tried again: where the status is 0 or 2 no fault of the files was counted, and none of the output where it
+/// isn't 5.
 pub fn run<R: Threads + Wait + Sync, F: Files, K: Sink, E: Sink, G: Gate>(
     rt: &R,
     alloc: Global,

@@ -1,5 +1,5 @@
 // What is known of the clip of a script, put over files.
-ghost use Rattle.std.specs.Prelude.{◌≡◌, ◌<◌, length, IfOk, IfErr, OnOk};
+ghost use Rattle.std.specs.Prelude.{◌≡◌, ◌<◌, length, IfOk, IfErr, IsErrOf, OnOk};
 ghost use Rattle.fv_io.specs.Files.{KeepsFiles, FilesFailed};
 ghost use Rattle.fv_io.specs.Sink.{IsLater};
 ghost use Rattle.fv_io.specs.World.{InWorld};
@@ -7,7 +7,7 @@ ghost use Rattle.avs_meaning.specs.Crews.{window, workers};
 ghost use Rattle.serve_text.specs.InfoText as t;
 ghost use Rattle.serve_app.specs.Info.{InfoShows, PutsInfo};
 ghost use Rattle.serve_app.specs.Meaning.{ReadsOnce};
-ghost use Rattle.serve_app.specs.Stop.{ScriptHasClip};
+ghost use Rattle.serve_app.specs.Stop.{IsByScript, ScriptHasClip};
 
 use crate::opening::open_plan;
 use avs_eval::Opened;
@@ -52,6 +52,8 @@ pub(crate) fn put_info<F: Files, K: Sink>(
         (F.faults files.old) (F.faults files.new) (F.fetched files.old) (F.fetched files.new)) }
     ensures stop { IfErr result (InfoShows (FilesFailed F.Files files.old files.new) K.Sink (F.world files.old)
         script.now out.old out.new) }
+    ensures before { IfErr result (λ stop. IsByScript stop → F.faults files.new ≡ F.faults files.old) }
+    ensures unfailed { (IsErrOf result Stop.Write → ⊥) → K.faults out.new ≡ K.faults out.old }
     ensures keeps { KeepsFiles F.Files files.old files.new }
     ensures later { IsLater K.Sink out.old out.new }
 {

@@ -1,5 +1,5 @@
 // A script, evaluated over files: its clip, with the sources that were opened for it.
-ghost use Rattle.std.specs.Prelude.{◌≡◌, ◌+◌, ◌<◌, ◌≤◌, [], length, IsTrue, IfOk, IfErr, OnOk, OnErr};
+ghost use Rattle.std.specs.Prelude.{◌≡◌, ◌+◌, ◌<◌, ◌≤◌, [], length, IsTrue, IfOk, IfErr, IsErrOf, OnOk, OnErr};
 ghost use Rattle.fv_io.specs.Faults.{HasRisen};
 ghost use Rattle.fv_io.specs.Files.{KeepsFiles, FilesFailed};
 ghost use Rattle.avs_meaning.specs.Meaning.{meaning, files_of};
@@ -67,6 +67,7 @@ fn open_in<H: HeldFiles, W: Known>(
     ensures sources { IfOk result.1 (λ r. AreSources r.opened.graph r.sources.items) }
     ensures stop { IfErr result.1 (OpeningShows (told_of W.told W.world) script.now
         (HasRisen (H.faults files) (H.faults result.0))) }
+    ensures steady { (IsErrOf result.1 Stop.Read → ⊥) → H.faults result.0 ≡ H.faults files }
     ensures reads { OnOk result.1 (ReadsOnce (told_of W.told W.world) script.now
         (H.faults files) (H.faults result.0) (H.fetched files) (H.fetched result.0)) }
     ensures given { IfOk result.1 (λ r. H.given result.0 ≡ H.given files + length r.sources.items) }
@@ -108,6 +109,7 @@ pub(crate) fn open_script<H: HeldFiles>(
     ensures sources { IfOk result.1 (λ r. AreSources r.opened.graph r.sources.items) }
     ensures stop { IfErr result.1 (OpeningShows (H.world files) script.now
         (HasRisen (H.faults files) (H.faults result.0))) }
+    ensures steady { (IsErrOf result.1 Stop.Read → ⊥) → H.faults result.0 ≡ H.faults files }
     ensures reads { OnOk result.1 (ReadsOnce (H.world files) script.now
         (H.faults files) (H.faults result.0) (H.fetched files) (H.fetched result.0)) }
     ensures given { IfOk result.1 (λ r. H.given result.0 ≡ H.given files + length r.sources.items) }
@@ -127,6 +129,7 @@ fn plan_held<H: HeldFiles>(alloc: Global, files: H, script: &Text) -> (H, Result
     ensures clip { OnOk result.1 (ScriptHasClip (H.world files) script.now) }
     ensures stop { IfErr result.1 (OpeningShows (H.world files) script.now
         (HasRisen (H.faults files) (H.faults result.0))) }
+    ensures steady { (IsErrOf result.1 Stop.Read → ⊥) → H.faults result.0 ≡ H.faults files }
     ensures reads { OnOk result.1 (ReadsOnce (H.world files) script.now
         (H.faults files) (H.faults result.0) (H.fetched files) (H.fetched result.0)) }
     ensures given { H.given result.0 ≡ H.given files }
@@ -155,6 +158,7 @@ pub(crate) fn open_plan<F: Files>(
     ensures clip { OnOk result (ScriptHasClip (F.world files.old) script.now) }
     ensures stop { IfErr result (OpeningShows (F.world files.old) script.now
         (FilesFailed F.Files files.old files.new)) }
+    ensures steady { (IsErrOf result Stop.Read → ⊥) → F.faults files.new ≡ F.faults files.old }
     ensures reads { OnOk result (ReadsOnce (F.world files.old) script.now
         (F.faults files.old) (F.faults files.new) (F.fetched files.old) (F.fetched files.new)) }
     ensures keeps { KeepsFiles F.Files files.old files.new }

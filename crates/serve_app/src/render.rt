@@ -1,6 +1,6 @@
 // The clip of a script, rendered over files. What may wait for threads is a function of its own, beside the one for a
 // render by one worker.
-ghost use Rattle.std.specs.Prelude.{◌≡◌, ◌<◌, ◌≤◌, None, OnOk};
+ghost use Rattle.std.specs.Prelude.{◌≡◌, ◌<◌, ◌≤◌, None, OnOk, IfErr, IsErrOf};
 ghost use Rattle.fv_io.specs.Faults.{HasRisen};
 ghost use Rattle.fv_io.specs.Files.{KeepsFiles, FilesFailed};
 ghost use Rattle.fv_io.specs.Sink.{IsLater};
@@ -8,6 +8,7 @@ ghost use Rattle.prefetch.specs.declared.pool_size.PoolSize.TheVariants.{One};
 ghost use Rattle.prefetch.specs.Pool.{IsPoolSize};
 ghost use Rattle.serve_app.specs.Meaning.{ReadsOnce};
 ghost use Rattle.serve_app.specs.Renders.{IsScriptRender};
+ghost use Rattle.serve_app.specs.Stop.{IsByScript};
 
 use crate::closing::close_table;
 use crate::opening::{OpenScript, open_script, take_back};
@@ -36,6 +37,8 @@ fn render_held_alone<H: HeldFiles, K: Sink>(
         (HasRisen (H.faults files) (H.faults result.0)) K.Sink out.old out.new journal.new result.1 }
     ensures reads { OnOk result.1 (ReadsOnce (H.world files) script.now
         (H.faults files) (H.faults result.0) (H.fetched files) (H.fetched result.0)) }
+    ensures before { IfErr result.1 (λ stop. IsByScript stop → H.faults result.0 ≡ H.faults files) }
+    ensures unfailed { (IsErrOf result.1 Stop.Write → ⊥) → K.faults out.new ≡ K.faults out.old }
     ensures world { H.world result.0 ≡ H.world files }
     ensures borrow { H.borrow result.0 ≡ H.borrow files }
     ensures given { H.given result.0 ≡ H.given files }
@@ -80,6 +83,8 @@ pub(crate) fn render_alone<F: Files, K: Sink>(
         (FilesFailed F.Files files.old files.new) K.Sink out.old out.new journal.new result }
     ensures reads { OnOk result (ReadsOnce (F.world files.old) script.now
         (F.faults files.old) (F.faults files.new) (F.fetched files.old) (F.fetched files.new)) }
+    ensures before { IfErr result (λ stop. IsByScript stop → F.faults files.new ≡ F.faults files.old) }
+    ensures unfailed { (IsErrOf result Stop.Write → ⊥) → K.faults out.new ≡ K.faults out.old }
     ensures keeps { KeepsFiles F.Files files.old files.new }
     ensures later { IsLater K.Sink out.old out.new }
 {
@@ -110,6 +115,8 @@ where
         (HasRisen (H.faults files) (H.faults result.0)) K.Sink out.old out.new journal.new result.1 }
     ensures reads { OnOk result.1 (ReadsOnce (H.world files) script.now
         (H.faults files) (H.faults result.0) (H.fetched files) (H.fetched result.0)) }
+    ensures before { IfErr result.1 (λ stop. IsByScript stop → H.faults result.0 ≡ H.faults files) }
+    ensures unfailed { (IsErrOf result.1 Stop.Write → ⊥) → K.faults out.new ≡ K.faults out.old }
     ensures world { H.world result.0 ≡ H.world files }
     ensures borrow { H.borrow result.0 ≡ H.borrow files }
     ensures given { H.given result.0 ≡ H.given files }
@@ -167,6 +174,8 @@ pub(crate) fn render_together<R: Threads + Wait + Sync, G: Gate, F: Files, K: Si
         (FilesFailed F.Files files.old files.new) K.Sink out.old out.new journal.new result }
     ensures reads { OnOk result (ReadsOnce (F.world files.old) script.now
         (F.faults files.old) (F.faults files.new) (F.fetched files.old) (F.fetched files.new)) }
+    ensures before { IfErr result (λ stop. IsByScript stop → F.faults files.new ≡ F.faults files.old) }
+    ensures unfailed { (IsErrOf result Stop.Write → ⊥) → K.faults out.new ≡ K.faults out.old }
     ensures keeps { KeepsFiles F.Files files.old files.new }
     ensures later { IsLater K.Sink out.old out.new }
 {

@@ -1,11 +1,11 @@
 // A replay over files: whether a file is a journal of the clip of a script.
-ghost use Rattle.std.specs.Prelude.{◌≡◌, ◌+◌, ◌<◌, IfOk, IfErr, OnOk};
+ghost use Rattle.std.specs.Prelude.{◌≡◌, ◌+◌, ◌<◌, IfOk, IfErr, IsErrOf, OnOk};
 ghost use Rattle.fv_io.specs.Files.{KeepsFiles, FilesFailed};
 ghost use Rattle.fv_io.specs.Sink.{IsLater};
 ghost use Rattle.fv_io.specs.World.{InWorld};
 ghost use Rattle.serve_app.specs.Meaning.{files_in};
 ghost use Rattle.serve_app.specs.Replays.{charge_with, ReadingShows, IsCharge, IsScriptReplay};
-ghost use Rattle.serve_app.specs.Stop.{ScriptHasClip};
+ghost use Rattle.serve_app.specs.Stop.{IsByScript, ScriptHasClip};
 
 use crate::opening::open_plan;
 use crate::session::unopened;
@@ -58,6 +58,8 @@ fn read_charge<F: Files>(
     ensures steady { OnOk result (F.faults files.new ≡ F.faults files.old) }
     ensures fetched { OnOk result (InWorld (F.world files.old) (λ world.
         F.fetched files.new ≡ F.fetched files.old + 1 + files_in world script.now)) }
+    ensures before { IfErr result (λ stop. IsByScript stop → F.faults files.new ≡ F.faults files.old) }
+    ensures unwritten { IsErrOf result Stop.Write → ⊥ }
     ensures keeps { KeepsFiles F.Files files.old files.new }
 {
     let opened = open_plan(alloc, files, script)?;
@@ -86,6 +88,8 @@ pub(crate) fn put_replay<F: Files, K: Sink>(
     ensures steady { OnOk result (F.faults files.new ≡ F.faults files.old) }
     ensures fetched { OnOk result (InWorld (F.world files.old) (λ world.
         F.fetched files.new ≡ F.fetched files.old + 1 + files_in world script.now)) }
+    ensures before { IfErr result (λ stop. IsByScript stop → F.faults files.new ≡ F.faults files.old) }
+    ensures unfailed { (IsErrOf result Stop.Write → ⊥) → K.faults out.new ≡ K.faults out.old }
     ensures keeps { KeepsFiles F.Files files.old files.new }
     ensures later { IsLater K.Sink out.old out.new }
 {

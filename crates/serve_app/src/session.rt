@@ -1,9 +1,10 @@
 // A session over files: the requests of a list, answered over the clip of a script.
-ghost use Rattle.std.specs.Prelude.{◌≡◌, ◌<◌, ◌≤◌, None, OnOk};
+ghost use Rattle.std.specs.Prelude.{◌≡◌, ◌<◌, ◌≤◌, None, OnOk, IfErr, IsErrOf};
 ghost use Rattle.fv_io.specs.Faults.{HasRisen};
 ghost use Rattle.fv_io.specs.Files.{KeepsFiles, FilesFailed};
 ghost use Rattle.fv_io.specs.Sink.{IsLater};
 ghost use Rattle.serve_app.specs.Sessions.{fetch_stop, ended_with, IsScriptSession, FetchesList};
+ghost use Rattle.serve_app.specs.Stop.{IsByScript};
 
 use crate::closing::close_table;
 use crate::opening::{OpenScript, open_script, take_back};
@@ -66,6 +67,8 @@ fn answer_held<H: HeldFiles, K: Sink>(
     ensures steady { OnOk result.1 (H.faults result.0 ≡ H.faults files) }
     ensures fetched { FetchesList (H.world files) script.now journal.new
         (H.fetched files) (H.fetched result.0) }
+    ensures before { IfErr result.1 (λ stop. IsByScript stop → H.faults result.0 ≡ H.faults files) }
+    ensures unfailed { (IsErrOf result.1 Stop.Write → ⊥) → K.faults out.new ≡ K.faults out.old }
     ensures world { H.world result.0 ≡ H.world files }
     ensures borrow { H.borrow result.0 ≡ H.borrow files }
     ensures given { H.given result.0 ≡ H.given files }
@@ -128,6 +131,8 @@ pub(crate) fn answer_list<F: Files, K: Sink>(
     ensures steady { OnOk result (F.faults files.new ≡ F.faults files.old) }
     ensures fetched { FetchesList (F.world files.old) script.now journal.new
         (F.fetched files.old) (F.fetched files.new) }
+    ensures before { IfErr result (λ stop. IsByScript stop → F.faults files.new ≡ F.faults files.old) }
+    ensures unfailed { (IsErrOf result Stop.Write → ⊥) → K.faults out.new ≡ K.faults out.old }
     ensures keeps { KeepsFiles F.Files files.old files.new }
     ensures later { IsLater K.Sink out.old out.new }
 {

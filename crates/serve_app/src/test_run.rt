@@ -1,7 +1,8 @@
 // The self test: a render in memory, digested.
-ghost use Rattle.std.specs.Prelude.{IfOk, OnOk, IfErr, string_bytes};
+ghost use Rattle.std.specs.Prelude.{◌≡◌, IfOk, OnOk, IfErr, IsErrOf, string_bytes};
 ghost use Rattle.fv_io.specs.Sink.{IsLater};
 ghost use Rattle.serve_app.specs.SelfTest.{IsSelfLine, PutsSelfLine, SelfTestShows};
+ghost use Rattle.serve_app.specs.Stop.{IsByScript};
 
 use crate::render::render_alone;
 use fv_io::{Failed, Sink, Text};
@@ -30,6 +31,8 @@ fn line_of(alloc: Global, number: u32) -> Result<String, AllocError>
 pub(crate) fn put_self_test<K: Sink>(alloc: Global, out: &mut K, number: u32) -> Result<(), Stop>
     ensures whole { OnOk result (PutsSelfLine K.Sink out.old out.new number) }
     ensures stop { IfErr result (SelfTestShows K.Sink out.old out.new number) }
+    ensures unfailed { (IsErrOf result Stop.Write → ⊥) → K.faults out.new ≡ K.faults out.old }
+    ensures inside { IfErr result (λ stop. IsByScript stop → ⊥) }
     ensures later { IsLater K.Sink out.old out.new }
 {
     let line = line_of(alloc, number)?;

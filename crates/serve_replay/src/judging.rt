@@ -1,5 +1,5 @@
 // `put_judged`: what a text is, in one line.
-ghost use Rattle.std.specs.Prelude.{◌≡◌, ◌<◌, length, OnOk, IfErr};
+ghost use Rattle.std.specs.Prelude.{◌≡◌, ◌<◌, length, OnOk, IfErr, IsErrOf};
 ghost use Rattle.fv_io.specs.Sink.{IsLater};
 ghost use Rattle.serve_replay.specs.Verdicts.{said, IsSaidOf, PutsDue, DueStops};
 
@@ -38,6 +38,7 @@ pub fn put_judged<K: Sink>(
     requires cache { 0 < cache }
     ensures put { OnOk result (PutsDue K.Sink out.old out.new (IsSaidOf graph.now root cache text.now)) }
     ensures stop { IfErr result (DueStops K.Sink out.old out.new (IsSaidOf graph.now root cache text.now)) }
+    ensures steady { (IsErrOf result Stop.Write → ⊥) → K.faults out.new ≡ K.faults out.old }
     ensures later { IsLater K.Sink out.old out.new }
 {
     let verdict = match check_journal(alloc, graph, root, cache, text) {

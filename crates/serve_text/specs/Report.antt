@@ -118,4 +118,5 @@ module _ {E : Type 0} (lines : Ghosts E) (err said : E) (text : List ℕ) where
   -- the text was put, or cut short
   pub record Reports (status : ℕ) : Type 0 where
     pub ends : ((status ≡ 0) × Puts lines err said text) ⊎ ((status ≡ 5) × CutsReport)
+    pub steady : status ≡ 0 → lines.faults said ≡ lines.faults err
     pub later : IsLater lines err said

@@ -43,6 +43,7 @@ fn clip_line(info: &Info) -> ArrayString<LINE>
 pub fn put_clip_line<K: Sink>(out: &mut K, info: &Info) -> Result<(), Failed>
     ensures put { OnOk result (Puts K.Sink out.old out.new (t.clip_line info.now)) }
     ensures cut { OnErr result (PutsPrefix K.Sink out.old out.new (t.clip_line info.now)) }
+    ensures steady { OnOk result (K.faults out.new ≡ K.faults out.old) }
     ensures failed { OnErr result (SinkFailed K.Sink out.old out.new) }
     ensures later { IsLater K.Sink out.old out.new }
 {

@@ -81,6 +81,7 @@ fn put_lines<K: Sink>(
         (lines_between graph.now (windows_of journal.now) first end)) }
     ensures cut { OnErr result (PutsPrefix K.Sink out.old out.new
         (lines_between graph.now (windows_of journal.now) first end)) }
+    ensures steady { OnOk result (K.faults out.new ≡ K.faults out.old) }
     ensures failed { OnErr result (SinkFailed K.Sink out.old out.new) }
     ensures later { IsLater K.Sink out.old out.new }
 {
@@ -100,6 +101,7 @@ fn put_lines<K: Sink>(
 pub fn put_report<K: Sink>(out: &mut K, graph: &Graph, journal: &Record) -> Result<(), Failed>
     ensures put { OnOk result (Puts K.Sink out.old out.new (report graph.now (windows_of journal.now))) }
     ensures cut { OnErr result (PutsPrefix K.Sink out.old out.new (report graph.now (windows_of journal.now))) }
+    ensures steady { OnOk result (K.faults out.new ≡ K.faults out.old) }
     ensures failed { OnErr result (SinkFailed K.Sink out.old out.new) }
     ensures later { IsLater K.Sink out.old out.new }
 {

@@ -8,7 +8,7 @@ use Rattle.serve_core.proofs.Tables.{none_leased}
 use Rattle.prefetch.specs.declared.pool_size.Pool.{Pool}
 use Rattle.prefetch.specs.Sessions.{IsToldSession}
 use Rattle.prefetch.proofs.CoreLemmas.{sources_stay, counts_stay}
-use Rattle.prefetch.proofs.AnsweredLemmas.{played, fresh, stop_is_named, session_stays, session_steady, session_answered, nothing_answered}
+use Rattle.prefetch.proofs.AnsweredLemmas.{played, fresh, stop_is_named, session_stays, session_steady, session_answered, not_written, nothing_answered}
 use Rattle.prefetch.proofs.session.answer_graph.Goals as goal
 use Rattle.prefetch.proofs.session.answer_graph.Given.{Over}
 use Rattle.prefetch.proofs.session.answer_graph.Goals.{After-serve-done, After-told_session-told}
@@ -84,3 +84,11 @@ returns-clause-steady g c =
 pub returns-in-Err-clause-answered : goal.returns-in-Err-clause-answered
 returns-in-Err-clause-answered g c =
     nothing_answered g.S.Source g.L.Source g.K.Sink c.args.graph c.args.root c.args.cache c.args.sources.now.items c.args.list.now c.args.list.now c.args.out.now c.args.out.now c.new.result c.new.ensures c.in-Err.table refl
+
+pub returns-clause-unfailed : goal.returns-clause-unfailed
+returns-clause-unfailed g c = λ other.
+    let at = goal.at.returns-clause-unfailed g c in
+    c.serve-done.ensures.steady (not_written c.serve-done.new.player.core.fixed.plan c.serve-done.result c.serve-done.new.player.stop c.told_session-told.result (told g at.After-told_session-told) other)
+
+pub returns-in-Err-clause-unfailed : goal.returns-in-Err-clause-unfailed
+returns-in-Err-clause-unfailed g c = λ other. refl

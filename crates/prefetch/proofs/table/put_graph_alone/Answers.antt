@@ -24,3 +24,6 @@ pub returns-clause-steady : goal.returns-clause-steady
 returns-clause-steady g c =
     counts_stay g.S.Source c.args.graph c.args.root c.args.cache c.args.pool c.args.sources.now.items c.in-Ok.opened.0 c.in-Ok.ensures.core
     c.put_clip_alone-core.result.0.table c.into_table.result c.open_core.new.sources.items c.put_clip_alone-core.result.1 c.put_clip_alone-core.ensures.free c.put_clip_alone-core.ensures.held c.in-Ok.ensures.all c.into_table.ensures c.put_clip_alone-core.ensures.steady
+
+pub returns-clause-unfailed : goal.returns-clause-unfailed
+returns-clause-unfailed g c = λ other. c.put_clip_alone-core.ensures.unfailed other

@@ -1,4 +1,4 @@
-use Rattle.std.proofs.Common.{arith}
+use Rattle.std.proofs.Common.{◌∙◌, arith}
 use Rattle.run_text.proofs.PrintLemmas.{event_put, event_cut, events_fit}
 use Rattle.run_text.proofs.print.add_events.Goals as goal
 
@@ -7,6 +7,7 @@ loop-event-preserved g c = record {
   put = event_put g.K.Sink c.args.out.now c.loop-event.out c.add.new.out c.args.buf.now.bytes c.loop-event.buf.bytes c.args.events.now c.loop-event.event-index _ c.event_line.result.bytes c.add.new.buf.bytes c.loop-event-test.true
       c.event_line.ensures.text c.loop-event.invariant.put c.in-Ok.ensures.put;
   fits = events_fit c.args.events.now c.loop-event.event-index _ c.loop-event-test.true c.loop-event.invariant.fits c.event_line.ensures.fits;
+  steady = c.in-Ok.ensures.steady ∙ c.loop-event.invariant.steady;
   later = omega arith;
 }
 

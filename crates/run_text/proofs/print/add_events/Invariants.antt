@@ -1,4 +1,4 @@
-use Rattle.std.proofs.Common.{◌++◌, map, take}
+use Rattle.std.proofs.Common.{◌≡◌, ◌++◌, map, take}
 use Rattle.std.specs.List.{AllByRecursion}
 use Rattle.fv_io.specs.Sink.{IsLater}
 use Rattle.run_text.specs.declared.line.Line.TheVariants.{Did}
@@ -13,5 +13,6 @@ invariant-loop-event g l =
     record {
       put : PutsAllBut sink l.fn.out l.out (l.fn.buf.bytes ++ lines_text (map Did (take l.event-index l.events))) l.buf.bytes;
       fits : AllByRecursion LineFits (map Did (take l.event-index l.events));
+      steady : sink.faults l.out ≡ sink.faults l.fn.out;
       later : IsLater sink l.fn.out l.out;
     }

@@ -1,4 +1,4 @@
-use Rattle.std.proofs.Common.{◌++◌, map, take}
+use Rattle.std.proofs.Common.{◌≡◌, ◌++◌, map, take}
 use Rattle.std.specs.List.{flat_map, AllByRecursion}
 use Rattle.fv_io.specs.Sink.{IsLater}
 use Rattle.serve_machine.specs.Events.{window_of}
@@ -13,5 +13,6 @@ invariant-loop-windowed g l =
     record {
       put : PutsAllBut sink l.fn.out l.out (l.fn.buf.bytes ++ lines_text (flat_map window_lines (map window_of (take l.windowed-index l.windows)))) l.buf.bytes;
       fits : AllByRecursion LineFits (flat_map window_lines (map window_of (take l.windowed-index l.windows)));
+      steady : sink.faults l.out ≡ sink.faults l.fn.out;
       later : IsLater sink l.fn.out l.out;
     }

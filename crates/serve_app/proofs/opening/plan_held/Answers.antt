@@ -20,3 +20,13 @@ returns-clause-reads g c =
       steady = c.close_all.ensures.faults ∙ (ap (with_faults count) (unfailed g.H.Src.Source (g.H.HeldFiles.world c.args.files) c.args.script.now c.in-Ok.found.opened c.in-Ok.found.sources.items is) ∙ no_faults count) ∙ reads.steady;
       fetched = λ world there. c.close_all.ensures.fetched ∙ reads.fetched world there;
     }
+
+pub returns-clause-steady : goal.returns-clause-steady
+returns-clause-steady g c = λ other.
+    let is = rw c.in-Ok.is at c.open_script-held.ensures.opened in
+    let reads = rw c.in-Ok.is at c.open_script-held.ensures.reads in
+    let count = g.H.HeldFiles.faults c.open_script-held.result.0 in
+    c.close_all.ensures.faults ∙ (ap (with_faults count) (unfailed g.H.Src.Source (g.H.HeldFiles.world c.args.files) c.args.script.now c.in-Ok.found.opened c.in-Ok.found.sources.items is) ∙ no_faults count) ∙ reads.steady
+
+pub returns-in-Err-clause-steady : goal.returns-in-Err-clause-steady
+returns-in-Err-clause-steady g c = λ other. c.open_script-held.ensures.steady (λ is. other (let same = c.in-Err.is in cc))

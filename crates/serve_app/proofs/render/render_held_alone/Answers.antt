@@ -1,10 +1,11 @@
 -- What is put is the clip that the script means.
-use Rattle.std.proofs.Common.{◌∙◌, arith}
+use Rattle.std.proofs.Common.{◌∙◌, arith, refl}
 use Rattle.serve_worker.specs.Instances.{faults_of}
 use Rattle.prefetch.specs.declared.pool_size.PoolSize.TheVariants.{One}
 use Rattle.serve_app.specs.Journals.{IsPool}
 use Rattle.serve_app.proofs.ClosingLemmas.{count_rose}
-use Rattle.serve_app.proofs.OpeningLemmas.{before_render, opened_render, unfailed}
+use Rattle.serve_app.proofs.OpeningLemmas.{not_read, before_render, opened_render, unfailed}
+use Rattle.serve_app.proofs.PlayLemmas.{not_by_script}
 use Rattle.serve_app.proofs.ReadsLemmas.{stream_reads}
 use Rattle.serve_app.proofs.render.render_held_alone.Goals as goal
 
@@ -38,3 +39,17 @@ returns-clause-reads g c =
 
 pub returns-clause-later : goal.returns-clause-later
 returns-clause-later g c = omega (arith, c.open_script-held.ensures.later, c.close_table.ensures.faults, c.close_all.ensures.faults)
+
+pub returns-in-Err-clause-before : goal.returns-in-Err-clause-before
+returns-in-Err-clause-before g c = λ by. c.open_script-held.ensures.steady (λ is. not_read c.in-Err.stop by (let same = c.in-Err.is in cc))
+
+pub returns-clause-before : goal.returns-clause-before
+returns-clause-before g c =
+    let streamed = c.put_graph_alone-table.ensures.streamed in
+    not_by_script g.K.Sink _ _ _ c.args.out.now c.put_graph_alone-table.new.out (faults_of g.H.Src.Source) c.put_graph_alone-table.result.0 c.put_graph_alone-table.result.1 _ streamed.stop
+
+pub returns-in-Err-clause-unfailed : goal.returns-in-Err-clause-unfailed
+returns-in-Err-clause-unfailed g c = λ other. refl
+
+pub returns-clause-unfailed : goal.returns-clause-unfailed
+returns-clause-unfailed g c = λ other. c.put_graph_alone-table.ensures.unfailed other

@@ -1,7 +1,8 @@
 -- What is read is the text of the file, beside the plan that the script means.
 use Rattle.std.proofs.Common.{◌≡◌, ◌∙◌, ◌+◌, ◌≤◌, Err, rules, arith}
-use Rattle.serve_app.proofs.ReplayLemmas.{before_reads, unopened_journal, charged, unread_journal, read_well, on_charge}
-use Rattle.serve_app.proofs.SessionLemmas.{list_rose, list_stays}
+use Rattle.serve_app.proofs.OpeningLemmas.{not_read}
+use Rattle.serve_app.proofs.ReplayLemmas.{no_charge, unwritten, unopened_unwritten, opening_unwritten, before_reads, unopened_journal, charged, unread_journal, read_well, on_charge}
+use Rattle.serve_app.proofs.SessionLemmas.{no_fetch, list_rose, list_stays}
 use Rattle.serve_app.proofs.replay.read_charge.Goals as goal
 
 pub returns-in_err-opened-clause-stop : goal.returns-in_err-opened-clause-stop
@@ -52,3 +53,27 @@ returns-clause-fetched g c =
     rw c.charge_of.ensures
     (on_charge c.in_ok-opened.opened c.args.name c.read_journal-done.result _
     (λ world there. let files = reads.fetched world there in omega (arith, files, fetched, c.close.ensures.fetched)))
+
+pub returns-in_err-opened-clause-before : goal.returns-in_err-opened-clause-before
+returns-in_err-opened-clause-before g c =
+    let stop = c.in_err-opened.field-0.0 in
+    let is : c.from_residual.result ≡ Err stop = search rules in
+    rw is (λ by. c.in_err-opened.ensures.steady (λ e. not_read stop by (let same = e in cc)))
+
+pub returns-in_err-opened-clause-unwritten : goal.returns-in_err-opened-clause-unwritten
+returns-in_err-opened-clause-unwritten g c =
+    let stop = c.in_err-opened.field-0.0 in
+    let is : c.from_residual.result ≡ Err stop = search rules in
+    rw is (opening_unwritten (g.F.Files.world c.args.files.now) c.args.script.now _ stop c.in_err-opened.ensures.stop)
+
+pub returns-in-Err-clause-before : goal.returns-in-Err-clause-before
+returns-in-Err-clause-before g c = λ by. absurd (no_fetch c.args.name c.in-Err.fault (rw c.unopened.ensures at by))
+
+pub returns-in-Err-clause-unwritten : goal.returns-in-Err-clause-unwritten
+returns-in-Err-clause-unwritten g c = rw c.unopened.ensures (unopened_unwritten c.args.name c.in-Err.fault)
+
+pub returns-clause-before : goal.returns-clause-before
+returns-clause-before g c = rw c.charge_of.ensures (no_charge c.in_ok-opened.opened c.args.name c.read_journal-done.result _)
+
+pub returns-clause-unwritten : goal.returns-clause-unwritten
+returns-clause-unwritten g c = rw c.charge_of.ensures (unwritten c.in_ok-opened.opened c.args.name c.read_journal-done.result)

@@ -1,9 +1,11 @@
 -- What is answered is what the list asks of the clip that the script means.
-use Rattle.std.proofs.Common.{◌≡◌, ◌∙◌, ◌+◌, ◌≤◌, arith}
+use Rattle.std.proofs.Common.{◌≡◌, ◌∙◌, ◌+◌, ◌≤◌, ap, refl, arith}
 use Rattle.serve_worker.specs.Instances.{faults_of}
+use Rattle.prefetch.specs.StreamClips.{book_told}
+use Rattle.serve_app.specs.Sessions.{ended_with}
 use Rattle.serve_app.proofs.ClosingLemmas.{count_rose, count_stays}
-use Rattle.serve_app.proofs.OpeningLemmas.{clip_found, unfailed}
-use Rattle.serve_app.proofs.SessionLemmas.{session_of, unevaluated, unopened_list, all_well, on_some, list_rose, list_stays}
+use Rattle.serve_app.proofs.OpeningLemmas.{not_read, clip_found, unfailed}
+use Rattle.serve_app.proofs.SessionLemmas.{answered_before, no_fetch, session_of, unevaluated, unopened_list, all_well, on_some, list_rose, list_stays}
 use Rattle.serve_app.proofs.session.answer_held.Goals as goal
 
 pub returns-in-Err-clause-session : goal.returns-in-Err-clause-session
@@ -57,3 +59,25 @@ returns-clause-fetched g c =
     let fetched = c.in-Ok-fetch.ensures.fetched in
     on_some c.answer_graph-table.new.journal _
     (λ world there. let files = reads.fetched world there in omega (arith, files, fetched, c.close.ensures.fetched, c.close_table.ensures.fetched, c.close_all-2.ensures.fetched))
+
+pub returns-in-Err-clause-before : goal.returns-in-Err-clause-before
+returns-in-Err-clause-before g c = λ by. c.open_script-held.ensures.steady (λ is. not_read c.in-Err.stop by (let same = c.in-Err.is in cc))
+
+pub returns-in-Err-fetch-clause-before : goal.returns-in-Err-fetch-clause-before
+returns-in-Err-fetch-clause-before g c = λ by. absurd (no_fetch c.args.list c.in-Err-fetch.fault (rw c.unopened.ensures at by))
+
+pub returns-clause-before : goal.returns-clause-before
+returns-clause-before g c =
+    let answered = c.answer_graph-table.ensures.answered in
+    rw c.ended.ensures
+    (answered_before c.in-Ok.found.opened.graph c.in-Ok.found.opened.root c.args.cache (faults_of g.H.Src.Source) (book_told g.H.Src.Source c.in-Ok.found.sources.items) g.H.Src.Source c.in-Ok-fetch.source
+    c.answer_graph-table.new.list g.K.Sink c.args.out.now c.answer_graph-table.new.out c.answer_graph-table.result.0 c.answer_graph-table.new.journal c.answer_graph-table.result.1 c.args.list _ answered)
+
+pub returns-in-Err-clause-unfailed : goal.returns-in-Err-clause-unfailed
+returns-in-Err-clause-unfailed g c = λ other. refl
+
+pub returns-in-Err-fetch-clause-unfailed : goal.returns-in-Err-fetch-clause-unfailed
+returns-in-Err-fetch-clause-unfailed g c = λ other. refl
+
+pub returns-clause-unfailed : goal.returns-clause-unfailed
+returns-clause-unfailed g c = λ other. c.answer_graph-table.ensures.unfailed (λ is. other (c.ended.ensures ∙ ap (ended_with c.args.list) is))

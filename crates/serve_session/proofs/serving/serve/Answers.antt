@@ -9,6 +9,7 @@ requests-init g c = record {
   so_far = nothing_yet g.P.Player g.K.Sink g.S.Source c.args.reader.now c.args.player.now c.args.source.now c.args.out.now;
   keeps = record { told = refl; rewinds = refl; later = omega arith };
   steady = refl;
+  unwritten = refl;
   later = omega arith;
 }
 
@@ -23,6 +24,7 @@ requests-preserved g c =
           c.answer.new.player c.answer.new.out c.in-Ok.request (next.told (λ e. (let no : ⊥ = cc e in no))) c.next.new.self one.ok (sym c.ends.ensures ∙ c.if-ends.false) next.counted next.rest;
       keeps = record { told = next.keeps.told ∙ i.keeps.told; rewinds = next.keeps.rewinds ∙ i.keeps.rewinds; later = omega (arith, next.keeps.later, i.keeps.later) };
       steady = next.steady (λ e. (let no : ⊥ = cc e in no)) ∙ i.steady;
+      unwritten = one.steady (λ e. (let no : ⊥ = cc e in no)) ∙ i.unwritten;
       later = omega (arith, i.later, one.later);
     }
 
@@ -52,3 +54,12 @@ requests-smaller g c =
     let next = c.in-Ok.ensures in
     let more = next.counted ∙ counts_on c.requests.reader.count c.in-Ok.request (sym c.ends.ensures ∙ c.if-ends.false) in
     omega (arith, more, next.few)
+
+pub returns-in-Err-clause-steady : goal.returns-in-Err-clause-steady
+returns-in-Err-clause-steady g c = λ other. c.requests.invariant.unwritten
+
+pub returns-in-Err-answer-clause-steady : goal.returns-in-Err-answer-clause-steady
+returns-in-Err-answer-clause-steady g c = λ other. c.in-Err-answer.ensures.steady (λ is. other (let same = is in cc)) ∙ c.requests.invariant.unwritten
+
+pub returns-then-ends-clause-steady : goal.returns-then-ends-clause-steady
+returns-then-ends-clause-steady g c = λ other. c.in-Ok-answer.ensures.steady (λ e. (let no : ⊥ = cc e in no)) ∙ c.requests.invariant.unwritten

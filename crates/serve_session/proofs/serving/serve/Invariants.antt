@@ -11,6 +11,7 @@ invariant-requests g l = record {
   so_far : SoFar g.P.Player g.K.Sink g.S.Source l.fn.reader l.fn.player l.player l.fn.source l.source l.fn.out l.out l.reader;
   keeps : KeepsSource g.S.Source l.fn.source l.source;
   steady : IsSteady g.S.Source l.fn.source l.source;
+  unwritten : g.K.Sink.faults l.out ≡ g.K.Sink.faults l.fn.out;
   later : IsLater g.K.Sink l.fn.out l.out;
 }
 

@@ -12,6 +12,7 @@ loop-i-preserved g c =
     let line = line_is plan windows c.args.first i _ _ _ (omega arith) (c.as_bytes.ensures.value ∙ c.as_str.ensures.value ∙ c.line_of-line.ensures) c.node.ensures (c.counted-table.ensures (i - c.args.first) (omega arith)) in
     record {
       put = less_left g.K.Sink c.args.out.now c.loop-i.out c.put.new.self _ _ _ _ (next_line plan windows i c.args.end (omega arith)) c.loop-i.invariant.put (rw line at c.in-Ok.ensures.put);
+      steady = c.in-Ok.ensures.steady ∙ c.loop-i.invariant.steady;
       later = omega arith;
     }
 

@@ -1,3 +1,4 @@
+use Rattle.std.proofs.Common.{◌≡◌}
 use Rattle.fv_io.specs.Sink.{IsLater}
 use Rattle.serve_machine.specs.Events.{windows_of}
 use Rattle.serve_text.specs.Report.{lines_between, PutsUpTo}
@@ -10,5 +11,6 @@ invariant-loop-i g l =
     let windows = windows_of l.journal in
     record {
       put : PutsUpTo sink l.fn.out l.out (lines_between l.graph windows l.first l.end) (lines_between l.graph windows l.i l.end);
+      steady : sink.faults l.out ≡ sink.faults l.fn.out;
       later : IsLater sink l.fn.out l.out;
     }

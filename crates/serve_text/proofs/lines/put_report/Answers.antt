@@ -1,5 +1,5 @@
 -- The lines of one more block.
-use Rattle.std.proofs.Common.{◌+◌, length, arith}
+use Rattle.std.proofs.Common.{◌∙◌, ◌+◌, length, arith}
 use Rattle.serve_machine.specs.Events.{windows_of}
 use Rattle.serve_text.proofs.LineLemmas.{less_left, cut_short, lines_apart}
 use Rattle.serve_text.proofs.lines.put_report.Goals as goal
@@ -11,6 +11,7 @@ loop-first-preserved g c =
     record {
       put = less_left g.K.Sink c.args.out.now c.loop-first.out c.put_lines.new.out _ _ _ _ apart c.loop-first.invariant.put c.in-Ok.ensures.put;
       inside = omega arith;
+      steady = c.in-Ok.ensures.steady ∙ c.loop-first.invariant.steady;
       later = omega arith;
     }
 

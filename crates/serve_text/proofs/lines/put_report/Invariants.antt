@@ -1,4 +1,4 @@
-use Rattle.std.proofs.Common.{◌≤◌, ◌-◌, length}
+use Rattle.std.proofs.Common.{◌≡◌, ◌≤◌, ◌-◌, length}
 use Rattle.fv_io.specs.Sink.{IsLater}
 use Rattle.serve_machine.specs.Events.{windows_of}
 use Rattle.serve_text.specs.Report.{lines_between, PutsUpTo, report}
@@ -12,6 +12,7 @@ invariant-loop-first g l =
     record {
       put : PutsUpTo sink l.fn.out l.out (report l.graph windows) (lines_between l.graph windows l.first (length l.graph));
       inside : l.first ≤ length l.graph;
+      steady : sink.faults l.out ≡ sink.faults l.fn.out;
       later : IsLater sink l.fn.out l.out;
     }
 
