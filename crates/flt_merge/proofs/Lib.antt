@@ -1,4 +1,5 @@
 pub mod RowLemmas
 pub mod StackLemmas
 pub mod JoinLemmas
+pub mod LaneLemmas
 pub mod CallerLemmas

@@ -1,10 +1,11 @@
-// Rows of samples. The compiler turns each loop into lanes.
+// Rows of samples: vectors of 32 samples, and plain loops, which the compiler turns into vector instructions.
 ghost use Rattle.std.specs.Prelude.{◌≡◌, ◌*◌, length};
 ghost use Rattle.std.specs.Simd.Lanes.{zip2};
 ghost use Rattle.fv_plane.specs.Bytes.{wide_samples};
 ghost use Rattle.flt_merge.specs.Rows.{mean};
 
 use fv_plane::wide_sample;
+use std::simd::prelude::*;
 
 /// The means of two rows of 8 bits, sample by sample. Halves are rounded up. The three rows have one length, which may be
 /// any.
@@ -13,7 +14,15 @@ pub fn merge_row(a: &[u8], b: &[u8], out: &mut [u8])
     requires b { length b.now ≡ length out.old }
     ensures { out.new ≡ zip2 mean a.now b.now }
 {
-    for x in 0..out.len() {
+    for k in 0..out.len() / 32 {
+        let at = 32 * k;
+        let first = u8x32::from_slice(&a[at..]).cast::<u16>();
+        let second = u8x32::from_slice(&b[at..]).cast::<u16>();
+        let sums = first.strict_add(second).strict_add(u16x32::splat(1));
+        let means = sums >> u16x32::splat(1);
+        means.cast::<u8>().copy_to_slice(&mut out[at..]);
+    }
+    for x in out.len() / 32 * 32..out.len() {
         out[x] = ((a[x] as u16 + b[x] as u16 + 1) / 2) as u8;
     }
 }

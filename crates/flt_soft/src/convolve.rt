@@ -314,7 +314,7 @@ fn convolve_row(
     }
 }
 
-// The same, in rows that may be wider.
+// The same, in rows that may be wider. A row of fewer than three samples is padded here.
 fn convolve_in(
     input: &Frame,
     plane: u32,
@@ -333,7 +333,7 @@ fn convolve_in(
     requires bias { IsBias bias }
     requires whole { length out.old ≡ plane_width input.now.shape plane }
     requires sums { length out.old ≤ vec_len sums.old }
-    requires padded { length out.old + 4 ≤ vec_len padded.old }
+    requires padded { 3 ≤ length out.old → length out.old + 4 ≤ vec_len padded.old }
     ensures row { EachIndex out.new (λ x. slice_index out.new x
         ≡ convolved bias weights.now input.now.shape (look_in input.now) plane x y) }
     ensures sums { vec_len sums.new ≡ vec_len sums.old }
@@ -341,9 +341,16 @@ fn convolve_in(
 {
     // The input is a picture, of whole rows.
     let _ = input.shape();
-    let (padded, _) = padded.as_mut_slice().split_at_mut(out.len() + 4);
-    let (sums, _) = sums.as_mut_slice().split_at_mut(out.len());
-    convolve_row(input, plane, y, bias, weights, padded, sums, out);
+    let width = out.len();
+    let (sums, _) = sums.as_mut_slice().split_at_mut(width);
+    if width < 3 {
+        let mut narrow = [0u8; 6];
+        let (padded, _) = narrow.split_at_mut(width + 4);
+        convolve_row(input, plane, y, bias, weights, padded, sums, out);
+    } else {
+        let (padded, _) = padded.as_mut_slice().split_at_mut(width + 4);
+        convolve_row(input, plane, y, bias, weights, padded, sums, out);
+    }
 }
 
 /// The bytes of a row that `GeneralConvolution` makes: each sample becomes the sum of those around it, each times its weight,

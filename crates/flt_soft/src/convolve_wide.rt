@@ -227,8 +227,8 @@ fn convolve_row(
     }
 }
 
-/// The bytes of a row of the picture that is made. The padded row and that of the sums may be
-/// wider.
+/// The bytes of a row of the picture that is made. The padded row and that of the sums may be wider. A row of fewer than
+/// three samples is padded here.
 pub fn convolve_wide(
     input: &Frame,
     plane: u32,
@@ -247,7 +247,7 @@ pub fn convolve_wide(
     requires weights { AreWeights weights.now }
     requires bias { IsBias bias }
     requires whole { length out.old ≡ plane_width input.now.shape plane * 2 }
-    requires padded { plane_width input.now.shape plane + 4 ≤ vec_len padded.old }
+    requires padded { 3 ≤ plane_width input.now.shape plane → plane_width input.now.shape plane + 4 ≤ vec_len padded.old }
     requires samples { length samples.old ≡ plane_width input.now.shape plane }
     requires sums { plane_width input.now.shape plane ≤ vec_len sums.old }
     ensures row { out.new ≡ wide_bytes (row_from (convolved bias weights.now input.now.shape (look_in input.now))
@@ -256,8 +256,15 @@ pub fn convolve_wide(
     ensures sums { vec_len sums.new ≡ vec_len sums.old }
 {
     let width = out.len() / 2;
-    let (padded, _) = padded.as_mut_slice().split_at_mut(width + 4);
     let (sums, _) = sums.as_mut_slice().split_at_mut(width);
-    convolve_row(input, plane, y, bias, weights, padded, sums, samples);
-    write_samples(samples, out);
+    if width < 3 {
+        let mut narrow = [0u16; 6];
+        let (padded, _) = narrow.split_at_mut(width + 4);
+        convolve_row(input, plane, y, bias, weights, padded, sums, samples);
+        write_samples(samples, out);
+    } else {
+        let (padded, _) = padded.as_mut_slice().split_at_mut(width + 4);
+        convolve_row(input, plane, y, bias, weights, padded, sums, samples);
+        write_samples(samples, out);
+    }
 }

@@ -1,5 +1,6 @@
 // Rows that a filter keeps from frame to frame.
 ghost use Rattle.std.specs.Prelude.{◌≡◌, ◌<◌, ◌+◌, ◌*◌, ◌≤◌, IfOk, MatchOption};
+ghost use Rattle.flt_soft.specs.Scratch.{IsPadded};
 
 use std::alloc::{AllocError, Global};
 use std::marker::Model;
@@ -30,6 +31,15 @@ impl Model for Scratch {
         (vec_len s.totals) };
 }
 
+// How many samples a padded row has. Rows of fewer than three samples are padded elsewhere, so that a scratch stays small
+// beside them.
+fn padded_width(width: usize) -> usize
+    requires { width ≤ 65535 }
+    ensures { IsPadded width result }
+{
+    if width < 3 { width } else { width + 4 }
+}
+
 impl Scratch {
     /// No rows. It takes no memory.
     pub fn new(alloc: Global) -> Scratch
@@ -50,13 +60,12 @@ impl Scratch {
         self.alloc
     }
 
-    /// The bytes of its rows: at most as many as four rows of `u32` have, and six for a width of 1 or 2.
+    /// The bytes of its rows: at most as many as four rows of `u32` have.
     pub fn bytes(&self) -> u64
         requires { self.now ≤ 65535 }
-        ensures none { self.now ≡ 0 → result ≡ 0 }
-        ensures rows { 0 < self.now → result ≡ 11 * self.now + 12 }
-        ensures few { 3 ≤ self.now → result ≤ 16 * self.now }
-        ensures all { result ≤ 24 * self.now }
+        ensures narrow { self.now < 3 → result ≡ 11 * self.now }
+        ensures padded { 3 ≤ self.now → result ≡ 11 * self.now + 12 }
+        ensures few { result ≤ 16 * self.now }
     {
         let padded = self.padded.len() as u64 + 2 * self.wide_padded.len() as u64;
         padded + 4 * (self.sums.len() as u64 + self.totals.len() as u64)
@@ -68,12 +77,13 @@ impl Scratch {
         requires wide { width ≤ 65535 }
         ensures { IfOk result (λ made. made ≡ width) }
     {
+        let padded = padded_width(width);
         Ok(Scratch {
             alloc,
             width,
-            padded: vec![in alloc; 0u8; width + 4]?,
+            padded: vec![in alloc; 0u8; padded]?,
             sums: vec![in alloc; 0i32; width]?,
-            wide_padded: vec![in alloc; 0u16; width + 4]?,
+            wide_padded: vec![in alloc; 0u16; padded]?,
             totals: vec![in alloc; 0u32; width]?,
         })
     }

@@ -1,17 +1,14 @@
 -- Rows inside borders.
-use Rattle.std.proofs.Common.{◌≡◌, ℕ, ◌+◌, ◌-◌, ◌/◌, ◌<◌, ◌≤◌, List, [], ◌∷◌, ◌++◌, length, get_or, take, drop, Bool, true, false, None, refl, sym, ap, ◌∙◌, arith, replicate, w32}
+use Rattle.std.proofs.Common.{◌≡◌, ℕ, ◌+◌, ◌-◌, ◌/◌, ◌<◌, ◌≤◌, List, [], ◌∷◌, ◌++◌, length, get_or, take, drop, Bool, true, false, None, refl, ap, ◌∙◌, arith, replicate}
 use Rattle.std.specs.Prelude.{ℤ, ◌==◌, ◌&&◌, ◌||◌, if◌then◌else◌, nat_lt, nat_le}
-use Rattle.std.proofs.lemmas.List.{append-nil, take_all, get_or_append_left, get_or-append_right, get_or-replicate, length-replicate, length-append, length-take-le, length-drop, get_or-take, get_or-drop}
+use Rattle.std.proofs.lemmas.List.{get_or_append_left, get_or-append_right, get_or-replicate, length-replicate, length-append, length-take-le, length-drop, get_or-take, get_or-drop}
 use Rattle.std.proofs.lemmas.Bool.Decides.{nat_tests}
-use Rattle.std.proofs.lemmas.Int.{to_z-of_z}
-use mir.Val.{SFits, of_z, to_z}
 use Rattle.fv_plane.specs.declared.format.PixelType.{PixelType}
 use Rattle.fv_plane.specs.declared.format.PixelType.TheVariants.{Y8, YV12, YV16, YV24, YV411}
 use Rattle.fv_plane.specs.declared.format.Shape.{Shape}
-use Rattle.fv_plane.specs.Format.{sub_w, planes, plane_width, plane_height}
+use Rattle.fv_plane.specs.Format.{sub_w, plane_width, plane_height}
 use Rattle.fv_plane.specs.Look.{across, down, look_in, row_from}
-use Rattle.fv_plane.specs.Picture.{Picture, IsPicture, row_of}
-use Rattle.fv_plane.proofs.CallerLemmas.{length-row}
+use Rattle.fv_plane.specs.Picture.{Picture, row_of}
 use Rattle.fv_plane.proofs.FillLemmas.{row_listed}
 use Rattle.fv_plane.specs.Refusals.{first_fault}
 use Rattle.clip_term.specs.declared.fault.FilterFault.{FilterFault}

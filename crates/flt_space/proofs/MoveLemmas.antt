@@ -1,8 +1,7 @@
 -- Rows that are parts of rows of the input.
-use Rattle.std.proofs.Common.{◌≡◌, ◌∙◌, ℕ, zero, suc, refl, ◌+◌, ◌-◌, ◌*◌, ◌<◌, ◌≤◌, List, [], ◌∷◌, ◌++◌, length, take, drop, replicate, ap, sym, arith, true, false}
+use Rattle.std.proofs.Common.{◌≡◌, ◌∙◌, ℕ, zero, suc, refl, ◌+◌, ◌-◌, ◌*◌, ◌<◌, ◌≤◌, List, ◌∷◌, ◌++◌, length, take, drop, replicate, ap, sym, arith, true, false}
 use Rattle.std.specs.Prelude.{ℤ}
-use Rattle.std.proofs.lemmas.List.{take_all, length-append, length-replicate, length-take-le, length-drop}
-use Rattle.fv_plane.specs.declared.format.Shape.{Shape}
+use Rattle.std.proofs.lemmas.List.{take_all, length-take-le, length-drop}
 use Rattle.fv_plane.specs.Bytes.{wide_bytes}
 use Rattle.fv_plane.specs.Format.{planes, plane_width, plane_height}
 use Rattle.fv_plane.specs.Look.{across, down, look_in, row_from}

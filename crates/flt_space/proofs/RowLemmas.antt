@@ -1,15 +1,12 @@
 -- The rows that are made.
-use Rattle.std.proofs.Common.{◌≡◌, ℕ, ◌*◌, ◌<◌, ◌≤◌, ◌==◌, if◌then◌else◌, ◌∙◌, List, None, true, false, length, get_or, ap, sym, arith, ne_eqb}
-use Rattle.std.specs.List.{range_with_len}
-use Rattle.std.proofs.lemmas.List.{length-map}
-use Rattle.std.proofs.lemmas.List.FromFn.{length-range_with_len}
+use Rattle.std.proofs.Common.{◌≡◌, ℕ, ◌*◌, ◌<◌, ◌==◌, ◌∙◌, List, None, true, false, length, get_or, ap, arith, ne_eqb}
 use Rattle.fv_plane.specs.declared.format.Shape.{Shape}
-use Rattle.fv_plane.specs.Format.{planes, plane_width, plane_height, row_bytes, sample_bytes}
+use Rattle.fv_plane.specs.Format.{planes, plane_width, plane_height, row_bytes}
 use Rattle.fv_plane.specs.Look.{look_in}
 use Rattle.fv_plane.specs.Made.{FitsLook, IsPlaneOf}
-use Rattle.fv_plane.specs.Picture.{Picture, IsPicture, row_of}
+use Rattle.fv_plane.specs.Picture.{Picture, IsPicture}
 use Rattle.fv_plane.specs.Refusals.{first_fault}
-use Rattle.fv_plane.proofs.CallerLemmas.{length-row, two_bytes}
+use Rattle.fv_plane.proofs.CallerLemmas.{two_bytes}
 use Rattle.fv_plane.proofs.FillLemmas.{row_listed}
 use Rattle.clip_term.specs.declared.op.SpaceOp.{SpaceOp}
 use Rattle.clip_term.specs.Space.{space_at, space_refusals, space_shape}

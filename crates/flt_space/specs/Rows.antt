@@ -1,5 +1,5 @@
 -- The rows that makers put.
-use Rattle.std.specs.Prelude.{◌≡◌, ℕ, ◌-◌, ◌<◌, pos, Bool, not, None, false, List, ◌++◌, length, map, replicate, take, drop}
+use Rattle.std.specs.Prelude.{◌≡◌, ℕ, ◌-◌, ◌<◌, pos, Bool, not, None, false, List, ◌++◌, length, map, replicate}
 use Rattle.fv_plane.specs.declared.format.Shape.{Shape}
 use Rattle.fv_plane.specs.Format.{IsLegal, planes, plane_width, plane_height, row_bytes}
 use Rattle.fv_plane.specs.Look.{look_in, row_from}

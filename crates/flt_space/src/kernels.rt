@@ -1,7 +1,10 @@
-// What is done to the samples of a row. Plain loops over slices, which the compiler turns into vector instructions.
+// What is done to the samples of a row. Plain loops over slices, which the compiler turns into vector instructions, and
+// vectors of 32 samples where a row is changed in its place.
 ghost use Rattle.std.specs.Prelude.{◌≡◌, ◌-◌, ◌+◌, ◌*◌, ◌≤◌, EachIndex, length, map, slice_index};
 ghost use Rattle.clip_term.specs.Space.{limited};
 ghost use Rattle.flt_space.specs.Rows.{padded};
+
+use std::simd::prelude::*;
 
 fn complement(sample: u8) -> u8
     ensures { result ≡ 255 - sample }
@@ -19,7 +22,12 @@ fn limited(sample: u8, low: u8, high: u8) -> u8
 pub fn invert_row(row: &mut [u8])
     ensures { row.new ≡ map (λ sample. 255 - sample) row.old }
 {
-    for x in 0..row.len() {
+    for k in 0..row.len() / 32 {
+        let at = 32 * k;
+        let samples = u8x32::from_slice(&row[at..]);
+        (!samples).copy_to_slice(&mut row[at..]);
+    }
+    for x in row.len() / 32 * 32..row.len() {
         row[x] = complement(row[x]);
     }
 }
@@ -29,7 +37,15 @@ pub fn invert_row(row: &mut [u8])
 pub fn limit_row(row: &mut [u8], low: u8, high: u8)
     ensures { row.new ≡ map (limited low high) row.old }
 {
-    for x in 0..row.len() {
+    for k in 0..row.len() / 32 {
+        let at = 32 * k;
+        let samples = u8x32::from_slice(&row[at..]);
+        let raised = samples.simd_max(u8x32::splat(low));
+        raised
+            .simd_min(u8x32::splat(high))
+            .copy_to_slice(&mut row[at..]);
+    }
+    for x in row.len() / 32 * 32..row.len() {
         row[x] = limited(row[x], low, high);
     }
 }

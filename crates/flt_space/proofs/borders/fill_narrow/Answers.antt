@@ -1,4 +1,4 @@
-use Rattle.std.proofs.Common.{◌≡◌, ◌∙◌, ◌+◌, ◌-◌, ◌≤◌, ℕ, List, length, take, drop, ap, arith}
+use Rattle.std.proofs.Common.{◌≡◌, ◌∙◌, ◌+◌, ◌-◌, length, take, drop, ap, arith}
 use Rattle.fv_plane.specs.Format.{plane_width}
 use Rattle.fv_plane.specs.Picture.{row_of}
 use Rattle.fv_plane.proofs.CallerLemmas.{bytes_of_narrow}

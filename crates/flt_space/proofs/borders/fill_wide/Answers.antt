@@ -1,4 +1,4 @@
-use Rattle.std.proofs.Common.{◌≡◌, ◌∙◌, ◌+◌, ◌-◌, ◌*◌, ◌≤◌, ℕ, List, length, take, drop, ap, sym, arith}
+use Rattle.std.proofs.Common.{◌≡◌, ◌∙◌, ◌+◌, ◌-◌, ◌*◌, ℕ, List, length, take, drop, ap, sym, arith}
 use Rattle.fv_plane.specs.Bytes.{wide_bytes, wide_samples}
 use Rattle.fv_plane.specs.Format.{plane_width, row_bytes}
 use Rattle.fv_plane.specs.Picture.{row_of}

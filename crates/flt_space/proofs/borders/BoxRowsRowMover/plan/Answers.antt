@@ -1,10 +1,10 @@
-use Rattle.std.proofs.Common.{rules, ◌≡◌, ◌+◌, ◌-◌, ◌∙◌, true, false, ap, sym, arith}
+use Rattle.std.proofs.Common.{rules, ◌≡◌, ◌-◌, ◌∙◌, true, false, ap, sym, arith}
 use Rattle.fv_plane.specs.Format.{plane_width, plane_height}
 use Rattle.fv_plane.specs.Look.{across, down}
 use Rattle.fv_plane.proofs.CallerLemmas.{some_rows}
 use Rattle.clip_term.specs.Refusals.{nat_of}
 use Rattle.clip_term.specs.Space.{is_within}
-use Rattle.flt_space.proofs.BorderLemmas.{covers_less, fits_across, inside_of}
+use Rattle.flt_space.proofs.BorderLemmas.{covers_less, fits_across}
 use Rattle.flt_space.proofs.MoveLemmas.{box_plan, boxed_plan}
 use Rattle.flt_space.proofs.borders.BoxRowsRowMover.plan.Goals as goal
 

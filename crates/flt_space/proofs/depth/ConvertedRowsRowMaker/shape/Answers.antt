@@ -1,4 +1,3 @@
-use Rattle.std.proofs.Common.{ℕ}
 use Rattle.clip_term.proofs.BoundedLemmas.{converted_few}
 use Rattle.fv_plane.specs.Look.{look_in}
 use Rattle.flt_space.proofs.depth.ConvertedRowsRowMaker.shape.Goals as goal

@@ -1,5 +1,4 @@
 use Rattle.flt_space.proofs.RowLemmas.{looks_fit}
-use Rattle.fv_plane.specs.Format.{IsLegal}
 use Rattle.std.proofs.Common.{subst}
 use Rattle.fv_plane.specs.declared.format.Shape.{Shape}
 use Rattle.fv_plane.specs.Made.{FitsLook}
