@@ -3,12 +3,15 @@ ghost use Rattle.std.specs.Prelude.{◌≡◌};
 
 use std::hint::spin_loop;
 use std::sync::Wait;
+use std::sync::atomic::{AtomicU64, Ordering};
 use std::test::*;
 use std::thread::{self, Threads};
 use turn_lock::{Booked, LockSeat, TurnLock};
 
-// How many turns each seat takes.
+// How many turns each seat takes, and after how many all meet.
 const TURNS: u32 = 25_000;
+
+const BETWEEN: u32 = 10;
 
 #[derive(Clone, Copy, PartialEq, Debug)]
 struct Note {
@@ -21,6 +24,8 @@ struct Note {
 struct Notes {
     year: u32,
     notes: Vec<Note>,
+    // how often a seat came to a meeting, which is over once all four came
+    came: u32,
 }
 
 impl Booked for Notes {
@@ -50,13 +55,85 @@ fn pause(number: u32, turn: u32, step: u32) {
     }
 }
 
+// Waits until all four are about to come to a meeting, so that they come to it at about the same time.
+fn gather(gathered: &AtomicU64, meeting: u32) {
+    gathered.fetch_add(1, Ordering::SeqCst);
+    for _ in 0..20_000 {
+        if gathered.load(Ordering::SeqCst) / 4 > meeting as u64 {
+            return;
+        }
+        spin_loop();
+    }
+}
+
+// One of the four comes later, by about as long as the others look at the bell before they sleep.
+fn come_late(number: u32, meeting: u32) {
+    if number % 4 == meeting % 4 {
+        for _ in 0..150 + meeting / 4 % 300 {
+            spin_loop();
+        }
+    }
+}
+
+// Comes to a meeting, if one is due, and waits at the bell until all four came. The last one alone strikes, once: who misses
+// that stroke, or is not woken by it, sleeps for ever, and the others with it at their next meeting.
+fn meet<R: Wait>(
+    rt: &R,
+    lock: &TurnLock<Notes>,
+    gathered: &AtomicU64,
+    seat: LockSeat<Notes>,
+    turn: u32,
+) -> LockSeat<Notes>
+    requires { seat.lock ≡ lock.now }
+    ensures { result ≡ record seat { seen = result.seen; own = result.own } }
+{
+    if turn % BETWEEN != 0 {
+        return seat;
+    }
+    let number = seat.number();
+    gather(gathered, turn / BETWEEN);
+    come_late(number, turn / BETWEEN);
+    let (mut value, held) = lock.enter(rt, seat);
+    let meeting = value.came / 4;
+    value.came = value.came.wrapping_add(1);
+    let is_last = value.came % 4 == 0;
+    if is_last {
+        lock.bell().strike();
+    }
+    let mut heard = lock.bell().strokes();
+    let mut seat = lock.leave(held, value);
+    if is_last {
+        pause(number, turn, 1);
+        lock.bell().wake();
+        return seat;
+    }
+    for _ in rt.forever() {
+        pause(number, turn, 2);
+        lock.bell().wait(rt, heard);
+        let (value, held) = lock.enter(rt, seat);
+        let is_over = value.came / 4 != meeting;
+        heard = lock.bell().strokes();
+        seat = lock.leave(held, value);
+        if is_over {
+            return seat;
+        }
+    }
+    unreachable!()
+}
+
 // Takes the turns with a pause at every step, and one note in each turn while memory lasts.
-fn take_turns<R: Wait>(rt: &R, lock: &TurnLock<Notes>, mut seat: LockSeat<Notes>) -> LockSeat<Notes>
+fn take_turns<R: Wait>(
+    rt: &R,
+    lock: &TurnLock<Notes>,
+    gathered: &AtomicU64,
+    mut seat: LockSeat<Notes>,
+) -> LockSeat<Notes>
     requires { seat.lock ≡ lock.now }
     ensures { result ≡ record seat { seen = result.seen; own = result.own } }
 {
     let number = seat.number();
     for turn in 0..TURNS {
+        seat = meet(rt, lock, gathered, seat, turn);
         let (mut value, held) = lock.enter(rt, seat);
         pause(number, turn, 0);
         let _ = value.notes.push(Note { by: number, turn });
@@ -71,6 +148,7 @@ fn take_turns<R: Wait>(rt: &R, lock: &TurnLock<Notes>, mut seat: LockSeat<Notes>
 fn both_take_turns<R: Threads + Wait + Sync>(
     rt: &R,
     lock: &TurnLock<Notes>,
+    gathered: &AtomicU64,
     first: LockSeat<Notes>,
     second: LockSeat<Notes>,
 ) -> (LockSeat<Notes>, LockSeat<Notes>)
@@ -84,20 +162,21 @@ fn both_take_turns<R: Threads + Wait + Sync>(
         move || -> LockSeat<Notes>
             requires { first.lock ≡ lock.now }
             ensures { result ≡ record first { seen = result.seen; own = result.own } }
-        { take_turns(rt, lock, first) },
+        { take_turns(rt, lock, gathered, first) },
         move || -> LockSeat<Notes>
             requires { second.lock ≡ lock.now }
             ensures { result ≡ record second { seen = result.seen; own = result.own } }
-        { take_turns(rt, lock, second) },
+        { take_turns(rt, lock, gathered, second) },
     )
 }
 
-// A waiter that slept at its own turn, or that nobody woke, would never come to its end.
+// A waiter that slept at its own turn or after the stroke that it waits for, or that nobody woke, would never come to its end.
 #[test]
 fn four_threads_take_turns(rt: HostRuntime) -> Result<(), Fail> {
     let notes = Notes {
         year: 2026,
         notes: Vec::new(rt.alloc()),
+        came: 0,
     };
     let Ok((lock, seat)) = TurnLock::new(rt.alloc(), notes, 4) else {
         panic!(&rt; "no memory")
@@ -105,7 +184,8 @@ fn four_threads_take_turns(rt: HostRuntime) -> Result<(), Fail> {
     let (seat, first) = lock.split(seat);
     let (seat, second) = lock.split(seat);
     let (seat, third) = lock.split(seat);
-    let (host, shared) = (&rt, &lock);
+    let gathered = AtomicU64::new(0);
+    let (host, shared, meeting) = (&rt, &lock, &gathered);
     let ((seat, first), (second, third)) = thread::join(
         host,
         move || -> (LockSeat<Notes>, LockSeat<Notes>)
@@ -113,18 +193,23 @@ fn four_threads_take_turns(rt: HostRuntime) -> Result<(), Fail> {
             requires first { first.lock ≡ shared.now }
             ensures seat { result.0 ≡ record seat { seen = result.0.seen; own = result.0.own } }
             ensures first { result.1 ≡ record first { seen = result.1.seen; own = result.1.own } }
-        { both_take_turns(host, shared, seat, first) },
+        { both_take_turns(host, shared, meeting, seat, first) },
         move || -> (LockSeat<Notes>, LockSeat<Notes>)
             requires second { second.lock ≡ shared.now }
             requires third { third.lock ≡ shared.now }
             ensures second { result.0 ≡ record second { seen = result.0.seen; own = result.0.own } }
             ensures third { result.1 ≡ record third { seen = result.1.seen; own = result.1.own } }
-        { both_take_turns(host, shared, second, third) },
+        { both_take_turns(host, shared, meeting, second, third) },
     );
     let seat = lock.join(seat, first);
     let seat = lock.join(seat, second);
     let seat = lock.join(seat, third);
-    let Notes { year: _, notes } = lock.close(seat);
+    let Notes {
+        year: _,
+        notes,
+        came,
+    } = lock.close(seat);
+    assert_eq!(&rt; came, TURNS / BETWEEN * 4);
     assert_eq!(&rt; notes.len(), 4 * TURNS as usize);
     let mut next = [0, 0, 0, 0];
     for note in &notes {

@@ -2,24 +2,31 @@
 use fv_plane::{Colour, Frame, FrameBuilder, FrameMemory, PixelType, Shape};
 use std::test::Fail;
 
-// More shares and windows than memory would hold as copies.
+// A share, a window and a flip take no bytes of their own: while one of them is there the frame that it was made from gives no
+// memory back, and after that it gives back the memory of the whole planes.
 #[test]
-fn shares_frames(rt: HostRuntime) -> Result<(), Fail> {
+fn shares_its_bytes(rt: HostRuntime) -> Result<(), Fail> {
     let alloc = rt.alloc();
     let shape = Shape {
-        kind: PixelType::Y8,
+        kind: PixelType::YV12,
         bits: 8,
-        width: 4096,
-        height: 4096,
+        width: 4,
+        height: 4,
     };
-    let frame = Frame::blank(alloc, shape, Colour { y: 7, u: 0, v: 0 })?;
-    let mut shares = Vec::new(alloc);
-    for _ in 0..1_000 {
-        shares.push(frame.share()?)?;
-        shares.push(frame.window(1, 0, 4095, 4096)?)?;
+    for way in 0..3 {
+        let frame = Frame::blank(alloc, shape, Colour { y: 7, u: 0, v: 0 })?;
+        let shared = match way {
+            0 => frame.share()?,
+            1 => frame.window(2, 2, 2, 2)?,
+            _ => frame.flipped()?,
+        };
+        let FrameMemory { luma, u, v } = frame.into_memory();
+        assert!(rt; luma.is_none() && u.is_none() && v.is_none(), "way {way}");
+        let FrameMemory { luma, u, v } = shared.into_memory();
+        for (plane, size) in [(luma, 16), (u, 4), (v, 4)] {
+            assert_eq!(rt; plane.map_or(0, |bytes| bytes.len()), size, "way {way}");
+        }
     }
-    assert_eq!(rt; shares.len(), 2_000);
-    assert!(rt; frame.into_memory().luma.is_none());
     Ok(())
 }
 

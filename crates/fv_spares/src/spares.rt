@@ -1,5 +1,7 @@
 // Spare memory.
-ghost use Rattle.std.specs.Prelude.{◌≡◌, ◌+◌, ◌≤◌, length, IfSome, IfNone, IsTrue};
+ghost use Rattle.std.specs.Prelude.{◌≡◌, ◌+◌, ◌*◌, ◌<◌, ◌≤◌, ◌↔◌, [], length, None, IsTrue};
+ghost use Rattle.fv_plane.specs.Format.{plane_bytes};
+ghost use Rattle.fv_spares.specs.Spares.{sizes_of, HasKept, Serves, Takes, TakesLuma, TakesChroma, HasPlane};
 
 use fv_plane::{Frame, FrameMemory, Shape};
 use std::alloc::Global;
@@ -20,34 +22,31 @@ const MORE: usize = 1 << 13;
 /// New memory costs more: the system gives it page by page, and it is zeroed before a frame can be read into it.
 #[derive(Drop)]
 pub struct Spares {
-    pieces: Vec<Vec<u8>>,
+    luma: Vec<Vec<u8>>,
     chroma: Vec<Vec<u8>>,
 }
 
 impl Model for Spares {
-    ghost use Rattle.std.specs.Prelude.{ℕ, ◌+◌, ◌≤◌, length};
+    ghost use Rattle.std.specs.Prelude.{◌≤◌, length};
+    ghost use Rattle.fv_spares.specs.Spares.{SpareSizes, sizes_of};
 
-    ghost Value = { ℕ };
+    ghost Value = { SpareSizes };
 
-    ghost view = { λ s. length s.pieces.items + length s.chroma.items };
+    ghost view = { λ s. record { luma = sizes_of s.luma.items; chroma = sizes_of s.chroma.items } };
 
-    ghost invariant = { λ s. (length s.pieces.items ≤ 16) × (length s.chroma.items ≤ 32) };
+    ghost invariant = { λ s. (length s.luma.items ≤ 16) × (length s.chroma.items ≤ 32) };
 }
 
 // Whether a piece serves for `size` bytes. A larger one may serve for another frame.
 fn serves(piece: &[u8], size: usize) -> bool
-    ensures enough { IsTrue result → size ≤ length piece.now }
-    ensures close { IsTrue result → length piece.now ≤ size + 8192 }
+    ensures { IsTrue result ↔ Serves size (length piece.now) }
 {
     size <= piece.len() && piece.len() - size <= MORE
 }
 
 // Takes the piece out that serves for `size` bytes and was kept last.
 fn take_from(pieces: &mut Vec<Vec<u8>>, size: usize) -> Option<Vec<u8>>
-    ensures enough { IfSome result (λ memory. size ≤ length memory.items) }
-    ensures close { IfSome result (λ memory. length memory.items ≤ size + 8192) }
-    ensures one { IfSome result (λ _. length pieces.new.items + 1 ≡ length pieces.old.items) }
-    ensures none { IfNone result (length pieces.new.items ≡ length pieces.old.items) }
+    ensures { Takes size result (sizes_of pieces.old.items) (sizes_of pieces.new.items) }
 {
     let mut at = pieces.len();
     while at > 0 {
@@ -61,86 +60,91 @@ fn take_from(pieces: &mut Vec<Vec<u8>>, size: usize) -> Option<Vec<u8>>
 
 // Keeps a piece, if there is one. Where there are `most` pieces, the one that was kept first is let go.
 fn keep_in(pieces: &mut Vec<Vec<u8>>, most: usize, piece: Option<Vec<u8>>)
-    requires some { 1 ≤ most }
     requires bounded { length pieces.old.items ≤ most }
     ensures bounded { length pieces.new.items ≤ most }
-    ensures one { length pieces.new.items ≤ length pieces.old.items + 1 }
+    ensures kept { HasKept most 1 (sizes_of pieces.old.items) (sizes_of pieces.new.items) }
 {
     let Some(piece) = piece else {
         return;
     };
-    if pieces.len() == most {
+    // Where there is no memory for the list itself, the piece is let go.
+    let Ok(()) = pieces.push(piece) else {
+        return;
+    };
+    if pieces.len() > most {
         pieces.remove(0);
     }
-    // Where there is no memory for the list itself, the piece is let go.
-    let _ = pieces.push(piece);
 }
 
 impl Spares {
     /// No memory yet. It takes none.
     pub fn new(alloc: Global) -> Spares
-        ensures { result ≡ 0 }
+        ensures { result ≡ record { luma = []; chroma = [] } }
     {
         Spares {
-            pieces: Vec::new(alloc),
+            luma: Vec::new(alloc),
             chroma: Vec::new(alloc),
         }
     }
 
     /// The number of pieces.
     pub fn len(&self) -> usize
-        ensures len { result ≡ self.now }
+        ensures len { result ≡ length self.now.luma + length self.now.chroma }
 
         // What is true of all spare memory.
-        ensures bounded { self.now ≤ 48 }
+        ensures luma { length self.now.luma ≤ 16 }
+        ensures chroma { length self.now.chroma ≤ 32 }
     {
-        self.pieces.len() + self.chroma.len()
+        self.luma.len() + self.chroma.len()
     }
 
     /// Keeps the memory of those planes of a frame that no other frame shares. Where there is memory of 16 frames, what was
     /// kept first is let go.
     pub fn keep(&mut self, frame: Frame)
-        ensures bounded { self.new ≤ 48 }
-        ensures few { self.new ≤ self.old + 3 }
+        ensures luma { HasKept 16 1 self.old.luma self.new.luma }
+        ensures chroma { HasKept 32 2 self.old.chroma self.new.chroma }
     {
         let FrameMemory { luma, u, v } = frame.into_memory();
-        keep_in(&mut self.pieces, MOST, luma);
+        keep_in(&mut self.luma, MOST, luma);
         keep_in(&mut self.chroma, MOST_CHROMA, u);
         keep_in(&mut self.chroma, MOST_CHROMA, v);
     }
 
     /// Keeps the memory of each of these frames, as `keep` does.
     pub fn keep_all(&mut self, frames: Vec<Option<Frame>>)
-        ensures { self.new ≤ 48 }
+        ensures luma { HasKept 16 (length frames.items) self.old.luma self.new.luma }
+        ensures chroma { HasKept 32 (2 * length frames.items) self.old.chroma self.new.chroma }
     {
+        // Called for what its contract says.
+        self.len();
         for frame in frames {
             if let Some(frame) = frame {
                 self.keep(frame);
             }
         }
-        self.len();
     }
 
-    /// Hands out memory that has at least `size` bytes, and at most 8 KiB more. `None` comes where there is none.
+    /// Hands out the piece that has at least `size` bytes, and at most 8 KiB more, and was kept last. `None` comes where
+    /// there is none.
     pub fn take(&mut self, size: usize) -> Option<Vec<u8>>
-        ensures enough { IfSome result (λ memory. size ≤ length memory.items) }
-        ensures close { IfSome result (λ memory. length memory.items ≤ size + 8192) }
-        ensures handed_out { IfSome result (λ _. self.new + 1 ≡ self.old) }
-        ensures kept { IfNone result (self.new ≡ self.old) }
+        ensures { TakesLuma size result self.old self.new }
     {
-        take_from(&mut self.pieces, size)
+        take_from(&mut self.luma, size)
     }
 
     /// Hands out memory for a plane of a frame, as `take` does. A plane or a shape that no frame has gets none.
     pub fn take_plane(&mut self, shape: Shape, plane: u32) -> Option<Vec<u8>>
-        ensures { self.new ≤ self.old }
+        ensures luma { HasPlane shape plane → plane ≡ 0 → TakesLuma (plane_bytes shape 0) result self.old self.new }
+        ensures chroma { HasPlane shape plane → 0 < plane
+            → TakesChroma (plane_bytes shape plane) result self.old self.new }
+        ensures none { (HasPlane shape plane → ⊥) → (result ≡ None) × (self.new ≡ self.old) }
     {
         if !shape.is_legal() || plane >= shape.kind.planes() {
             return None;
         }
         let size = shape.plane_bytes(plane) as usize;
         if plane == 0 {
-            take_from(&mut self.pieces, size)
+            take_from(&mut self.luma, size)
         } else {
             take_from(&mut self.chroma, size)
         }

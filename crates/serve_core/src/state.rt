@@ -254,6 +254,7 @@ impl<I: Held> Core<I> {
         ensures undelivered { IfOk result (λ taken. IsUndelivered self.old taken) }
         ensures stopped { self.old.stop ≡ first_stop self.old.journal }
         ensures err { OnErr result (self.new ≡ self.old) }
+        ensures running { OnErr result (self.old.stop ≡ None) }
     {
         let at = self.taken.len();
         if self.stop.is_some() || at == self.count as usize {
@@ -278,6 +279,7 @@ impl<I: Held> Core<I> {
         ensures shape { IfOk result (λ answer. AnswerIsShaped self.old.fixed.plan key answer) }
         ensures stopped { self.old.stop ≡ first_stop self.old.journal }
         ensures err { OnErr result (self.new ≡ self.old) }
+        ensures running { OnErr result (self.old.stop ≡ None) }
     {
         if let Some(stop) = self.stop {
             return Ok(Ask::Stopped(stop));
@@ -308,6 +310,7 @@ impl<I: Held> Core<I> {
         ensures source { IfOk result (λ answer. AnswerHolds I.holds self.old.fixed.plan node answer) }
         ensures stopped { self.old.stop ≡ first_stop self.old.journal }
         ensures err { OnErr result (self.new ≡ self.old) }
+        ensures running { OnErr result (self.old.stop ≡ None) }
     {
         if let Some(stop) = self.stop {
             return Ok(Admitted::Stopped(stop));

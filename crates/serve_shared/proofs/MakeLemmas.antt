@@ -11,6 +11,7 @@ use Rattle.inst_table.specs.Places.{shared_place, slot_at}
 use Rattle.serve_machine.specs.declared.event.Event.{Event}
 use Rattle.serve_machine.specs.declared.event.Event.TheVariants.{Claim, Enter, Leave, Publish, Abandon}
 use Rattle.serve_machine.specs.declared.event.WindowStop.{WindowStop}
+use Rattle.serve_machine.specs.declared.event.WindowStop.TheVariants.{Read}
 use Rattle.serve_machine.specs.Events.{IsKey, has, mode_at, instance_of, has_entered, has_got_all}
 use Rattle.serve_machine.specs.SerialRun.{leases, eviction}
 use Rattle.serve_machine.proofs.OwnLemmas.{entered_now, all_got}
@@ -132,8 +133,8 @@ module _ {I : Type 0} (of : Ghosts I) (me : WorkerValue) (seat : CoreSeat I) (k 
         count = subst (λ p. IfSome seat.tag (λ z. HasCount of.faults z.table p new.value)) (sym place) (subst (λ n. IfSome seat.tag (λ z. n ≡ faults_at of.faults (slot_at old.place z.table))) (sym steady) lent.count);
       }
 
-      pub has_stopped : (why : WindowStop) → has_entered me.number k.node seat.own ≡ true → MakeStops of.feed of.faults of.ends me.plan k.node old.value new.value why → HasStopped of me seat new why
-      has_stopped why was stops = record {
+      pub has_stopped : (why : WindowStop) → has_entered me.number k.node seat.own ≡ true → ((why ≡ Read k.node → ⊥) → of.faults new.value ≡ of.faults old.value) → MakeStops of.feed of.faults of.ends me.plan k.node old.value new.value why → HasStopped of me seat new why
+      has_stopped why was steady stops = record {
         node = k.node;
         in_plan = key.node;
         entered = was;
@@ -147,6 +148,7 @@ module _ {I : Type 0} (of : Ghosts I) (me : WorkerValue) (seat : CoreSeat I) (k 
         source = source;
         feed_same = feed_same;
         faults_more = faults_more;
+        steady = steady;
         stops = stops;
       }
 

@@ -37,7 +37,7 @@ use Rattle.serve_shared.specs.declared.steps.Found.TheVariants.{Hit, Claimed, Ta
 use Rattle.serve_shared.specs.declared.steps.Entry.{Entry}
 use Rattle.serve_shared.specs.declared.steps.Entry.TheVariants.{Leased, Busy}
 use Rattle.serve_shared.specs.Seats.{CoreSeat, seat_holdings, Adds, RightFor}
-use Rattle.serve_shared.specs.Steps.{IsRunning, closed, RunsOut, Refuses, Finds, Enters, Takes}
+use Rattle.serve_shared.specs.Steps.{IsRunning, closed, RunsOut, RunsOutFirst, Refuses, Finds, Enters, Takes}
 use Rattle.serve_shared.specs.Shares.{StopsNow}
 use Rattle.serve_shared.specs.Turns.{IsLent, TurnAsks, TurnEnters, TurnPublishes, SeesAll, TurnTakes}
 use Rattle.serve_core.proofs.ClosedLemmas.{workers_tell}
@@ -253,10 +253,10 @@ module _ {I : Type 0} (of : Ghosts I) (me : WorkerValue) (seat : CoreSeat I) (c 
         number = subst (λ i. k.n < (application_at me.plan i).info.frames) (sym node) (omega (arith, number, less, most));
       }
 
-  takes_some : (d : CoreValue I) (r : Result (Option Key) WindowStop) → IfOk r (λ k. Takes c me.number k d) → IfErr r (λ why. RunsOut me.number why c d) → DoesAny d
+  takes_some : (d : CoreValue I) (r : Result (Option Key) WindowStop) → IfOk r (λ k. Takes c me.number k d) → IfErr r (λ why. RunsOutFirst me.number why c d) → DoesAny d
   takes_some d (Ok (Some k)) ok err = record { events = _; does = took_does d k ok }
   takes_some d (Ok None) ok err = record { events = _; does = same_does of me seat c t d ok.1 }
-  takes_some d (Err why) ok err = record { events = _; does = out_does of me seat c t why d err }
+  takes_some d (Err why) ok err = record { events = _; does = out_does of me seat c t why d err.1 }
 
   sees_all : (d : CoreValue I) (later : CoreSeat I) → Takes c me.number None d → Leaves d later → SeesAll me seat later
   sees_all d later none leaves =
@@ -271,21 +271,21 @@ module _ {I : Type 0} (of : Ghosts I) (me : WorkerValue) (seat : CoreSeat I) (c 
             subst (λ es. t.sits.start.fixed.count ≤ takes es) (sym seen) (omega (arith, all, taken, count)));
       }
 
-  takes_it : (d : CoreValue I) (later : CoreSeat I) (r : Result (Option Key) WindowStop) → IfOk r (λ k. Takes c me.number k d) → IfErr r (λ why. RunsOut me.number why c d) → Leaves d later → TurnTakes me seat r later
+  takes_it : (d : CoreValue I) (later : CoreSeat I) (r : Result (Option Key) WindowStop) → IfOk r (λ k. Takes c me.number k d) → IfErr r (λ why. RunsOutFirst me.number why c d) → Leaves d later → TurnTakes me seat r later
   takes_it d later (Ok (Some k)) ok err leaves = record {
     adds = adds of me seat c t _ later (leaves _ (took_does d k ok).journal);
     key = took_key d k ok;
     root = for_seat (λ s. k.node ≡ s.fixed.root) (ok.1 ∙ ap (λ f. f.root) t.stands.fixed);
   }
   takes_it d later (Ok None) ok err leaves = sees_all d later ok leaves
-  takes_it d later (Err why) ok err leaves = out_stops of me seat c t why d later err leaves
+  takes_it d later (Err why) ok err leaves = out_stops of me seat c t why d later err.1 leaves
 
-  module _ (d : CoreValue I) (n : ℕ) (same : n ≡ me.number) (r : Result (Option Key) WindowStop) (ok : IfOk r (λ k. Takes c n k d)) (err : IfErr r (λ why. RunsOut n why c d)) where
+  module _ (d : CoreValue I) (n : ℕ) (same : n ≡ me.number) (r : Result (Option Key) WindowStop) (ok : IfOk r (λ k. Takes c n k d)) (err : IfErr r (λ why. RunsOutFirst n why c d)) where
     pub take_some : DoesAny d
-    take_some = takes_some d r (subst (λ m. IfOk r (λ k. Takes c m k d)) same ok) (subst (λ m. IfErr r (λ why. RunsOut m why c d)) same err)
+    take_some = takes_some d r (subst (λ m. IfOk r (λ k. Takes c m k d)) same ok) (subst (λ m. IfErr r (λ why. RunsOutFirst m why c d)) same err)
 
     pub take_ends : (later : CoreSeat I) → Leaves d later → TurnTakes me seat r later
-    take_ends later leaves = takes_it d later r (subst (λ m. IfOk r (λ k. Takes c m k d)) same ok) (subst (λ m. IfErr r (λ why. RunsOut m why c d)) same err) leaves
+    take_ends later leaves = takes_it d later r (subst (λ m. IfOk r (λ k. Takes c m k d)) same ok) (subst (λ m. IfErr r (λ why. RunsOutFirst m why c d)) same err) leaves
 
   -- An output is delivered.
 

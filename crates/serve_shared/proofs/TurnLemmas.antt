@@ -27,7 +27,7 @@ use Rattle.serve_core.proofs.WorkerLemmas.{has_told}
 use Rattle.serve_core.specs.WorkerValue.{WorkerValue}
 use Rattle.serve_shared.specs.Seats.{CoreSeat, seat_holdings, HasSeat, IsSeat, Adds}
 use Rattle.serve_shared.specs.Shares.{StopsNow}
-use Rattle.serve_shared.specs.Steps.{IsRunning, given_up, closed, RunsOut, Refuses}
+use Rattle.serve_shared.specs.Steps.{IsRunning, given_up, closed, RunsOut, RunsOutFirst, Refuses}
 use Rattle.serve_core.proofs.SteadyLemmas.{turns_are_steady}
 use Rattle.serve_core.proofs.TurnLemmas.{turns_stand}
 use Rattle.serve_shared.proofs.ClaimLemmas.{given_table, given_journal}
@@ -182,7 +182,7 @@ module _ {I : Type 0} (of : Ghosts I) (me : WorkerValue) (seat : CoreSeat I) whe
 
     pub refuses_some : (why : WindowStop) (d : CoreValue I) → Refuses me.number why c d → DoesSome d
     refuses_some why d r = ⊎_elim
-        (λ (out : RunsOut me.number why c d). record { events = _; does = out_does why d out })
+        (λ (out : RunsOutFirst me.number why c d). record { events = _; does = out_does why d out.1 })
         (λ (stop : (c.stop ≡ Some why) × (d ≡ closed me.number c)). record { events = _; does = closed_does d stop.1 }) r
 
     pub out_stops : (why : WindowStop) (d : CoreValue I) (later : CoreSeat I) → RunsOut me.number why c d → ((events : List Event) → d.journal ≡ c.journal ++ events → Left events later) → StopsNow me why [] seat later
@@ -192,7 +192,7 @@ module _ {I : Type 0} (of : Ghosts I) (me : WorkerValue) (seat : CoreSeat I) whe
 
     pub refuses_stops : (why : WindowStop) (d : CoreValue I) (later : CoreSeat I) → Refuses me.number why c d → ((events : List Event) → d.journal ≡ c.journal ++ events → Left events later) → StopsNow me why [] seat later
     refuses_stops why d later r left = ⊎_elim
-        (λ (out : RunsOut me.number why c d). out_stops why d later out left)
+        (λ (out : RunsOutFirst me.number why c d). out_stops why d later out.1 left)
         (λ (stop : (c.stop ≡ Some why) × (d ≡ closed me.number c)).
         let l = left _ (closed_does d stop.1).journal in
         let other = stopped_by me.number why c.journal (sym (first_is_kept c t.run) ∙ stop.0) (ap first_stop t.own ∙ t.sits.running) in

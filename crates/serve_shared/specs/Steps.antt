@@ -35,9 +35,13 @@ module _ {I : Type 0} where
   abbrev pub RunsOut : ℕ → WindowStop → CoreValue I → CoreValue I → Type 0
   RunsOut w why c d = (why ≡ Memory) × (d ≡ after_fail (closed w c) w Memory)
 
+  -- and the window was not stopped before: a worker that another has stopped does not fail
+  abbrev pub RunsOutFirst : ℕ → WindowStop → CoreValue I → CoreValue I → Type 0
+  RunsOutFirst w why c d = (c.stop ≡ None) × RunsOut w why c d
+
   -- or it has closed its work as the window was stopped
   abbrev pub Refuses : ℕ → WindowStop → CoreValue I → CoreValue I → Type 0
-  Refuses w why c d = RunsOut w why c d ⊎ ((c.stop ≡ Some why) × (d ≡ closed w c))
+  Refuses w why c d = RunsOutFirst w why c d ⊎ ((c.stop ≡ Some why) × (d ≡ closed w c))
 
   -- what the core answered: the frame, the claim, or that another worker has the claim
   abbrev pub Finds : CoreValue I → ℕ → Key → Found → CoreValue I → Type 0

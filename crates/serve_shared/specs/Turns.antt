@@ -8,6 +8,7 @@ use Rattle.turn_lock.specs.Entries.{entries_of}
 use Rattle.serve_machine.specs.declared.event.Event.{Event}
 use Rattle.serve_machine.specs.declared.event.Event.TheVariants.{Hit as Hits, Claim, Enter, Leave, Publish, Take}
 use Rattle.serve_machine.specs.declared.event.WindowStop.{WindowStop}
+use Rattle.serve_machine.specs.declared.event.WindowStop.TheVariants.{Read}
 use Rattle.serve_machine.specs.Events.{worker_of, IsKey, instance_of, has_entered}
 use Rattle.serve_machine.specs.SerialRun.{eviction}
 use Rattle.serve_machine.specs.Machine.{first_stop}
@@ -46,6 +47,8 @@ pub record HasStopped {I : Type 0} (of : Ghosts I) (me : WorkerValue) (seat : Co
   pub source : of.holds l.value ≡ of.holds old
   pub feed_same : of.feed l.value ≡ of.feed old
   pub faults_more : of.faults old ≤ of.faults l.value
+  -- a read that failed is reported as that
+  pub steady : (why ≡ Read node → ⊥) → of.faults l.value ≡ of.faults old
   pub stops : MakeStops of.feed of.faults of.ends me.plan node old l.value why
 
 module _ {I : Type 0} (of : Ghosts I) (me : WorkerValue) (seat : CoreSeat I) where

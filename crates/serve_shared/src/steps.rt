@@ -6,7 +6,7 @@ ghost use Rattle.serve_machine.specs.Events.{IsKey, mode_at, has_got_all, may_fa
 ghost use Rattle.serve_core.specs.Calls.{after_publish, after_fail};
 ghost use Rattle.serve_core.specs.Holds.{claims_at, holds_none, IsThere};
 ghost use Rattle.serve_core.specs.Sources.{shape_at};
-ghost use Rattle.serve_shared.specs.Steps.{IsRunning, closed, RunsOut, Refuses, Finds, Enters, Takes};
+ghost use Rattle.serve_shared.specs.Steps.{IsRunning, closed, RunsOut, RunsOutFirst, Refuses, Finds, Enters, Takes};
 
 use fv_plane::{Frame, FrameMemory, Key};
 use inst_table::{Held, Lease};
@@ -163,7 +163,7 @@ pub(crate) fn take<I: Held>(
 ) -> Result<Option<Key>, WindowStop>
     requires { IsRunning number core.old }
     ensures ok { IfOk result (λ key. Takes core.old number key core.new) }
-    ensures err { IfErr result (λ stop. RunsOut number stop core.old core.new) }
+    ensures err { IfErr result (λ stop. RunsOutFirst number stop core.old core.new) }
 {
     let node = core.root();
     match core.take_output(number) {

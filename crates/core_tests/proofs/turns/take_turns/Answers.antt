@@ -11,4 +11,4 @@ pushes n note before after false mine is = subst (AddsOnly (λ e. e.by) n before
 
 pub leave-seat-requires-clause-added : goal.leave-seat-requires-clause-added
 leave-seat-requires-clause-added g c = rw c.enter-value.ensures.turn
-    (pushes c.loop-turn.seat.number (record { by = c.number-number.result; turn = c.loop-turn.turn }) _ _ (is_ok c.push.result) (c.number-number.ensures.number ∙ sym (ap (λ s. s.number) c.loop-turn.invariant)) c.push.ensures.items)
+    (pushes c.meet-seat.result.number (record { by = c.number-number.result; turn = c.loop-turn.turn }) _ _ (is_ok c.push.result) (c.number-number.ensures.number ∙ (sym (ap (λ s. s.number) c.loop-turn.invariant) ∙ sym (ap (λ s. s.number) c.meet-seat.ensures))) c.push.ensures.items)
