@@ -1,6 +1,7 @@
 -- What the states of the code mean, in an expression.
-use Rattle.std.specs.Prelude.{◌≡◌, List, [], ◌∷◌, map, Result, IfOk}
+use Rattle.std.specs.Prelude.{◌≡◌, ◌<◌, ℕ, List, [], ◌∷◌, map, length, Result, IfOk, ⊤}
 use Rattle.avs_tree.specs.View.{expr_view, arg_view, method_call_view, step_view}
+use Rattle.avs_tree.specs.Lexeme.{Lexemes}
 use Rattle.avs_tree.specs.ExprMachine as x
 use Rattle.avs_frames.specs.declared.memory.OutOfMemory.{OutOfMemory}
 use Rattle.avs_frames.specs.declared.state.Callee.{Callee}
@@ -11,6 +12,8 @@ use Rattle.avs_frames.specs.declared.state.ExprState.{ExprState}
 use Rattle.avs_frames.specs.declared.state.ExprState.TheVariants as n
 use Rattle.avs_frames.specs.declared.state.ExprStep.{ExprStep}
 use Rattle.avs_frames.specs.declared.state.ExprStep.TheVariants as r
+use Rattle.avs_frames.specs.declared.state.ExprTurn.{ExprTurn}
+use Rattle.avs_frames.specs.declared.state.ExprTurn.TheVariants.{Does, Again}
 use Rattle.avs_frames.specs.declared.state.Closing.{Closing}
 use Rattle.avs_frames.specs.declared.state.Closing.TheVariants as g
 
@@ -53,6 +56,20 @@ expr_step_view (r.Leaves e) = x.leaves (expr_view e.value)
 -- The code makes this step, unless memory runs out.
 abbrev pub Makes : Result ExprStep OutOfMemory → x.ExprStep → Type 0
 Makes result step = IfOk result (λ made. expr_step_view made ≡ step)
+
+-- What the token does in the end, which is these tokens' first: where it is read again, what it does to what is left.
+abbrev pub turn_view : Lexemes → ExprTurn → x.ExprStep
+turn_view ts (Does step) = expr_step_view step
+turn_view ts (Again k e fs) = x.after k (expr_view e.value) (opened_view fs.items) ts
+
+-- The code makes a turn of this step, unless memory runs out.
+abbrev pub Turns : Result ExprTurn OutOfMemory → Lexemes → x.ExprStep → Type 0
+Turns result ts step = IfOk result (λ made. turn_view ts made ≡ step)
+
+-- Where the token is read again, fewer than these are open.
+abbrev pub IsFewer : ℕ → ExprTurn → Type 0
+IsFewer n (Does step) = ⊤
+IsFewer n (Again k e fs) = length fs.items < n
 
 abbrev pub closing_view : Closing → x.Closing
 closing_view g.Refused = x.no_closing

@@ -1,8 +1,8 @@
 // What a token does to an expression.
-ghost use Rattle.std.specs.Prelude.{◌≡◌, ◌∷◌, Some, map, IfOk};
+ghost use Rattle.std.specs.Prelude.{◌≡◌, ◌∷◌, Some, map, length, IfOk};
 ghost use Rattle.avs_tree.specs.View.{expr_view, method_call_view};
 ghost use Rattle.avs_tree.specs.ExprMachine as machine;
-ghost use Rattle.avs_frames.specs.ExprViews.{Makes, callee_view, open_view, opened_view, expr_state_view};
+ghost use Rattle.avs_frames.specs.ExprViews.{Makes, Turns, IsFewer, callee_view, open_view, opened_view, expr_state_view};
 ghost use Rattle.avs_frames.specs.Seen.{seen};
 ghost use Rattle.avs_frames.specs.declared.state.ExprState.TheVariants.{DotRead, MethodRead};
 
@@ -10,8 +10,8 @@ use crate::closing::{called, close_innermost, primary};
 use crate::memory::{Outcome, boxed, pushed};
 use crate::seen::Seen;
 use crate::state::{
-    COMPARISON, Callee, Closing, EXPRESSION, ExprState, ExprStep, Named, Open, OperatorAt, POSTFIX,
-    PRIMARY, Receiver,
+    COMPARISON, Callee, Closing, EXPRESSION, ExprState, ExprStep, ExprTurn, Named, Open,
+    OperatorAt, POSTFIX, PRIMARY, Receiver,
 };
 use avs_tree::{DotCall, Expr, Keyword, Operator, Punctuation, Symbol};
 use std::alloc::Global;
@@ -112,44 +112,43 @@ fn hole(opened: &[Open]) -> u8
     }
 }
 
-// After an expression of this precedence: the token continues it, or it closes what is open.
+// After an expression of this precedence: the token continues it, or it closes what is open innermost.
 #[tactic(auto, using(crate::proofs::OpenLemmas::of_opened))]
 fn after(
-    mut precedence: u8,
-    mut expr: Box<Expr>,
+    precedence: u8,
+    expr: Box<Expr>,
     mut opened: Vec<Open>,
     token: Seen<'_>,
-) -> Outcome<ExprStep>
-    ensures { Makes result (machine.after precedence (expr_view expr.value) (opened_view opened.items) (seen token.entry)) }
+) -> Outcome<ExprTurn>
+    ensures turn { Turns result (seen token.entry)
+        (machine.after precedence (expr_view expr.value) (opened_view opened.items) (seen token.entry)) }
+    ensures fewer { IfOk result (IsFewer (length opened.items)) }
 {
-    while !token.continues(precedence, hole(&opened)) {
-        let innermost = match opened.pop() {
-            Some(innermost) => innermost,
-            None => return Ok(ExprStep::Leaves(expr)),
-        };
-        match close_innermost(innermost, expr, token) {
-            Ok(Closing::Closed(made, whole)) => {
-                precedence = made;
-                expr = whole;
-                continue;
-            }
-            Ok(Closing::Reopened(innermost)) => return add_open(opened, innermost),
-            Ok(Closing::Taken(state)) => return Ok(ExprStep::Keeps(state, opened)),
-            Ok(Closing::Refused) => return Ok(ExprStep::Refused),
-            Err(error) => return Err(error),
-        }
+    if token.continues(precedence, hole(&opened)) {
+        return Ok(ExprTurn::Does(grow(expr, opened, token)?));
     }
-    grow(expr, opened, token)
+    let innermost = match opened.pop() {
+        Some(innermost) => innermost,
+        None => return Ok(ExprTurn::Does(ExprStep::Leaves(expr))),
+    };
+    match close_innermost(innermost, expr, token) {
+        Ok(Closing::Closed(made, whole)) => Ok(ExprTurn::Again(made, whole, opened)),
+        Ok(Closing::Reopened(innermost)) => Ok(ExprTurn::Does(add_open(opened, innermost)?)),
+        Ok(Closing::Taken(state)) => Ok(ExprTurn::Does(ExprStep::Keeps(state, opened))),
+        Ok(Closing::Refused) => Ok(ExprTurn::Does(ExprStep::Refused)),
+        Err(error) => Err(error),
+    }
 }
 
 // After a name.
-fn after_name(called: Named, opened: Vec<Open>, token: Seen<'_>) -> Outcome<ExprStep>
-    ensures { Makes result (machine.expr_step (machine.name_read called.name called.line)
+fn after_name(called: Named, opened: Vec<Open>, token: Seen<'_>) -> Outcome<ExprTurn>
+    ensures turn { Turns result (seen token.entry) (machine.expr_step (machine.name_read called.name called.line)
         (opened_view opened.items) (seen token.entry)) }
+    ensures fewer { IfOk result (IsFewer (length opened.items)) }
 {
     if token.is(Punctuation::LeftParen) {
         let state = ExprState::ArgsOpened(Callee::Call(called));
-        return Ok(ExprStep::Keeps(state, opened));
+        return Ok(ExprTurn::Does(ExprStep::Keeps(state, opened)));
     }
     let Named { name, line } = called;
     match boxed(token.alloc, Expr::Name { name, line }) {
@@ -192,12 +191,13 @@ fn method_name(receiver: Receiver, opened: Vec<Open>, token: Seen<'_>) -> Outcom
 }
 
 // After method calls.
-fn after_calls(receiver: Receiver, opened: Vec<Open>, token: Seen<'_>) -> Outcome<ExprStep>
-    ensures { Makes result (machine.after_calls (expr_view receiver.first.value)
+fn after_calls(receiver: Receiver, opened: Vec<Open>, token: Seen<'_>) -> Outcome<ExprTurn>
+    ensures turn { Turns result (seen token.entry) (machine.after_calls (expr_view receiver.first.value)
         (map method_call_view receiver.calls.items) (opened_view opened.items) (seen token.entry)) }
+    ensures fewer { IfOk result (IsFewer (length opened.items)) }
 {
     if token.is(Punctuation::Dot) {
-        return Ok(ExprStep::Keeps(ExprState::DotRead(receiver), opened));
+        return Ok(ExprTurn::Does(ExprStep::Keeps(ExprState::DotRead(receiver), opened)));
     }
     let Receiver { first, calls } = receiver;
     match boxed(token.alloc, Expr::Dots { first, calls }) {
@@ -212,13 +212,14 @@ fn after_method(
     method: Named,
     opened: Vec<Open>,
     token: Seen<'_>,
-) -> Outcome<ExprStep>
-    ensures { Makes result (machine.expr_step (expr_state_view (MethodRead receiver method))
+) -> Outcome<ExprTurn>
+    ensures turn { Turns result (seen token.entry) (machine.expr_step (expr_state_view (MethodRead receiver method))
         (opened_view opened.items) (seen token.entry)) }
+    ensures fewer { IfOk result (IsFewer (length opened.items)) }
 {
     if token.is(Punctuation::LeftParen) {
         let state = ExprState::ArgsOpened(Callee::Method(receiver, method));
-        return Ok(ExprStep::Keeps(state, opened));
+        return Ok(ExprTurn::Does(ExprStep::Keeps(state, opened)));
     }
     let Named { name, line } = method;
     let args = None;
@@ -228,16 +229,20 @@ fn after_method(
     }
 }
 
-/// What the token does to an expression.
-pub fn expr_step(state: ExprState, opened: Vec<Open>, token: Seen<'_>) -> Outcome<ExprStep>
-    ensures { Makes result (machine.expr_step (expr_state_view state) (opened_view opened.items) (seen token.entry)) }
+/// What a turn does to an expression: what the token does, or it closes one of what is open.
+pub fn expr_step(state: ExprState, opened: Vec<Open>, token: Seen<'_>) -> Outcome<ExprTurn>
+    ensures turn { Turns result (seen token.entry)
+        (machine.expr_step (expr_state_view state) (opened_view opened.items) (seen token.entry)) }
+    ensures fewer { IfOk result (IsFewer (length opened.items)) }
 {
     match state {
-        ExprState::OperandNext => operand(opened, token),
+        ExprState::OperandNext => Ok(ExprTurn::Does(operand(opened, token)?)),
         ExprState::ValueRead(precedence, expr) => after(precedence, expr, opened, token),
         ExprState::NameRead(name) => after_name(name, opened, token),
-        ExprState::ArgsOpened(callee) => first_argument(callee, opened, token),
-        ExprState::DotRead(receiver) => method_name(receiver, opened, token),
+        ExprState::ArgsOpened(callee) => Ok(ExprTurn::Does(first_argument(callee, opened, token)?)),
+        ExprState::DotRead(receiver) => {
+            Ok(ExprTurn::Does(method_name(receiver, opened, token)?))
+        }
         ExprState::MethodRead(receiver, name) => after_method(receiver, name, opened, token),
         ExprState::CallsRead(receiver) => after_calls(receiver, opened, token),
     }

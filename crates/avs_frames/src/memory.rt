@@ -4,22 +4,26 @@ ghost use Rattle.std.specs.Prelude.{◌≡◌, ◌∷◌, ◌++◌, [], IfOk};
 use avs_tree::Expr;
 use std::alloc::{AllocError, AllocFailed, Global};
 
-/// Memory ran out.
-#[derive(Clone, Copy, Debug)]
-pub struct OutOfMemory;
+/// Memory ran out. It is made only of what an allocation answered, so no fault can be called this by mistake.
+#[derive(Clone, Copy)]
+pub struct OutOfMemory {
+    _refused: AllocError,
+}
 
 /// What is made, unless memory runs out.
 pub type Outcome<T> = Result<T, OutOfMemory>;
 
 impl From<AllocError> for OutOfMemory {
-    fn from(_: AllocError) -> OutOfMemory {
-        OutOfMemory
+    fn from(refused: AllocError) -> OutOfMemory {
+        OutOfMemory { _refused: refused }
     }
 }
 
 impl<T: Drop> From<AllocFailed<T>> for OutOfMemory {
-    fn from(_: AllocFailed<T>) -> OutOfMemory {
-        OutOfMemory
+    fn from(refused: AllocFailed<T>) -> OutOfMemory {
+        OutOfMemory {
+            _refused: AllocError::from(refused),
+        }
     }
 }
 

@@ -100,6 +100,15 @@ pub enum ExprStep {
     Leaves(Box<Expr>),
 }
 
+/// What a turn does to an expression.
+pub enum ExprTurn {
+    /// What the token does.
+    Does(ExprStep),
+    /// What was open innermost ends before the token, which is read again. This expression of this precedence is read, and
+    /// what else is open is open still.
+    Again(u8, Box<Expr>, Vec<Open>),
+}
+
 /// What a token does to what is open innermost, after an expression in it.
 pub enum Closing {
     /// The token cannot stand there.

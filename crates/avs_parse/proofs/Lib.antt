@@ -1,5 +1,6 @@
 pub mod RowLemmas
 pub mod LevelLemmas
+pub mod OpenLemmas
 pub mod TurnLemmas
 pub mod NumberLemmas
 pub mod PlaceLemmas

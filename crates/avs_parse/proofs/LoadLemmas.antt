@@ -3,7 +3,9 @@ use Rattle.std.proofs.Common.{◌≡◌, ℕ, zero, suc, ◌-◌, ◌<◌, ◌�
 use Rattle.avs_lex.specs.declared.fault.LexKind.{LexKind}
 use Rattle.avs_lex.specs.declared.token.Token.{Token}
 use Rattle.avs_lex.specs.Characters.{Text}
-use Rattle.avs_lex.specs.Tokens.{Tokens, LexFault}
+use Rattle.avs_lex.specs.Tokens.{Tokens, LexFault, IsFault}
+use Rattle.avs_lex.specs.declared.fault.LexError.{LexError}
+use Rattle.avs_lex.specs.declared.fault.LexError.TheVariants as l
 use Rattle.avs_tree.specs.Lexeme as x
 use Rattle.avs_tree.specs.Lexeme.{Lexemes, lexemes}
 use Rattle.avs_tree.specs.Tree.{Script}
@@ -13,6 +15,10 @@ use Rattle.avs_tree.specs.Place.{Verdict, accepts, stops, too_deep, verdict, Sto
 use Rattle.avs_tree.proofs.CallerLemmas.{exact, accepted}
 use Rattle.avs_parse.specs.TokensOf.{Reading, tokens_of}
 use Rattle.avs_parse.specs.Load.{last_line, line_at, tree_by, script_by, script_of}
+use Rattle.avs_parse.specs.Loads.{Loads, of_tokens, of_text}
+use Rattle.avs_parse.specs.Place.{TellsPlace, TellsLine}
+use Rattle.avs_parse.specs.declared.fault.ParseError.{ParseError}
+use Rattle.avs_parse.specs.declared.fault.ParseError.TheVariants as p
 use Rattle.avs_parse.specs.Laws.{HasScript, HasPlace, ScriptIsFound, FirstFaultIsTold, SyntaxIsTold, NestingIsTold}
 use Rattle.avs_parse.proofs.TokenLemmas.{Has, reading_has, tokens_are, fault_is}
 use Rattle.avs_parse.proofs.PlaceLemmas.{stop_some, deep_some, verdict_stop, verdict_deep, tokens_told}
@@ -48,6 +54,17 @@ nesting_is text tokens token line are deep line_is =
     let ts = lexemes text tokens in
     let left = length ts - token in
     by_verdict text tokens (too_deep left) are (verdict_deep ts left (tokens_told text tokens are) deep) ∙ ap (λ z. Err (nests z)) (line_of_place ts left token line refl ((deep_some ts left deep).0) line_is)
+
+-- ---- what the code answers
+
+pub loads_tokens : (text : Text) (tokens : List Token) → Tokens text tokens → (fault : ParseError) → TellsPlace (lexemes text tokens) fault → TellsLine (lexemes text tokens) fault → Loads (script_of text) (Err (of_tokens fault))
+loads_tokens text tokens are (p.Syntax token line) place line_is = syntax_is text tokens token line are place line_is
+loads_tokens text tokens are (p.NestLimit token line) place line_is = nesting_is text tokens token line are place line_is
+loads_tokens text tokens are p.Memory place line_is = tt
+
+pub loads_text : (text : Text) (fault : LexError) → IsFault text fault → Loads (script_of text) (Err (of_text fault))
+loads_text text (l.Fault kind line) is = lexical_fault text kind line is
+loads_text text l.Memory is = tt
 
 -- ---- what the function gives is what the text has
 

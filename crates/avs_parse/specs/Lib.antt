@@ -1,5 +1,6 @@
 pub mod Place
 pub mod ScriptViews
+pub mod Turns
 pub mod VerdictView
 pub mod TokensOf
 pub mod Load

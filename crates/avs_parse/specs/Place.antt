@@ -25,3 +25,8 @@ abbrev pub HasNoTree : Lexemes → ParseError → Type 0
 HasNoTree ts (Syntax token line) = (tree : Script) → HasTree ts tree → ⊥
 HasNoTree ts (NestLimit token line) = (tree : Script) → HasTree ts tree → ⊥
 HasNoTree ts Memory = ⊤
+
+-- a fault of the tokens, and not out of memory
+abbrev pub IsNamed : ParseError → Type 0
+IsNamed Memory = ⊥
+IsNamed _ = ⊤

@@ -1,11 +1,14 @@
 // The ends of statements, of blocks and of the script.
-ghost use Rattle.std.specs.Prelude.{◌≡◌, ◌∷◌, ◌++◌, [], Some, map, IfOk};
+ghost use Rattle.std.specs.Prelude.{◌≡◌, ◌∷◌, ◌++◌, [], Some, map, Ok, Err, IfOk, MatchResult};
 ghost use Rattle.avs_tree.specs.View.{expr_view, arm_view, function_view, statement_view, block_view};
 ghost use Rattle.avs_tree.specs.Machine as machine;
 ghost use Rattle.avs_parse.specs.ScriptViews.{Steps, ended_view, inner, levels_view, owner_view, outermost_view, statement_state_view, step_view};
+ghost use Rattle.avs_parse.specs.declared.state.Turn.TheVariants.{Does};
 
 use crate::around::{Around, Levels};
-use crate::state::{Ended, OpenFunction, Owner, ScriptStep, Signature, State, StatementState};
+use crate::state::{
+    Ended, OpenFunction, Owner, ScriptStep, Signature, State, StatementState, Turn,
+};
 use avs_frames::{Outcome, Seen, pushed};
 use avs_tree::{Arm, Expr, Function, Punctuation, Statement, Symbol};
 use std::alloc::Global;
@@ -16,6 +19,16 @@ pub fn refused<T: Drop>(_read: T) -> ScriptStep
     ensures { step_view result ≡ machine.stuck }
 {
     ScriptStep::Refused
+}
+
+/// What the token does is the whole turn.
+pub fn did(step: Outcome<ScriptStep>) -> Outcome<Turn>
+    ensures { MatchResult step (λ made. result ≡ Ok (Does made)) (λ error. result ≡ Err error) }
+{
+    match step {
+        Ok(step) => Ok(Turn::Does(step)),
+        Err(error) => Err(error),
+    }
 }
 
 /// The script goes on with this in a statement.

@@ -1,7 +1,7 @@
 //! Scripts in the language of AviSynth+, from their tokens or their texts to their trees.
 //!
-//! `parse` reads one token a turn (`machine`) and keeps what is open on two stacks: what is open in an expression (`avs_frames`),
-//! and levels of braces. It answers the tree that the grammar gives of tokens (`HasTree` of `avs_tree`), or the exact token
+//! In a turn `parse` takes a token, or ends one thing that is open before it (`machine`), at most three turns a token. It keeps
+//! what is open on two stacks: what is open in an expression (`avs_frames`), and levels of braces. It answers the tree that the grammar gives of tokens (`HasTree` of `avs_tree`), or the exact token
 //! and line at which no script goes on or the nesting becomes too deep (`specs/Place.antt`). `load` answers what the function
 //! `script_of` gives of a text (`specs/Load.antt`), and `laws` says that `script_of` is what the definitions of tokens and of
 //! the grammar say.
@@ -25,4 +25,4 @@ pub use avs_tree::{
 };
 pub use fault::{LoadFault, ParseError};
 pub use loader::{Loaded, load};
-pub use script::parse;
+pub use script::{Parsed, parse, parse_in_turns};

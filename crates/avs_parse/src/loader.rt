@@ -3,7 +3,7 @@ ghost use Rattle.std.specs.Prelude.{◌≡◌, ◌<◌, ◌-◌, ◌^◌, length
 ghost use Rattle.avs_lex.specs.TokenList.{IsTokenList};
 ghost use Rattle.avs_lex.specs.Tokens.{Tokens};
 ghost use Rattle.avs_parse.specs.Load.{script_of, last_line};
-ghost use Rattle.avs_parse.specs.Loads.{Loads};
+ghost use Rattle.avs_parse.specs.Loads.{Loads, of_text, of_tokens};
 
 use crate::fault::{LoadFault, ParseError};
 use crate::script::parse;
@@ -28,6 +28,27 @@ fn last_line(tokens: &[Token]) -> u32
     }
 }
 
+// A fault of the tokens of a text.
+fn fault_of_tokens(fault: ParseError) -> LoadFault
+    ensures { result ≡ of_tokens fault }
+{
+    match fault {
+        ParseError::Syntax { token: _, line } => LoadFault::Syntax { line },
+        ParseError::NestLimit { token: _, line } => LoadFault::NestLimit { line },
+        ParseError::Memory => LoadFault::Memory,
+    }
+}
+
+// A lexical fault of a text.
+fn fault_of_text(fault: LexError) -> LoadFault
+    ensures { result ≡ of_text fault }
+{
+    match fault {
+        LexError::Fault { kind, line } => LoadFault::Lex { kind, line },
+        LexError::Memory => LoadFault::Memory,
+    }
+}
+
 // The tree of a text with these tokens, or the first fault of them.
 #[tactic(auto, using(crate::proofs::LoadLemmas::tree_is))]
 fn tree_of(alloc: Global, text: &str, tokens: &[Token]) -> Result<Loaded, LoadFault>
@@ -40,21 +61,17 @@ fn tree_of(alloc: Global, text: &str, tokens: &[Token]) -> Result<Loaded, LoadFa
             let last_line = last_line(tokens);
             Ok(Loaded { script, last_line })
         }
-        Err(ParseError::Syntax { token: _, line }) => Err(LoadFault::Syntax { line }),
-        Err(ParseError::NestLimit { token: _, line }) => Err(LoadFault::NestLimit { line }),
-        Err(ParseError::Memory) => Err(LoadFault::Memory),
+        Err(fault) => Err(fault_of_tokens(fault)),
     }
 }
 
 /// The tree of a text, or its first fault.
-#[tactic(auto, using(crate::proofs::LoadLemmas::lexical_fault))]
 pub fn load(alloc: Global, text: &str) -> Result<Loaded, LoadFault>
     requires { length text.now < 2 ^ 32 - 1 }
     ensures { Loads (script_of text.now) result }
 {
     match lex(alloc, text) {
         Ok(tokens) => tree_of(alloc, text, &tokens),
-        Err(LexError::Fault { kind, line }) => Err(LoadFault::Lex { kind, line }),
-        Err(LexError::Memory) => Err(LoadFault::Memory),
+        Err(fault) => Err(fault_of_text(fault)),
     }
 }

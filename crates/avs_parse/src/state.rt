@@ -144,3 +144,11 @@ pub enum ScriptStep {
     /// It ends the script.
     Whole(Script),
 }
+
+/// What a turn does to a script.
+pub enum Turn {
+    /// What the token does.
+    Does(ScriptStep),
+    /// Something that was open in an expression ends before the token, which is read again.
+    Again(State),
+}

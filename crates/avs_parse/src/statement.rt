@@ -1,5 +1,5 @@
 // What a token does to a statement.
-ghost use Rattle.std.specs.Prelude.{◌≡◌, ◌∷◌, ◌++◌, [], Some, map, if◌then◌else◌};
+ghost use Rattle.std.specs.Prelude.{◌≡◌, ◌∷◌, ◌++◌, [], Some, map, length, IfOk, if◌then◌else◌};
 ghost use Rattle.avs_tree.specs.View.{expr_view, arm_view, statement_view};
 ghost use Rattle.avs_tree.specs.declared.symbol.Punctuation.TheVariants.{RightParen};
 ghost use Rattle.avs_tree.specs.Next.{is_punctuation};
@@ -7,12 +7,15 @@ ghost use Rattle.avs_tree.specs.ExprMachine as expr;
 ghost use Rattle.avs_tree.specs.Machine as machine;
 ghost use Rattle.avs_frames.specs.ExprViews.{expr_state_view, opened_view};
 ghost use Rattle.avs_parse.specs.ScriptViews.{Steps, ended_view, inner, levels_view, owner_view, statement_state_view, step_view, use_view};
+ghost use Rattle.avs_parse.specs.Turns.{Turns, IsFewer, open_here};
 ghost use Rattle.avs_frames.specs.Seen.{seen};
 
 use crate::around::Around;
-use crate::block::{done, goes, refused};
-use crate::state::{Ended, ForHead, HeadState, Owner, ScriptStep, State, StatementState, Use};
-use avs_frames::{ExprState, ExprStep, Open, Outcome, Seen, expr_step, operand};
+use crate::block::{did, done, goes, refused};
+use crate::state::{
+    Ended, ForHead, HeadState, Owner, ScriptStep, State, StatementState, Turn, Use,
+};
+use avs_frames::{ExprState, ExprStep, ExprTurn, Open, Outcome, Seen, expr_step, operand};
 use avs_tree::{Arm, Expr, Keyword, Punctuation, Symbol};
 use fv_io::Text;
 use std::alloc::Global;
@@ -199,17 +202,25 @@ fn in_expression(
     opened: Vec<Open>,
     around: Around,
     token: Seen<'_>,
-) -> Outcome<ScriptStep>
-    ensures { Steps result (inner around (machine.advance_statement
+) -> Outcome<Turn>
+    ensures turn { Turns result (seen token.entry) (inner around (machine.advance_statement
         (machine.in_expression (use_view purpose) (expr_state_view state) (opened_view opened.items))) (seen token.entry)) }
+    ensures fewer { IfOk result (IsFewer (length opened.items)) }
 {
     match expr_step(state, opened, token) {
-        Ok(ExprStep::Refused) => Ok(refused((purpose, around))),
-        Ok(ExprStep::Keeps(state, opened)) => {
+        Ok(ExprTurn::Does(ExprStep::Refused)) => Ok(Turn::Does(refused((purpose, around)))),
+        Ok(ExprTurn::Does(ExprStep::Keeps(state, opened))) => {
             let here = StatementState::InExpression(purpose, state, opened);
-            Ok(goes(here, around))
+            Ok(Turn::Does(goes(here, around)))
         }
-        Ok(ExprStep::Leaves(expr)) => after_expression(purpose, expr, around, token),
+        Ok(ExprTurn::Does(ExprStep::Leaves(expr))) => {
+            did(after_expression(purpose, expr, around, token))
+        }
+        Ok(ExprTurn::Again(precedence, expr, opened)) => {
+            let state = ExprState::ValueRead(precedence, expr);
+            let here = StatementState::InExpression(purpose, state, opened);
+            Ok(Turn::Again(State::Statement(here, around)))
+        }
         Err(error) => {
             // Dropped in place, each of its parts would be a step of this proof.
             drop(purpose);
@@ -301,33 +312,40 @@ fn for_parenthesis(around: Around, token: Seen<'_>) -> ScriptStep
     goes(StatementState::ForOpened, around)
 }
 
-/// What the token does to a statement.
-pub fn advance_statement(
-    here: StatementState,
-    around: Around,
-    token: Seen<'_>,
-) -> Outcome<ScriptStep>
-    ensures { Steps result (inner around (machine.advance_statement (statement_state_view here)) (seen token.entry)) }
+/// What a turn does to a statement.
+pub fn advance_statement(here: StatementState, around: Around, token: Seen<'_>) -> Outcome<Turn>
+    ensures turn { Turns result (seen token.entry)
+        (inner around (machine.advance_statement (statement_state_view here)) (seen token.entry)) }
+    ensures fewer { IfOk result (IsFewer (open_here here)) }
 {
     match here {
-        StatementState::StatementNext => statement(around, token),
+        StatementState::StatementNext => did(statement(around, token)),
         StatementState::InExpression(purpose, state, opened) => {
             in_expression(purpose, state, opened, around, token)
         }
-        StatementState::ParenthesisNext(purpose) => {
-            Ok(expression_after(Punctuation::LeftParen, purpose, around, token))
-        }
-        StatementState::BracesNext(owner) => body(owner, around, token),
-        StatementState::AfterArm(arms) => after_arm(arms, around, token),
-        StatementState::AfterElse(arms) => after_else(arms, around, token),
-        StatementState::AfterGlobal => global_name(around, token),
-        StatementState::AfterGlobalName(name) => {
-            Ok(expression_after(Punctuation::Assign, Use::Global(name), around, token))
-        }
-        StatementState::AfterFor => Ok(for_parenthesis(around, token)),
-        StatementState::ForOpened => for_name(around, token),
-        StatementState::AfterForName(name) => {
-            Ok(expression_after(Punctuation::Assign, Use::First(name), around, token))
-        }
+        StatementState::ParenthesisNext(purpose) => Ok(Turn::Does(expression_after(
+            Punctuation::LeftParen,
+            purpose,
+            around,
+            token,
+        ))),
+        StatementState::BracesNext(owner) => did(body(owner, around, token)),
+        StatementState::AfterArm(arms) => did(after_arm(arms, around, token)),
+        StatementState::AfterElse(arms) => did(after_else(arms, around, token)),
+        StatementState::AfterGlobal => did(global_name(around, token)),
+        StatementState::AfterGlobalName(name) => Ok(Turn::Does(expression_after(
+            Punctuation::Assign,
+            Use::Global(name),
+            around,
+            token,
+        ))),
+        StatementState::AfterFor => Ok(Turn::Does(for_parenthesis(around, token))),
+        StatementState::ForOpened => did(for_name(around, token)),
+        StatementState::AfterForName(name) => Ok(Turn::Does(expression_after(
+            Punctuation::Assign,
+            Use::First(name),
+            around,
+            token,
+        ))),
     }
 }
