@@ -37,6 +37,7 @@ runs bench/replay.py --quick --rounds 1 "$AVSSERVE"
 runs bench/journal_stats.py "$room/journal.txt" --info "$room/info.txt"
 runs bench/journal_stats.py "$room/journal.txt" --window 0
 runs tests/out_of_memory.sh --step 4 --only "session both.avs -"
+runs bench/gate_times.py --most 1 true
 if [ -d crates/fv_io/out/incremental ]; then
     runs bench/check_times.py fv_io 3
 else
