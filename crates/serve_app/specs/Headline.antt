@@ -270,7 +270,7 @@ module _ {F S K E : Type 0} (files : of_files.Ghosts F S) (sink : Ghosts K) (lin
     pub asked : (command : Command) → command_in words ≡ Some command → CommandEnds pool_size journal command status
     pub refused : command_in words ≡ None → IsRefused status
     pub usage : status ≡ 1 → command_in words ≡ None
-    -- a write failed only where that is the status, and none of what is told
+    -- no write to the output failed where the status isn't that of one, and none to standard error where all went well
     pub unfailed : (status ≡ 5 → ⊥) → sink.faults new ≡ sink.faults out
     pub unfailed_lines : status ≡ 0 → lines.faults said ≡ lines.faults err
     -- each file that was fetched is closed, and no count of faults falls
