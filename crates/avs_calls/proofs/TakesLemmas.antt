@@ -1,6 +1,6 @@
 -- What takes clips is no source.
 use Rattle.std.proofs.Common.{◌≡◌, refl, ℕ, [], true, rules}
-use Rattle.clip_term.specs.ClipTerm.{Act, source, plain, time, space, joined, soft, fields, choice}
+use Rattle.clip_term.specs.Terms.{Act, source, plain, time, space, joined, soft, fields, choice}
 use Rattle.avs_meaning.specs.Arguments.{takes}
 use Rattle.avs_state.specs.Sources.{source_of}
 

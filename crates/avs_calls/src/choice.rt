@@ -4,7 +4,7 @@ ghost use Rattle.std.specs.Option.{unwrap_or};
 ghost use Rattle.avs_meaning.specs.Arguments as a;
 ghost use Rattle.avs_parse.specs.Load.{script_of};
 ghost use Rattle.avs_runtime.specs.Read as r;
-ghost use Rattle.avs_tree.specs.Words.{meaning_in};
+ghost use Rattle.avs_tree.specs.Lexeme.{meaning_in};
 ghost use Rattle.avs_calls.specs.Arguments.{Reads};
 
 use crate::arguments::text_at;

@@ -3,10 +3,10 @@ ghost use Rattle.std.specs.Prelude.{◌≡◌, ◌≤◌, IsTrue, pos, ◌-ℤ�
 ghost use Rattle.std.specs.Option.{unwrap_or};
 ghost use Rattle.avs_values.specs.Views.{bound_view, signature_view};
 ghost use Rattle.avs_meaning.specs.Arguments as a;
-ghost use Rattle.avs_meaning.specs.FilterRows as r;
+ghost use Rattle.avs_meaning.specs.Table as r;
 ghost use Rattle.avs_parse.specs.Load.{script_of};
 ghost use Rattle.clip_term.specs.Blank.{default_colour};
-ghost use Rattle.clip_term.specs.Texts.{channels_named};
+ghost use Rattle.clip_term.specs.Filters.{channels_named};
 ghost use Rattle.avs_calls.specs.Arguments.{Reads};
 
 use crate::arguments::{number, number_at, numbers_among, or_number, text_at};

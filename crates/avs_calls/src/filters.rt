@@ -2,9 +2,9 @@
 ghost use Rattle.std.specs.Prelude.{◌≡◌, ◌≤◌, OnOk};
 ghost use Rattle.avs_values.specs.Views.{bound_view};
 ghost use Rattle.avs_meaning.specs.Arguments as a;
-ghost use Rattle.avs_meaning.specs.FilterRows as r;
+ghost use Rattle.avs_meaning.specs.Table as r;
 ghost use Rattle.avs_meaning.specs.Filters as f;
-ghost use Rattle.avs_meaning.specs.Outside.{Outside};
+ghost use Rattle.avs_meaning.specs.State.{Outside};
 ghost use Rattle.avs_parse.specs.Load.{script_of};
 ghost use Rattle.avs_state.specs.Answers.{Gives};
 ghost use Rattle.avs_state.specs.Sources.{sources_of};

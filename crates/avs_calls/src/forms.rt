@@ -2,7 +2,7 @@
 ghost use Rattle.std.specs.Prelude.{◌≡◌, ◌∷◌, [], IfOk, map};
 ghost use Rattle.avs_values.specs.Functions as v;
 ghost use Rattle.avs_values.specs.Views.{signature_view};
-ghost use Rattle.avs_meaning.specs.Signatures as d;
+ghost use Rattle.avs_meaning.specs.Table as d;
 
 use avs_values::{Kind, Param, Signature};
 use std::alloc::{AllocError, Global};

@@ -1,7 +1,7 @@
 // The functions that need no state.
 ghost use Rattle.avs_values.specs.Functions as p;
 ghost use Rattle.avs_values.specs.Views.{bound_view};
-ghost use Rattle.avs_meaning.specs.Operators as m;
+ghost use Rattle.avs_meaning.specs.Expressions as m;
 ghost use Rattle.avs_state.specs.Answers.{Answers};
 
 use avs_meaning::EvalError;

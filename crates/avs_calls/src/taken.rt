@@ -1,7 +1,7 @@
 // What each built-in function takes.
 ghost use Rattle.std.specs.Prelude.{◌≡◌, map, IfOk};
 ghost use Rattle.avs_values.specs.Views.{signature_view};
-ghost use Rattle.avs_meaning.specs.Signatures as d;
+ghost use Rattle.avs_meaning.specs.Table as d;
 ghost use Rattle.avs_meaning.specs.Table.{signatures as taken};
 
 use crate::filter_rows::filter_signatures;

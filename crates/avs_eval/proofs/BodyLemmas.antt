@@ -1,16 +1,14 @@
 -- A text that is executed, by its parts.
 use Rattle.std.proofs.Common.{◌≡◌, ◌∙◌, refl, ap, ℕ, ◌<◌, nat_le, nat_eq, Bool, false, List, [], ◌∷◌, length, Result, Ok, Err, ◌≤◌, true, rules, arith}
-use Rattle.avs_tree.specs.Loaded.{Loaded, NoTree}
-use Rattle.avs_tree.specs.Tree.{Block}
-use Rattle.avs_values.specs.Outcome.{text_limit}
-use Rattle.avs_values.specs.Values.{Text}
+use Rattle.avs_tree.specs.Tree.{Loaded, NoTree, Block}
+use Rattle.avs_values.specs.Values.{text_limit, Text}
 use Rattle.avs_values.specs.declared.value.Value.{Value}
 use Rattle.avs_values.specs.declared.value.Value.TheVariants as v
 use Rattle.avs_parse.specs.Load.{script_of}
 use Rattle.avs_meaning.specs.Expressions as e
 use Rattle.avs_meaning.specs.Meaning.{below}
 use Rattle.avs_meaning.specs.State.{State, Outcome, Run, and_then, pure, fails}
-use Rattle.avs_meaning.specs.Texts.{loaded_by}
+use Rattle.avs_meaning.specs.Expressions.{loaded_by}
 use Rattle.avs_meaning.specs.declared.fault.ScriptKind.TheVariants as k
 use Rattle.avs_meaning.specs.declared.stop.EvalError.{EvalError}
 use Rattle.avs_state.specs.Answers.{Fails}

@@ -8,12 +8,10 @@ use Rattle.avs_values.specs.declared.value.Value.TheVariants as v
 use Rattle.avs_meaning.proofs.DirectCalls.{apply_direct}
 use Rattle.avs_meaning.proofs.RangeArguments.{range_fits}
 use Rattle.avs_meaning.specs.Arguments.{is_filter_number, out_of_range}
-use Rattle.avs_meaning.specs.Calls.{Callee, builtin, takes, fit_or_last, unnamed}
-use Rattle.avs_meaning.specs.Context.{Context}
-use Rattle.avs_meaning.specs.Expressions.{apply, apply_by, called, direct, performed, ranged_by}
+use Rattle.avs_meaning.specs.Expressions.{Callee, builtin, takes, fit_or_last, unnamed, apply, apply_by, called, direct, performed, ranged_by}
+use Rattle.avs_meaning.specs.State.{Context, State, Outcome, and_then, ◌>>=◌, fails}
 use Rattle.avs_meaning.specs.Faults.{script}
 use Rattle.avs_meaning.specs.Filters.{ranged}
-use Rattle.avs_meaning.specs.State.{State, Outcome, and_then, ◌>>=◌, fails}
 use Rattle.avs_meaning.specs.declared.builtin.Builtin.TheVariants as b
 use Rattle.avs_meaning.specs.declared.fault.ScriptKind.{ScriptKind}
 use Rattle.avs_meaning.specs.declared.fault.ScriptKind.TheVariants as k

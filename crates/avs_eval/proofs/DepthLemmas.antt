@@ -3,7 +3,7 @@ use Rattle.std.proofs.Common.{◌≡◌, ap, ℕ, suc, ◌-◌, ◌<◌, arith}
 use Rattle.avs_tree.specs.Tree.{Block}
 use Rattle.avs_values.specs.Values.{Text}
 use Rattle.avs_meaning.specs.Meaning.{below, run}
-use Rattle.avs_meaning.specs.Outside.{Outside}
+use Rattle.avs_meaning.specs.State.{Outside}
 
 -- where calls may still nest
 pub below_is : (outside : Outside) (n : ℕ) (here : Text) (body : Block) → 0 < n → below outside n here body ≡ run outside (n - 1) here body

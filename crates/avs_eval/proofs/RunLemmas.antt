@@ -6,8 +6,7 @@ use Rattle.avs_values.specs.Values.{Text}
 use Rattle.avs_values.specs.declared.value.Value.{Value}
 use Rattle.avs_parse.specs.Load.{script_of}
 use Rattle.avs_meaning.specs.Meaning.{run, call_limit, clip_or_not, to_clip, executed, meaning_by}
-use Rattle.avs_meaning.specs.Outside.{Outside}
-use Rattle.avs_meaning.specs.State.{State, Outcome, Run, and_then}
+use Rattle.avs_meaning.specs.State.{Outside, State, Outcome, Run, and_then}
 use Rattle.avs_meaning.specs.declared.fault.FileKind.{FileKind}
 use Rattle.avs_meaning.specs.declared.fault.InputFault.{InputFault}
 use Rattle.avs_meaning.specs.declared.stop.EvalError.{EvalError}

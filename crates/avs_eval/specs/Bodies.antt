@@ -1,15 +1,13 @@
 -- The statements of a text, once its functions are added, and the text of `Eval`.
 use Rattle.std.specs.Prelude.{ℕ, [], ◌∷◌, Result}
-use Rattle.avs_tree.specs.Loaded.{Loaded, NoTree}
-use Rattle.avs_tree.specs.Tree.{Block}
+use Rattle.avs_tree.specs.Tree.{Loaded, NoTree, Block}
 use Rattle.avs_tree.specs.View.{block_view}
 use Rattle.avs_values.specs.Values.{Text}
 use Rattle.avs_values.specs.declared.value.Value.{Value}
 use Rattle.avs_values.specs.declared.value.Value.TheVariants as v
-use Rattle.avs_meaning.specs.Context.{Context}
+use Rattle.avs_meaning.specs.State.{Context, Run, ◌>>=◌, pure}
 use Rattle.avs_meaning.specs.Expressions as e
-use Rattle.avs_meaning.specs.State.{Run, ◌>>=◌, pure}
-use Rattle.avs_meaning.specs.Texts.{loaded_by}
+use Rattle.avs_meaning.specs.Expressions.{loaded_by}
 use Rattle.avs_eval.specs.declared.texts.Body.{Body}
 
 -- the statements and the last line of a text of this name

@@ -3,9 +3,8 @@ use Rattle.std.specs.Prelude.{ℕ, Result}
 use Rattle.fv_plane.specs.declared.format.Info.{Info}
 use Rattle.avs_values.specs.Values.{Text}
 use Rattle.avs_parse.specs.Load.{script_of}
-use Rattle.avs_meaning.specs.Context.{Context}
+use Rattle.avs_meaning.specs.State.{Context, Outside}
 use Rattle.avs_meaning.specs.Meaning.{context_of}
-use Rattle.avs_meaning.specs.Outside.{Outside}
 use Rattle.avs_meaning.specs.declared.fault.FileKind.{FileKind}
 use Rattle.avs_meaning.specs.declared.fault.InputFault.{InputFault}
 use Rattle.avs_state.specs.declared.host.Host as host

@@ -1,7 +1,7 @@
 // Calls of the script's functions, of built-in functions and of filters, by name and with bound arguments.
 ghost use Rattle.std.specs.Prelude.{◌≡◌, ◌<◌};
 ghost use Rattle.avs_values.specs.Views.{bound_view};
-ghost use Rattle.avs_meaning.specs.Calls as c;
+ghost use Rattle.avs_meaning.specs.Expressions as c;
 ghost use Rattle.avs_meaning.specs.Expressions as e;
 ghost use Rattle.avs_meaning.specs.Filters as f;
 ghost use Rattle.avs_state.specs.Hosts.{Told};

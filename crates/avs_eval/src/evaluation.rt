@@ -1,7 +1,7 @@
 // The public call `eval`: a text becomes the graph of its clip, or a stop.
 ghost use Rattle.std.specs.Prelude.{◌≡◌, ◌≤◌, ◌<◌, [], length, IsTrue, IfOk, OnOk};
 ghost use Rattle.avs_tree.specs.View.{block_view};
-ghost use Rattle.avs_values.specs.Outcome.{text_limit};
+ghost use Rattle.avs_values.specs.Values.{text_limit};
 ghost use Rattle.avs_meaning.specs.Meaning.{clip_or_not, executed, text_meaning, to_clip};
 ghost use Rattle.avs_state.specs.Answers.{Gives};
 ghost use Rattle.avs_state.specs.Hosts.{Told};

@@ -1,7 +1,7 @@
 // What `ApplyRange` is given, and the arguments of the function that it calls.
 ghost use Rattle.std.specs.Prelude.{◌≡◌, ◌∷◌, map, Ok, Err, IfOk, IfErr};
 ghost use Rattle.avs_values.specs.declared.value.Value.TheVariants as v;
-ghost use Rattle.avs_meaning.specs.Calls.{unnamed};
+ghost use Rattle.avs_meaning.specs.Expressions.{unnamed};
 ghost use Rattle.avs_eval.specs.Ranges as g;
 
 use avs_calls::filter_number;

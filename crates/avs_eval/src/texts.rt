@@ -1,7 +1,7 @@
 // Texts that a run executes beside the script: those of `Eval`, `Import` and functions.
 ghost use Rattle.std.specs.Prelude.{◌<◌, ◌≤◌, length};
 ghost use Rattle.avs_tree.specs.View.{block_view};
-ghost use Rattle.avs_values.specs.Outcome.{text_limit};
+ghost use Rattle.avs_values.specs.Values.{text_limit};
 ghost use Rattle.avs_parse.specs.Load.{script_of};
 ghost use Rattle.avs_meaning.specs.Expressions as e;
 ghost use Rattle.avs_meaning.specs.Meaning as m;

@@ -4,10 +4,9 @@ use Rattle.avs_tree.specs.Tree.{Expr}
 use Rattle.avs_tree.specs.declared.tree.Operator.{Operator}
 use Rattle.avs_values.specs.Values.{Text}
 use Rattle.avs_values.specs.declared.value.Value.{Value}
-use Rattle.avs_meaning.specs.Context.{Context}
+use Rattle.avs_meaning.specs.State.{Context, Run}
 use Rattle.avs_meaning.specs.Expressions.{value_of}
-use Rattle.avs_meaning.specs.Operators as o
-use Rattle.avs_meaning.specs.State.{Run}
+use Rattle.avs_meaning.specs.Expressions as o
 
 -- in the text of this name
 module _ (context : Context) (here : Text) where

@@ -2,7 +2,7 @@
 use Rattle.std.specs.Prelude.{ℕ, Option, option_map}
 use Rattle.avs_values.specs.Views.{bound_view}
 use Rattle.avs_values.specs.declared.binding.Bound.{Bound}
-use Rattle.avs_meaning.specs.Calls as m
+use Rattle.avs_meaning.specs.Expressions as m
 use Rattle.avs_state.specs.States.{defined_view}
 use Rattle.avs_expressions.specs.declared.callee.Callee.{Callee}
 use Rattle.avs_expressions.specs.declared.callee.Callee.TheVariants.{User, Builtin}

@@ -1,7 +1,7 @@
 // What a name calls, and what that takes.
 ghost use Rattle.std.specs.Prelude.{◌≡◌, [], map, IfOk, option_map};
 ghost use Rattle.avs_values.specs.Views.{signature_view};
-ghost use Rattle.avs_meaning.specs.Calls as m;
+ghost use Rattle.avs_meaning.specs.Expressions as m;
 ghost use Rattle.avs_state.specs.States.{state_of};
 ghost use Rattle.avs_expressions.specs.Views.{callee_view};
 
@@ -38,7 +38,7 @@ pub fn callee_of(
 }
 
 fn kind_of(word: TypeWord) -> Kind
-    ensures { result ≡ m.kind_of word }
+    ensures { result ≡ m.kind_of_word word }
 {
     match word {
         TypeWord::Clip => Kind::Clip,

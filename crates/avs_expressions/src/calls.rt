@@ -9,7 +9,7 @@ use fv_io::Text;
 pub trait Calls<H: Host> {
     ghost use Rattle.std.specs.Prelude.{◌≡◌};
     ghost use Rattle.avs_values.specs.Values.{Text as Name};
-    ghost use Rattle.avs_meaning.specs.Context.{Context};
+    ghost use Rattle.avs_meaning.specs.State.{Context};
     ghost use Rattle.avs_meaning.specs.Expressions as e;
     ghost use Rattle.avs_state.specs.Hosts.{Told};
     ghost use Rattle.avs_state.specs.Walks.{Keeps, stop_in};

@@ -1,7 +1,7 @@
 // The signature that a call's arguments fit, with `last` in front where they fit none as they are.
 ghost use Rattle.std.specs.Prelude.{◌≡◌, map, IfOk};
 ghost use Rattle.avs_values.specs.Views.{signature_view};
-ghost use Rattle.avs_meaning.specs.Calls as m;
+ghost use Rattle.avs_meaning.specs.Expressions as m;
 ghost use Rattle.avs_expressions.specs.Views.{fit_view};
 
 use avs_values::{Bound, Given, Signature, Value, bind};

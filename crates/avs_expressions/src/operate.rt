@@ -1,7 +1,7 @@
 // Operators.
 ghost use Rattle.std.specs.Prelude.{◌≡◌};
 ghost use Rattle.avs_values.specs.Operators as v;
-ghost use Rattle.avs_meaning.specs.Operators as m;
+ghost use Rattle.avs_meaning.specs.Expressions as m;
 ghost use Rattle.avs_state.specs.Answers.{Answers};
 ghost use Rattle.avs_state.specs.Walks.{Runs};
 

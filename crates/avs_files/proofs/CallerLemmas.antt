@@ -4,11 +4,11 @@ use Rattle.std.specs.FinMap.{get}
 use Rattle.fv_io.specs.World.{World}
 use Rattle.fv_io.specs.declared.source.Source.{Ghosts}
 use Rattle.fv_plane.specs.declared.format.Info.{Info}
-use Rattle.fv_plane.specs.Clip.{Clip}
+use Rattle.fv_plane.specs.Picture.{Clip}
 use Rattle.y4m_stream.specs.Stream.{Stream}
 use Rattle.y4m_stream.proofs.ReadingLemmas.{reads_one_way}
 use Rattle.seq_source.specs.FrameSource.{FrameSource, HasFrames}
-use Rattle.avs_meaning.specs.Outside.{clip_in}
+use Rattle.avs_meaning.specs.State.{clip_in}
 use Rattle.avs_meaning.specs.declared.state.SourceClip.{SourceClip}
 use Rattle.avs_meaning.proofs.StreamLemmas.{clips_are_streams}
 use Rattle.avs_files.specs.Opened.{IsFileOf, IsOpened, AreOpened}

@@ -6,15 +6,14 @@ use Rattle.std.proofs.lemmas.Str.{IsUtf8-from_is_utf8, is_utf8-from_IsUtf8}
 use Rattle.std.specs.Str.{is_utf8, IsUtf8}
 use Rattle.fv_io.specs.Faults.{HasRisen}
 use Rattle.fv_io.specs.Reading.{Fills}
-use Rattle.fv_plane.specs.Clip.{Clip}
-use Rattle.y4m_stream.specs.Index.{Indexed, Indexes, HasIndexFault}
-use Rattle.y4m_stream.specs.Stream.{Stream, HasFault}
+use Rattle.fv_plane.specs.Picture.{Clip}
+use Rattle.y4m_stream.specs.Stream.{Indexed, Indexes, HasIndexFault, Stream, HasFault}
 use Rattle.y4m_stream.specs.declared.fault.IndexFault.{IndexFault}
 use Rattle.y4m_stream.specs.declared.fault.IndexFault.TheVariants as of_index
 use Rattle.y4m_stream.specs.declared.fault.Y4mFault.{Y4mFault}
 use Rattle.y4m_stream.proofs.ReadingLemmas.{reads_one_way}
-use Rattle.avs_values.specs.Outcome.{text_limit}
-use Rattle.avs_meaning.specs.Outside.{clip_in, script_in}
+use Rattle.avs_values.specs.Values.{text_limit}
+use Rattle.avs_meaning.specs.State.{clip_in, script_in}
 use Rattle.avs_meaning.specs.declared.fault.FileKind.{FileKind}
 use Rattle.avs_meaning.specs.declared.fault.FileKind.TheVariants.{ScriptTooLong, NotUtf8}
 use Rattle.avs_meaning.specs.declared.fault.InputFault.TheVariants.{Y4m}

@@ -4,8 +4,8 @@ use Rattle.std.specs.FinMap.{get}
 use Rattle.fv_io.specs.World.{World}
 use Rattle.fv_io.specs.declared.source.Source.{Ghosts}
 use Rattle.seq_source.specs.FrameSource.{FrameSource}
-use Rattle.y4m_stream.specs.Index.{IsIndex}
-use Rattle.avs_meaning.specs.Outside.{clip_in}
+use Rattle.y4m_stream.specs.Stream.{IsIndex}
+use Rattle.avs_meaning.specs.State.{clip_in}
 use Rattle.avs_meaning.specs.declared.state.SourceClip.{SourceClip}
 use Rattle.avs_files.specs.Opened.{told_of, IsSourceOf, IsOpened, AreOpened}
 

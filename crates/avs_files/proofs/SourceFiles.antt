@@ -2,21 +2,18 @@
 use Rattle.std.proofs.Common.{◌≡◌, refl, ℕ, zero, suc, ℤ, List, [], ◌∷◌, ◌++◌, Bool, true, false, ◌&&◌, Option, Some, None, Result, Ok, Err, if◌then◌else◌, nat_le, nat_lt, length, slice_get, ◌+ℤ◌, map, nat_eq}
 use Rattle.fv_plane.specs.declared.format.Info.{Info}
 use Rattle.fv_plane.specs.Refusals.{first_fault}
-use Rattle.avs_tree.specs.Loaded.{Loaded, NoTree}
-use Rattle.avs_tree.specs.Tree.{Function, Expr, int, bool, str, name, call, method_calls, minus, not_, chain, compare, conditional, group, Args, no_args, arg, MethodCalls, no_method_calls, method, method_call, Steps, no_steps, step, Kind, global, assign, return, if_, while, for, value, Arms, no_arms, arm, Else, no_else, else_, Block, no_more, then_}
+use Rattle.avs_tree.specs.Tree.{Loaded, NoTree, Function, Expr, int, bool, str, name, call, method_calls, minus, not_, chain, compare, conditional, group, Args, no_args, arg, MethodCalls, no_method_calls, method, method_call, Steps, no_steps, step, Kind, global, assign, return, if_, while, for, value, Arms, no_arms, arm, Else, no_else, else_, Block, no_more, then_}
 use Rattle.avs_tree.specs.declared.tree.Operator.{Operator}
 use Rattle.avs_tree.specs.declared.tree.Operator.TheVariants as op
 use Rattle.avs_values.specs.Binding.{Bound}
-use Rattle.avs_values.specs.Outcome.{text_limit}
+use Rattle.avs_values.specs.Values.{text_limit, Text}
 use Rattle.avs_values.specs.Operators.{binary}
-use Rattle.avs_values.specs.Values.{Text}
 use Rattle.avs_values.specs.declared.value.Value.{Value}
 use Rattle.avs_values.specs.declared.value.Value.TheVariants as v
 use Rattle.clip_term.specs.Blank.{BlankArgs, blank_refusals, blank_info, colour_of, colour_given}
-use Rattle.clip_term.specs.ClipTerm.{Act, source, plain, time, space, soft, fields, choice}
-use Rattle.clip_term.specs.ClipTerm as act
+use Rattle.clip_term.specs.Terms.{Act, source, plain, time, space, soft, fields, choice, check}
+use Rattle.clip_term.specs.Terms as act
 use Rattle.clip_term.specs.Refusals.{nat_of}
-use Rattle.clip_term.specs.Terms.{check}
 use Rattle.clip_term.specs.declared.fault.FilterFault.{FilterFault}
 use Rattle.clip_term.specs.declared.filter.Filter.{Filter}
 use Rattle.clip_term.specs.declared.filter.Filter.TheVariants as f
@@ -26,25 +23,17 @@ use Rattle.clip_graph.specs.Plan.{Application, infos_among, sources_in}
 use Rattle.mt_modes.specs.Modes.{is_mode, mode_in, with_setting}
 use Rattle.avs_meaning.specs.Arguments as arguments
 use Rattle.avs_meaning.specs.Arguments.{Reading}
-use Rattle.avs_meaning.specs.Expressions.{told, Caller, ranged_by, call_within, script_by, known, called, may_nest, execute, eval_name, eval, import_, inside, applied, apply_by, apply, apply_last, named, value_of, givens_of, calls_from, steps_from}
-use Rattle.avs_meaning.specs.Context.{Context}
-use Rattle.avs_meaning.specs.Crews.{Numbers}
+use Rattle.avs_meaning.specs.Expressions.{told, Caller, ranged_by, call_within, script_by, known, called, may_nest, execute, eval_name, eval, import_, inside, applied, apply_by, apply, apply_last, named, value_of, givens_of, calls_from, steps_from, binary_of, placed, truth, truth_of, combined, joined, loaded_by, load, load_short, Callee, user, builtin, callee, takes, Fit, fit_or_last, unnamed, last_name}
+use Rattle.avs_meaning.specs.State.{Context, Numbers, Outside, State, Defined, Outcome, Run, and_then, fails, lifted, pay, spend, find, define_by, define, define_all, Env, variable, lookup}
 use Rattle.avs_meaning.specs.Faults.{Fault}
 use Rattle.avs_meaning.specs.Filters as filters
-use Rattle.avs_meaning.specs.Filters.{info_of, filtered}
-use Rattle.avs_meaning.specs.Operators.{binary_of, placed, truth, truth_of, combined, joined}
-use Rattle.avs_meaning.specs.Outside.{Outside}
-use Rattle.avs_meaning.specs.Settings.{is_forced, crew_of, set_mode, with_crew, prefetch}
-use Rattle.avs_meaning.specs.State.{State, Defined, Outcome, Run, and_then, fails, lifted, pay, spend, find, define_by, define, define_all, Env, variable, lookup}
-use Rattle.avs_meaning.specs.Texts.{loaded_by, load, load_short}
+use Rattle.avs_meaning.specs.Filters.{info_of, filtered, is_forced, crew_of, set_mode, with_crew, prefetch}
 use Rattle.avs_meaning.specs.Meaning.{run, call_limit, below, start, clip_or_not, to_clip, executed, Meaning, clip, wrong, meaning_by, script_meaning, meaning}
 use Rattle.avs_meaning.specs.declared.builtin.ClipFn.{ClipFn}
 use Rattle.avs_meaning.specs.declared.fault.InputFault.{InputFault}
 use Rattle.avs_meaning.specs.declared.fault.ScriptKind.TheVariants as k
 use Rattle.avs_values.specs.declared.binding.Given.{Given}
-use Rattle.avs_meaning.specs.Calls.{Callee, user, builtin, callee, takes, Fit, fit_or_last, unnamed, last_name}
-use Rattle.avs_meaning.specs.Loops.{Flow, on, back, go_on, turns, Turn, goes_to, stops, continues, advanced, advance, read_number, number_by, next_number, turned, turn, counts, is_past}
-use Rattle.avs_meaning.specs.Statements.{condition, step_of, bounds, sets_last, settled, chosen, ends_with, effect_of, arms_of, other_of, block_of, body_of}
+use Rattle.avs_meaning.specs.Statements.{Flow, on, back, go_on, turns, Turn, goes_to, stops, continues, advanced, advance, read_number, number_by, next_number, turned, turn, counts, is_past, condition, step_of, bounds, sets_last, settled, chosen, ends_with, effect_of, arms_of, other_of, block_of, body_of}
 use Rattle.avs_meaning.specs.declared.builtin.Builtin.TheVariants as b
 use Rattle.avs_meaning.specs.declared.fault.FileKind.{FileKind}
 

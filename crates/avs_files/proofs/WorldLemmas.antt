@@ -1,7 +1,7 @@
 -- What is answered of a file, by its bytes.
 use Rattle.std.proofs.Common.{◌≡◌, List, ℕ, Option, Some, Result}
 use Rattle.avs_values.specs.Values.{Text}
-use Rattle.avs_meaning.specs.Outside.{script_in}
+use Rattle.avs_meaning.specs.State.{script_in}
 use Rattle.avs_state.specs.Hosts.{TellsScript}
 use Rattle.avs_state.specs.declared.host.HostFault.{HostFault}
 

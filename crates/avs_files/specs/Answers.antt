@@ -3,9 +3,9 @@ use Rattle.std.specs.Prelude.{Option, Result, Ok, Err}
 use Rattle.std.specs.FinMap.{get}
 use Rattle.fv_io.specs.World.{World, InWorld}
 use Rattle.fv_plane.specs.declared.format.Info.{Info}
-use Rattle.y4m_stream.specs.Index.{Indexed}
+use Rattle.y4m_stream.specs.Stream.{Indexed}
 use Rattle.avs_values.specs.Values.{Text}
-use Rattle.avs_meaning.specs.Outside.{clip_in, script_in}
+use Rattle.avs_meaning.specs.State.{clip_in, script_in}
 use Rattle.avs_state.specs.Hosts.{TellsClip, TellsScript}
 use Rattle.avs_state.specs.declared.host.HostFault.{HostFault}
 

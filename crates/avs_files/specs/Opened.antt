@@ -3,14 +3,12 @@ use Rattle.std.specs.Prelude.{◌≡◌, ◌<◌, ℕ, List, length, drop, slice
 use Rattle.std.specs.FinMap.{get}
 use Rattle.fv_io.specs.World.{World, InWorld}
 use Rattle.fv_io.specs.declared.source.Source.{Ghosts}
-use Rattle.fv_plane.specs.Bytes.{picture_of}
-use Rattle.fv_plane.specs.Clip.{Clip, picture_at}
+use Rattle.fv_plane.specs.Picture.{picture_of, Clip, picture_at}
 use Rattle.fv_plane.specs.Format.{frame_bytes}
-use Rattle.y4m_stream.specs.Stream.{Stream}
-use Rattle.y4m_stream.specs.Index.{Indexed, IsIndex, offsets_from, line_len}
+use Rattle.y4m_stream.specs.Stream.{Stream, Indexed, IsIndex, offsets_from, line_len}
 use Rattle.seq_source.specs.FrameSource.{FrameSource}
 use Rattle.avs_values.specs.Values.{Text}
-use Rattle.avs_meaning.specs.Outside.{clip_in}
+use Rattle.avs_meaning.specs.State.{clip_in}
 use Rattle.avs_meaning.specs.declared.state.SourceClip.{SourceClip}
 
 -- a world that is told, or none

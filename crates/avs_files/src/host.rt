@@ -2,7 +2,7 @@
 ghost use Rattle.std.specs.Prelude.{◌≡◌, [], ◌+◌, ◌≤◌, length, IfOk, OnOk, OnErr, IsErrOf};
 ghost use Rattle.fv_io.specs.Faults.{HasRisen};
 ghost use Rattle.fv_io.specs.World.{InWorld};
-ghost use Rattle.y4m_stream.specs.Index.{IsIndex};
+ghost use Rattle.y4m_stream.specs.Stream.{IsIndex};
 ghost use Rattle.avs_state.specs.Hosts.{CountsNone};
 ghost use Rattle.avs_files.specs.Answers.{AnswersClip};
 ghost use Rattle.avs_files.specs.Opened.{told_of, AreOpened, IsSourceOf};
@@ -92,7 +92,7 @@ impl<H: HeldFiles, W: Known> FileHost<H, W> {
 
 impl<H: HeldFiles, W: Known> Host for FileHost<H, W> {
     ghost use Rattle.std.specs.FinMap.{get};
-    ghost use Rattle.avs_meaning.specs.Outside.{clip_in, script_in};
+    ghost use Rattle.avs_meaning.specs.State.{clip_in, script_in};
 
     ghost told = { W.told };
 

@@ -3,8 +3,8 @@ ghost use Rattle.std.specs.Prelude.{◌≡◌, ◌≤◌, ◌+◌, ◌^◌, leng
 ghost use Rattle.std.specs.Option.{ForSome};
 ghost use Rattle.fv_io.specs.Faults.{HasRisen};
 ghost use Rattle.fv_io.specs.Source.{KeepsSource, IsSteady, SourceFailed};
-ghost use Rattle.avs_values.specs.Outcome.{text_limit};
-ghost use Rattle.avs_meaning.specs.Outside.{script_in};
+ghost use Rattle.avs_values.specs.Values.{text_limit};
+ghost use Rattle.avs_meaning.specs.State.{script_in};
 ghost use Rattle.avs_state.specs.Hosts.{TellsScript, CountsNone};
 ghost use Rattle.avs_files.specs.Answers.{AnswersScript};
 

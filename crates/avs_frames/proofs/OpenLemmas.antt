@@ -1,8 +1,8 @@
 -- What is open innermost.
 use Rattle.std.proofs.Common.{◌≡◌, refl, ap, ◌+◌, ◌-◌, arith, List, [], ◌∷◌, ◌++◌, length, map, sum, slice_get, Some, None}
 use Rattle.std.proofs.lemmas.List.Sums.{sum_by-cons}
-use Rattle.avs_tree.specs.ExprMachine as x
-use Rattle.avs_tree.specs.Nesting.{open_level}
+use Rattle.avs_tree.specs.Machine as x
+use Rattle.avs_tree.specs.Machine.{open_level}
 use Rattle.avs_frames.specs.Open.{opens}
 use Rattle.avs_frames.specs.ExprViews.{open_view, onto, opened_view}
 use Rattle.avs_frames.specs.declared.state.Open.{Open}

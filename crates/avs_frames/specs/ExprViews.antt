@@ -2,7 +2,7 @@
 use Rattle.std.specs.Prelude.{◌≡◌, ◌<◌, ℕ, List, [], ◌∷◌, map, length, Result, IfOk, ⊤}
 use Rattle.avs_tree.specs.View.{expr_view, arg_view, method_call_view, step_view}
 use Rattle.avs_tree.specs.Lexeme.{Lexemes}
-use Rattle.avs_tree.specs.ExprMachine as x
+use Rattle.avs_tree.specs.Machine as x
 use Rattle.avs_frames.specs.declared.memory.OutOfMemory.{OutOfMemory}
 use Rattle.avs_frames.specs.declared.state.Callee.{Callee}
 use Rattle.avs_frames.specs.declared.state.Callee.TheVariants as k

@@ -1,9 +1,8 @@
 // What a token does to what is open innermost, after an expression in it.
 ghost use Rattle.std.specs.Prelude.{◌≡◌, ◌∷◌, ◌++◌, [], None, map, IfOk};
-ghost use Rattle.avs_tree.specs.Lexeme.{precedence_of};
+ghost use Rattle.avs_tree.specs.Lexeme.{precedence_of, operator_at};
 ghost use Rattle.avs_tree.specs.View.{expr_view, arg_view, step_view};
-ghost use Rattle.avs_tree.specs.Next.{operator_at};
-ghost use Rattle.avs_tree.specs.ExprMachine as machine;
+ghost use Rattle.avs_tree.specs.Machine as machine;
 ghost use Rattle.avs_frames.specs.ExprViews.{Closes, callee_view, open_view, expr_state_view, closing_view};
 ghost use Rattle.avs_frames.specs.Seen.{seen};
 
@@ -149,7 +148,7 @@ fn last_argument(
 }
 
 // After the value of an argument.
-#[tactic(auto, unfolding(avs_tree::specs::ExprMachine::closing_argument))]
+#[tactic(auto, unfolding(avs_tree::specs::Machine::closing_argument))]
 fn close_argument(
     callee: Callee,
     found: Vec<Arg>,

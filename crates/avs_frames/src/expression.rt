@@ -1,7 +1,7 @@
 // What a token does to an expression.
 ghost use Rattle.std.specs.Prelude.{◌≡◌, ◌∷◌, Some, map, length, IfOk};
 ghost use Rattle.avs_tree.specs.View.{expr_view, method_call_view};
-ghost use Rattle.avs_tree.specs.ExprMachine as machine;
+ghost use Rattle.avs_tree.specs.Machine as machine;
 ghost use Rattle.avs_frames.specs.ExprViews.{Makes, Turns, IsFewer, callee_view, open_view, opened_view, expr_state_view};
 ghost use Rattle.avs_frames.specs.Seen.{seen};
 ghost use Rattle.avs_frames.specs.declared.state.ExprState.TheVariants.{DotRead, MethodRead};
@@ -48,7 +48,7 @@ fn named(token: Seen<'_>) -> Outcome<Named>
 }
 
 /// The first token of an operand.
-#[tactic(auto, unfolding(avs_tree::specs::ExprMachine::operand))]
+#[tactic(auto, unfolding(avs_tree::specs::Machine::operand))]
 pub fn operand(opened: Vec<Open>, token: Seen<'_>) -> Outcome<ExprStep>
     ensures { Makes result (machine.operand (opened_view opened.items) (seen token.entry)) }
 {
@@ -84,7 +84,7 @@ fn operator(alloc: Global, first: Box<Expr>, op: Operator, line: u32) -> Open
 }
 
 // The token that continues an expression.
-#[tactic(auto, unfolding(avs_tree::specs::ExprMachine::grow))]
+#[tactic(auto, unfolding(avs_tree::specs::Machine::grow))]
 fn grow(first: Box<Expr>, opened: Vec<Open>, token: Seen<'_>) -> Outcome<ExprStep>
     ensures { Makes result (machine.grow (expr_view first.value) (opened_view opened.items) (seen token.entry)) }
 {

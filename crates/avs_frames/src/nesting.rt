@@ -1,6 +1,6 @@
 // How many levels of nesting are open in an expression.
 ghost use Rattle.std.specs.Prelude.{◌≡◌, ◌<◌, ◌≤◌, ◌^◌};
-ghost use Rattle.avs_tree.specs.Nesting.{open_level, expr_level};
+ghost use Rattle.avs_tree.specs.Machine.{open_level, expr_level};
 ghost use Rattle.avs_frames.specs.ExprViews.{opened_view, expr_state_view};
 
 use crate::state::{ExprState, Open};

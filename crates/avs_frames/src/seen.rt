@@ -1,9 +1,9 @@
 // What the machine sees in a turn: a token, with memory for what is made of it.
 ghost use Rattle.std.specs.Prelude.{◌≡◌, Some, IfOk};
-ghost use Rattle.avs_lex.specs.TokenList.{IsTokenOf};
+ghost use Rattle.avs_lex.specs.Tokens.{IsTokenOf};
 ghost use Rattle.avs_tree.specs.Lexeme.{lexeme_of};
-ghost use Rattle.avs_tree.specs.Next as next;
-ghost use Rattle.avs_tree.specs.ExprMachine as machine;
+ghost use Rattle.avs_tree.specs.Lexeme as next;
+ghost use Rattle.avs_tree.specs.Machine as machine;
 ghost use Rattle.avs_frames.specs.Seen.{lexeme_view, seen};
 
 use crate::memory::Outcome;
@@ -44,7 +44,7 @@ impl<'a> Seen<'a> {
     }
 
     /// Whether the token is this punctuation.
-    #[tactic(auto, unfolding(avs_tree::specs::Next::is_punctuation))]
+    #[tactic(auto, unfolding(avs_tree::specs::Lexeme::is_punctuation))]
     pub fn is(self, punctuation: Punctuation) -> bool
         ensures { result ≡ next.is_punctuation punctuation (seen self.entry) }
     {
@@ -55,7 +55,7 @@ impl<'a> Seen<'a> {
     }
 
     /// The operator that the token is, if it has this precedence.
-    #[tactic(auto, unfolding(avs_tree::specs::Next::operator_at))]
+    #[tactic(auto, unfolding(avs_tree::specs::Lexeme::operator_at))]
     pub fn operator(self, precedence: u8) -> Option<Operator>
         ensures { result ≡ next.operator_at precedence (seen self.entry) }
     {
@@ -67,7 +67,7 @@ impl<'a> Seen<'a> {
 
     // The least precedence at which the token continues an expression: 9 where it ends any, and 0 where it cannot
     // follow one.
-    #[tactic(auto, unfolding(avs_tree::specs::ExprMachine::reach))]
+    #[tactic(auto, unfolding(avs_tree::specs::Machine::reach))]
     fn reach(self) -> u8
         ensures { result ≡ machine.reach (Some self.entry.symbol) }
     {
@@ -81,7 +81,7 @@ impl<'a> Seen<'a> {
     }
 
     /// Whether the token continues an expression of this precedence, where one of precedence `highest` may stand.
-    #[tactic(auto, unfolding(avs_tree::specs::ExprMachine::continues))]
+    #[tactic(auto, unfolding(avs_tree::specs::Machine::continues))]
     pub fn continues(self, precedence: u8, highest: u8) -> bool
         ensures { result ≡ machine.continues precedence highest (seen self.entry) }
     {

@@ -1,7 +1,7 @@
 // What is open in an expression, and what was read of it last.
 ghost use Rattle.std.specs.Prelude.{◌≡◌, ◌∷◌, ◌++◌, [], map, IfOk};
 ghost use Rattle.avs_tree.specs.View.{method_call_view};
-ghost use Rattle.avs_tree.specs.ExprMachine as machine;
+ghost use Rattle.avs_tree.specs.Machine as machine;
 ghost use Rattle.avs_frames.specs.ExprViews.{open_view};
 ghost use Rattle.avs_frames.specs.Open.{opens};
 

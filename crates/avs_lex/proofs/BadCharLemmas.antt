@@ -10,8 +10,7 @@ use Rattle.avs_lex.specs.declared.piece.Piece.TheVariants.{Blank, One, EndOfScri
 use Rattle.avs_lex.specs.declared.fault.LexKind.TheVariants.{BadChar, FloatLiteral, IntRange}
 use Rattle.avs_lex.specs.declared.token.TokenKind.{TokenKind}
 use Rattle.avs_lex.specs.declared.token.TokenKind.TheVariants as k
-use Rattle.avs_lex.specs.Characters.{Text, newline, quote, hash, dollar, star, dot, slash, left_bracket, backslash, is_newline, is_blank, begins_name}
-use Rattle.avs_lex.specs.Spelling.{is_number, hexadecimal_digits, spelling, pairs, singles, first_of, through, value, triple, IsDecimal, IsHexadecimal, Spells}
+use Rattle.avs_lex.specs.Spelling.{Text, newline, quote, hash, dollar, star, dot, slash, left_bracket, backslash, is_newline, is_blank, begins_name, is_number, hexadecimal_digits, spelling, pairs, singles, first_of, through, value, triple, IsDecimal, IsHexadecimal, Spells}
 use Rattle.avs_lex.specs.Piece.{front, is_end_line, ends_line, decimal, hexadecimal, string, string_to, comment_to, nested_end, line_end, joined, punctuation, punctuation_of}
 use Rattle.avs_lex.specs.Tokens.{begins_line, LexFault}
 use Rattle.avs_lex.specs.BeginsNothing.{IsJoined, BeginsNothing}

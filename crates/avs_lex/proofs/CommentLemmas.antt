@@ -3,7 +3,7 @@ use Rattle.std.proofs.Common.{◌≡◌, ◌∙◌, ℕ, suc, ◌+◌, ◌-◌, 
 use Rattle.std.proofs.lemmas.List.{drop_more}
 use Rattle.std.proofs.lemmas.Bool.Decides.{nat_tests}
 use Rattle.avs_lex.proofs.TestLemmas.{by_test}
-use Rattle.avs_lex.specs.Characters.{Text, star, left_bracket, right_bracket}
+use Rattle.avs_lex.specs.Spelling.{Text, star, left_bracket, right_bracket}
 use Rattle.avs_lex.specs.Piece.{nested_end}
 
 -- two characters are left

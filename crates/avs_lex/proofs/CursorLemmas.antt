@@ -5,7 +5,7 @@ use Rattle.std.proofs.lemmas.List.{drop-drop, get_or-drop}
 use Rattle.std.proofs.lemmas.List.Sums.{sum_by-append, count_by-le-length}
 use Rattle.std.proofs.lemmas.Bool.Decides.{nat_tests}
 use Rattle.avs_lex.specs.declared.cursor.Cursor.{Cursor}
-use Rattle.avs_lex.specs.Characters.{Text, newline, is_newline}
+use Rattle.avs_lex.specs.Spelling.{Text, newline, is_newline}
 use Rattle.avs_lex.specs.declared.piece.Piece.{Piece}
 use Rattle.avs_lex.specs.declared.piece.Piece.TheVariants.{Blank, One, EndOfScript}
 use Rattle.avs_lex.specs.declared.token.Token.{Token}

@@ -11,8 +11,7 @@ use Rattle.avs_lex.specs.declared.piece.Piece.TheVariants.{Blank, One, EndOfScri
 use Rattle.avs_lex.specs.declared.fault.LexKind.{LexKind}
 use Rattle.avs_lex.specs.declared.token.TokenKind.{TokenKind}
 use Rattle.avs_lex.specs.declared.token.TokenKind.TheVariants.{Ident}
-use Rattle.avs_lex.specs.Characters.{Text, newline, quote, hash, dollar, star, dot, slash, left_bracket, backslash, right_bracket, is_newline, is_blank, begins_name, continues_name}
-use Rattle.avs_lex.specs.Spelling.{through, is_number, hexadecimal_digits, value, spelling, pairs, singles, first_of, triple, quotes_of, IsDecimal, IsHexadecimal, IsQuoted, Spells}
+use Rattle.avs_lex.specs.Spelling.{Text, newline, quote, hash, dollar, star, dot, slash, left_bracket, backslash, right_bracket, is_newline, is_blank, begins_name, continues_name, through, is_number, hexadecimal_digits, value, spelling, pairs, singles, first_of, triple, quotes_of, IsDecimal, IsHexadecimal, IsQuoted, Spells}
 use Rattle.avs_lex.specs.Piece.{nested_end, comment_to, string_to, string, line_end, joined, decimal, hexadecimal, punctuation, punctuation_of, front, piece, is_end_line, IsWithin}
 use Rattle.avs_lex.proofs.TestLemmas.{by_test, either}
 use Rattle.avs_lex.proofs.NumberLemmas.{list_all-taken}

@@ -12,10 +12,8 @@ use Rattle.avs_lex.specs.declared.piece.Piece.TheVariants.{Blank, One}
 use Rattle.avs_lex.specs.declared.token.Token.{Token}
 use Rattle.avs_lex.specs.declared.token.TokenKind.{TokenKind}
 use Rattle.avs_lex.specs.declared.token.TokenKind.TheVariants.{End}
-use Rattle.avs_lex.specs.Characters.{Text, is_newline}
-use Rattle.avs_lex.specs.Spelling.{Spells}
-use Rattle.avs_lex.specs.Tokens.{start_of, line_at, begins_line, piece_at, token_at, ReadTo, begin, blank, token, Tokens}
-use Rattle.avs_lex.specs.TokenList.{IsTokenOf, IsTokenList}
+use Rattle.avs_lex.specs.Spelling.{Text, is_newline, Spells}
+use Rattle.avs_lex.specs.Tokens.{start_of, line_at, begins_line, piece_at, token_at, ReadTo, begin, blank, token, Tokens, IsTokenOf, IsTokenList}
 use Rattle.avs_lex.proofs.TestLemmas.{either}
 use Rattle.avs_lex.proofs.WordLemmas.{starts_with_take, starts_with_long}
 use Rattle.avs_lex.proofs.CursorLemmas.{line_at_further}

@@ -11,8 +11,7 @@ use Rattle.avs_lex.specs.declared.fault.LexKind.TheVariants.{BadChar, FloatLiter
 use Rattle.avs_lex.specs.declared.token.Token.{Token}
 use Rattle.avs_lex.specs.declared.token.TokenKind.{TokenKind}
 use Rattle.avs_lex.specs.declared.token.TokenKind.TheVariants.{Ident, Int, Str, End, Equal, NotEqual, LessEqual, GreaterEqual, PlusPlus, AndAnd, OrOr}
-use Rattle.avs_lex.specs.Characters.{Text, quote, dollar, dot, begins_name, continues_name}
-use Rattle.avs_lex.specs.Spelling.{is_number, hexadecimal_digits, spelling, through, value, triple, quotes_of, IsName, IsDecimal, IsHexadecimal, IsQuoted, Spells}
+use Rattle.avs_lex.specs.Spelling.{Text, quote, dollar, dot, begins_name, continues_name, is_number, hexadecimal_digits, spelling, through, value, triple, quotes_of, IsName, IsDecimal, IsHexadecimal, IsQuoted, Spells}
 use Rattle.avs_lex.specs.Piece.{front, piece, is_end_line, decimal, hexadecimal, string, string_to}
 use Rattle.avs_lex.specs.Tokens.{begins_line, piece_at, token_at, ReadTo, begin, blank, token, Tokens}
 use Rattle.avs_lex.specs.Laws.{IsLongest}

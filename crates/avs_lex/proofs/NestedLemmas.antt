@@ -1,7 +1,7 @@
 -- A nested comment ends where its grammar says.
 use Rattle.std.proofs.Common.{◌≡◌, ◌∙◌, ℕ, zero, suc, ◌+◌, ◌-◌, ◌<◌, ap, sym, subst, refl, arith, [], ◌∷◌, length, drop, Option, Some, false, ◌&&◌, ◌==◌, if◌then◌else◌, length-drop, ◌↔◌}
 use Rattle.std.proofs.lemmas.Bool.Decides.{nat_tests}
-use Rattle.avs_lex.specs.Characters.{Text, star, left_bracket, right_bracket}
+use Rattle.avs_lex.specs.Spelling.{Text, star, left_bracket, right_bracket}
 use Rattle.avs_lex.specs.NestedComment.{begins_opening, begins_closing, ClosesComment, closing, character, comment, IsNestedComment}
 use Rattle.avs_lex.specs.Piece.{nested_end}
 use Rattle.avs_lex.proofs.TestLemmas.{by_test}

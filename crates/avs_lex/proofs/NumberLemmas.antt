@@ -6,8 +6,7 @@ use Rattle.std.proofs.Math.Nat.{pow-le-pow_right}
 use Rattle.std.specs.Char.{digit_value, is_ascii_hexdigit}
 use Rattle.std.proofs.lemmas.Grind.{common_steps}
 use Rattle.std.proofs.lemmas.Bool.Decides.{nat_tests}
-use Rattle.avs_lex.specs.Characters.{Text}
-use Rattle.avs_lex.specs.Spelling.{is_number, hexadecimal_digits}
+use Rattle.avs_lex.specs.Spelling.{Text, is_number, hexadecimal_digits}
 
 -- more digits write no smaller number
 pub grows : (n : ℕ) (digits : Text) → n ≤ fold (λ n c. 10 * n + digit_value c) n digits

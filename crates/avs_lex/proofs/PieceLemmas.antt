@@ -1,7 +1,7 @@
 -- Where no other case fits, the front is punctuation or a fault.
 use Rattle.std.proofs.Common.{◌≡◌, ℕ, get_or, false, ◌==◌}
 use Rattle.std.specs.Char.{is_ascii_digit}
-use Rattle.avs_lex.specs.Characters.{Text, begins_name}
+use Rattle.avs_lex.specs.Spelling.{Text, begins_name}
 use Rattle.avs_lex.specs.Piece.{front, punctuation}
 
 -- a character that begins nothing else

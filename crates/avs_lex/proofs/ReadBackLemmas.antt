@@ -9,10 +9,9 @@ use Rattle.avs_lex.specs.declared.fault.LexKind.TheVariants.{BadChar}
 use Rattle.avs_lex.specs.declared.token.Token.{Token}
 use Rattle.avs_lex.specs.declared.token.TokenKind.{TokenKind}
 use Rattle.avs_lex.specs.declared.token.TokenKind.TheVariants.{Newline, End}
-use Rattle.avs_lex.specs.Characters.{Text, newline, backslash, is_blank}
+use Rattle.avs_lex.specs.Spelling.{Text, newline, backslash, is_blank}
 use Rattle.avs_lex.specs.Piece.{front, piece, is_end_line, line_end}
-use Rattle.avs_lex.specs.Tokens.{start_of, begins_line, piece_at, token_at, open_parentheses_after, ReadTo, begin, blank, token, Tokens}
-use Rattle.avs_lex.specs.TokenList.{bytes_of}
+use Rattle.avs_lex.specs.Tokens.{start_of, begins_line, piece_at, token_at, open_parentheses_after, ReadTo, begin, blank, token, Tokens, bytes_of}
 use Rattle.avs_lex.specs.Written.{Word, written, IsWord, AreWords, spelled_of, ReadsAs}
 use Rattle.avs_lex.proofs.TestLemmas.{either}
 use Rattle.avs_lex.proofs.WordLemmas.{starts_with_at}

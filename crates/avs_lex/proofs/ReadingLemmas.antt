@@ -6,7 +6,7 @@ use Rattle.avs_lex.specs.declared.piece.Piece.TheVariants.{Blank, One, EndOfScri
 use Rattle.avs_lex.specs.declared.fault.LexKind.{LexKind}
 use Rattle.avs_lex.specs.declared.token.Token.{Token}
 use Rattle.avs_lex.specs.declared.token.TokenKind.TheVariants.{End}
-use Rattle.avs_lex.specs.Characters.{Text}
+use Rattle.avs_lex.specs.Spelling.{Text}
 use Rattle.avs_lex.specs.Piece.{IsWithin}
 use Rattle.avs_lex.specs.Tokens.{start_of, line_at, begins_line, piece_at, token_at, open_parentheses_after, ReadTo, begin, blank, token, Tokens, LexFault}
 use Rattle.avs_lex.specs.Laws.{HasOneReading}

@@ -4,8 +4,7 @@ use Rattle.std.specs.List.{list_all, starts_with}
 use Rattle.avs_lex.specs.declared.token.TokenKind.{TokenKind}
 use Rattle.avs_lex.specs.declared.token.TokenKind.TheVariants.{Ident, Int, Str, Newline, End}
 use Rattle.avs_lex.proofs.TestLemmas.{by_test}
-use Rattle.avs_lex.specs.Characters.{Text}
-use Rattle.avs_lex.specs.Spelling.{spelling, pairs, singles, first_of, Spells}
+use Rattle.avs_lex.specs.Spelling.{Text, spelling, pairs, singles, first_of, Spells}
 
 -- what is found passes the test, and any test that all pass
 pub found_passes : (test : TokenKind → Bool) (kinds : List TokenKind) (kind : TokenKind) → find test kinds ≡ Some kind → test kind ≡ true

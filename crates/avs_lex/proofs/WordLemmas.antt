@@ -6,8 +6,7 @@ use Rattle.std.proofs.lemmas.Bool.Decides.{Decides-eqb}
 use Rattle.std.proofs.lemmas.Slice.Eq.{starts_is}
 use Rattle.std.proofs.lemmas.List.{take-take, take-append-le, drop_more, drop_all, get_or_append_left, take_at}
 use Rattle.avs_lex.proofs.TestLemmas.{by_test}
-use Rattle.avs_lex.specs.Characters.{Text}
-use Rattle.avs_lex.specs.Spelling.{through}
+use Rattle.avs_lex.specs.Spelling.{Text, through}
 
 pub through_here : (word rest : Text) (offset : ℕ) → offset < length rest → starts_with nat_eq (drop offset rest) word ≡ true → through word offset (drop offset rest) ≡ Some (offset + length word)
 through_here word rest offset more is =

@@ -11,8 +11,7 @@ use Rattle.avs_lex.specs.declared.piece.Piece.TheVariants.{Blank, One, Fault}
 use Rattle.avs_lex.specs.declared.fault.LexKind.TheVariants.{BadChar}
 use Rattle.avs_lex.specs.declared.token.TokenKind.{TokenKind}
 use Rattle.avs_lex.specs.declared.token.TokenKind.TheVariants.{Ident, Int, Str, Newline, End}
-use Rattle.avs_lex.specs.Characters.{Text, newline, quote, dollar, dot, backslash, is_blank, begins_name, continues_name}
-use Rattle.avs_lex.specs.Spelling.{hexadecimal_digits, spelling, through, value, triple, quotes_of, IsName, IsDecimal, IsHexadecimal, IsQuoted, Spells}
+use Rattle.avs_lex.specs.Spelling.{Text, newline, quote, dollar, dot, backslash, is_blank, begins_name, continues_name, hexadecimal_digits, spelling, through, value, triple, quotes_of, IsName, IsDecimal, IsHexadecimal, IsQuoted, Spells}
 use Rattle.avs_lex.specs.Piece.{front, joined, decimal, hexadecimal, string, is_end_line, ends_line, without_blanks}
 use Rattle.avs_lex.proofs.TestLemmas.{either}
 use Rattle.avs_lex.proofs.SpellingLemmas.{is_punctuation}

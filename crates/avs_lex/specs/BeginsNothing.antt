@@ -2,8 +2,7 @@
 use Rattle.std.specs.Prelude.{◌≡◌, ◌≢◌, ℕ, ◌<◌, ◌≤◌, ◌∷◌, ◌++◌, length, take, slice_index, codes, nat_eq, false, IsTrue}
 use Rattle.std.specs.List.{list_all, starts_with}
 use Rattle.avs_lex.specs.declared.token.TokenKind.{TokenKind}
-use Rattle.avs_lex.specs.Characters.{Text, hash, backslash, is_blank}
-use Rattle.avs_lex.specs.Spelling.{Spells}
+use Rattle.avs_lex.specs.Spelling.{Text, hash, backslash, is_blank, Spells}
 use Rattle.avs_lex.specs.Piece.{ends_line}
 
 -- the text begins with a joined line: `\`, blanks, and a newline or the end of the text

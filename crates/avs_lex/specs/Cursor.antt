@@ -3,7 +3,7 @@ use Rattle.std.specs.Prelude.{◌≡◌, ℕ, ◌+◌, ◌-◌, ◌≤◌, ◌==
 use Rattle.avs_lex.specs.declared.cursor.Cursor.{Cursor}
 use Rattle.avs_lex.specs.declared.token.Token.{Token}
 use Rattle.avs_lex.specs.declared.token.TokenKind.{TokenKind}
-use Rattle.avs_lex.specs.Characters.{Text, newline, is_newline}
+use Rattle.avs_lex.specs.Spelling.{Text, newline, is_newline}
 use Rattle.avs_lex.specs.Tokens.{start_of, line_at, begins_line}
 
 -- the cursor is at its offset in the text

@@ -5,12 +5,10 @@ use Rattle.avs_lex.specs.declared.fault.LexKind.TheVariants.{BadChar}
 use Rattle.avs_lex.specs.declared.token.Token.{Token}
 use Rattle.avs_lex.specs.declared.token.TokenKind.{TokenKind}
 use Rattle.avs_lex.specs.BeginsNothing.{BeginsNothing}
-use Rattle.avs_lex.specs.Characters.{Text, star, left_bracket}
+use Rattle.avs_lex.specs.Spelling.{Text, star, left_bracket, Spells}
 use Rattle.avs_lex.specs.NestedComment.{IsNestedComment}
 use Rattle.avs_lex.specs.Piece.{nested_end}
-use Rattle.avs_lex.specs.Spelling.{Spells}
-use Rattle.avs_lex.specs.Tokens.{Tokens, LexFault}
-use Rattle.avs_lex.specs.TokenList.{IsTokenList}
+use Rattle.avs_lex.specs.Tokens.{Tokens, LexFault, IsTokenList}
 
 -- a text has tokens, or a first fault, and only one of the two
 pub record HasOneReading (text : Text) : Type 0 where

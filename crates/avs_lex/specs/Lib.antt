@@ -1,11 +1,8 @@
-pub mod Characters
 pub mod Spelling
-pub mod Fault
 pub mod Piece
 pub mod NestedComment
 pub mod BeginsNothing
 pub mod Tokens
-pub mod TokenList
 pub mod Cursor
 pub mod Laws
 pub mod Written

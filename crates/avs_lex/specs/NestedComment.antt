@@ -1,7 +1,7 @@
 -- Nested comments as a grammar: an opening `[*`, parts, and a closing `*]`. A part is a character that begins neither an
 -- opening nor a closing, or a whole nested comment.
 use Rattle.std.specs.Prelude.{◌≡◌, ◌≤◌, ℕ, ◌∷◌, length, drop, slice_index, Bool, false, ◌&&◌, ◌==◌}
-use Rattle.avs_lex.specs.Characters.{Text, star, left_bracket, right_bracket}
+use Rattle.avs_lex.specs.Spelling.{Text, star, left_bracket, right_bracket}
 
 abbrev pub begins_opening : Text → Bool
 begins_opening text = slice_index text 0 == left_bracket && slice_index text 1 == star

@@ -9,8 +9,7 @@ use Rattle.avs_lex.specs.declared.piece.Piece.TheVariants.{Blank, One, EndOfScri
 use Rattle.avs_lex.specs.declared.fault.LexKind.TheVariants.{FloatLiteral, IntRange, OpenString, OpenComment, BadChar}
 use Rattle.avs_lex.specs.declared.token.TokenKind.{TokenKind}
 use Rattle.avs_lex.specs.declared.token.TokenKind.TheVariants.{Ident, Int, Str, Newline}
-use Rattle.avs_lex.specs.Characters.{Text, newline, quote, hash, dollar, star, dot, slash, left_bracket, backslash, right_bracket, is_newline, is_blank, begins_name, continues_name}
-use Rattle.avs_lex.specs.Spelling.{through, is_number, hexadecimal_digits, value, spelling, pairs, singles, first_of, triple}
+use Rattle.avs_lex.specs.Spelling.{Text, newline, quote, hash, dollar, star, dot, slash, left_bracket, backslash, right_bracket, is_newline, is_blank, begins_name, continues_name, through, is_number, hexadecimal_digits, value, spelling, pairs, singles, first_of, triple}
 
 -- The offset after a `[* *]` comment, where n bytes of it are read and this many such comments are open inside it.
 abbrev pub nested_end : ℕ → ℕ → Text → Option ℕ

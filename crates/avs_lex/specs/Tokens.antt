@@ -1,17 +1,20 @@
--- The tokens of a script, or its first fault. A script is read from its start, piece after piece, up to its end or to its
--- first fault.
-use Rattle.std.specs.Prelude.{◌≡◌, ℕ, ◌+◌, ◌-◌, List, [], ◌∷◌, ◌++◌, take, drop, slice_index, nat_eq, Bool, ◌||◌, ◌==◌, if◌then◌else◌, count_by, ⊤}
-use Rattle.std.specs.List.{starts_with}
-use Rattle.avs_lex.specs.declared.piece.Piece.{Piece}
-use Rattle.avs_lex.specs.declared.piece.Piece.TheVariants.{Blank, One, EndOfScript, Fault}
-use Rattle.avs_lex.specs.declared.fault.LexKind.{LexKind}
+-- The tokens of a script, what a list of them is, and the names of its faults.
+use Rattle.std.specs.List.{starts_with, AllAdjacentBelow}
+use Rattle.std.specs.Prelude.{◌≡◌, ℕ, ◌+◌, ◌-◌, List, [], ◌∷◌, ◌++◌, take, drop, slice_index, nat_eq, Bool, ◌||◌, ◌==◌, if◌then◌else◌, count_by, ⊤, ◌<◌, ◌≤◌, ◌↔◌, length, slice_range, slice_index_or, IsCharBoundary, All, codes}
+use Rattle.avs_lex.specs.Piece.{piece}
+use Rattle.avs_lex.specs.Spelling.{Text, newline, is_newline, Spells}
 use Rattle.avs_lex.specs.declared.fault.LexError.{LexError}
 use Rattle.avs_lex.specs.declared.fault.LexError.TheVariants as e
+use Rattle.avs_lex.specs.declared.fault.LexKind.{LexKind}
+use Rattle.avs_lex.specs.declared.fault.LexKind.TheVariants.{FloatLiteral, IntRange, OpenString, OpenComment, BadChar}
+use Rattle.avs_lex.specs.declared.piece.Piece.{Piece}
+use Rattle.avs_lex.specs.declared.piece.Piece.TheVariants.{Blank, One, EndOfScript, Fault}
 use Rattle.avs_lex.specs.declared.token.Token.{Token}
 use Rattle.avs_lex.specs.declared.token.TokenKind.{TokenKind}
 use Rattle.avs_lex.specs.declared.token.TokenKind.TheVariants.{LeftParen, RightParen, End}
-use Rattle.avs_lex.specs.Characters.{Text, newline, is_newline}
-use Rattle.avs_lex.specs.Piece.{piece}
+
+-- ==== The tokens of a script, or its first fault. A script is read from its start, piece after piece, up to its end or to its
+-- first fault.
 
 -- the offset after a first character U+FEFF
 abbrev pub start_of : Text → ℕ
@@ -66,3 +69,36 @@ pub record LexFault (text : Text) (kind : LexKind) (line : ℕ) : Type 0 where
 abbrev pub IsFault : Text → LexError → Type 0
 IsFault text (e.Fault kind line) = LexFault text kind line
 IsFault text e.Memory = ⊤
+
+-- ==== What a list of tokens of a text is: what the parser needs of it.
+
+abbrev pub bytes_of : Text → Token → Text
+bytes_of text it = slice_range text it.start it.end
+
+-- the token is in the text
+pub record IsTokenOf (text : Text) (it : Token) : Type 0 where
+  pub ordered : it.start ≤ it.end
+  pub inside : it.end ≤ length text
+  pub starts_whole : IsCharBoundary text it.start
+  pub ends_whole : IsCharBoundary text it.end
+  pub spelled : Spells it.kind (bytes_of text it)
+  pub line : it.line ≡ line_at text it.start
+  pub first_line : 1 ≤ it.line
+  pub last_line : it.line ≤ 1 + count_by is_newline text
+
+-- the tokens follow one another in the text, and only the last one is its end
+pub record IsTokenList (text : Text) (tokens : List Token) : Type 0 where
+  pub some : 0 < length tokens
+  pub ended : (k : ℕ) (d : Token) → k < length tokens → ((slice_index_or tokens k d).kind ≡ End) ↔ (k + 1 ≡ length tokens)
+  pub each : All (IsTokenOf text) tokens
+  pub apart : AllAdjacentBelow (λ one next. one.end ≤ next.start) tokens (length tokens)
+  pub lines_rise : AllAdjacentBelow (λ one next. one.line ≤ next.line) tokens (length tokens)
+
+-- ==== The names of the faults of a text, as they are printed.
+
+abbrev pub lex_kind_name : LexKind → Text
+lex_kind_name FloatLiteral = codes "FloatLiteral"
+lex_kind_name IntRange = codes "IntRange"
+lex_kind_name OpenString = codes "OpenString"
+lex_kind_name OpenComment = codes "OpenComment"
+lex_kind_name BadChar = codes "BadChar"

@@ -3,10 +3,8 @@ use Rattle.std.specs.Prelude.{◌≡◌, ◌≢◌, ℕ, List, [], ◌∷◌, �
 use Rattle.avs_lex.specs.declared.token.Token.{Token}
 use Rattle.avs_lex.specs.declared.token.TokenKind.{TokenKind}
 use Rattle.avs_lex.specs.declared.token.TokenKind.TheVariants.{Newline, End}
-use Rattle.avs_lex.specs.Characters.{Text, newline}
-use Rattle.avs_lex.specs.Spelling.{Spells}
-use Rattle.avs_lex.specs.Tokens.{Tokens, open_parentheses_after}
-use Rattle.avs_lex.specs.TokenList.{bytes_of}
+use Rattle.avs_lex.specs.Spelling.{Text, newline, Spells}
+use Rattle.avs_lex.specs.Tokens.{Tokens, open_parentheses_after, bytes_of}
 
 pub record Word : Type 0 where
   pub kind : TokenKind

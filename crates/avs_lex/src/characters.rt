@@ -1,6 +1,6 @@
 // Classes of characters: letters, digits, blanks.
 ghost use Rattle.std.specs.Prelude.{◌≡◌};
-ghost use Rattle.avs_lex.specs.Characters as c;
+ghost use Rattle.avs_lex.specs.Spelling as c;
 
 /// Whether the character is a space, a tab or a carriage return.
 pub fn is_blank(byte: u8) -> bool

@@ -1,6 +1,6 @@
 // A position in the text of a script, with its line.
 ghost use Rattle.std.specs.Prelude.{◌≡◌, ◌+◌, ◌-◌, ◌<◌, ◌≤◌, ◌^◌, length, count_by};
-ghost use Rattle.avs_lex.specs.Characters as c;
+ghost use Rattle.avs_lex.specs.Spelling as c;
 ghost use Rattle.avs_lex.specs.Cursor.{IsIn, Steps, token_of};
 ghost use Rattle.avs_lex.specs.Tokens.{start_of};
 

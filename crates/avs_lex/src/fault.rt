@@ -1,6 +1,6 @@
 // Why a text has no tokens.
 ghost use Rattle.std.specs.Prelude.{◌≡◌};
-ghost use Rattle.avs_lex.specs.Fault.{lex_kind_name};
+ghost use Rattle.avs_lex.specs.Tokens.{lex_kind_name};
 
 use crate::Token;
 use std::alloc::AllocFailed;

@@ -1,7 +1,6 @@
 // The lexer: a text becomes its tokens, or the first lexical fault.
 ghost use Rattle.std.specs.Prelude.{◌≡◌, ◌+◌, ◌-◌, ◌<◌, ◌≤◌, ◌^◌, length, IfOk, IfErr};
-ghost use Rattle.avs_lex.specs.TokenList.{IsTokenList};
-ghost use Rattle.avs_lex.specs.Tokens.{Tokens, IsFault, open_parentheses_after};
+ghost use Rattle.avs_lex.specs.Tokens.{IsTokenList, Tokens, IsFault, open_parentheses_after};
 
 use crate::cursor::Cursor;
 use crate::piece::{Piece, piece_at};

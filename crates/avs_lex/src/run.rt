@@ -2,7 +2,7 @@
 ghost use Rattle.std.specs.Prelude.{◌≡◌, ◌≤◌, ◌<◌, ◌==◌, length, slice_index, not};
 ghost use Rattle.std.specs.List.{prefix_len, position_or_len};
 ghost use Rattle.std.specs.Char.{is_ascii_digit, is_ascii_hexdigit};
-ghost use Rattle.avs_lex.specs.Characters as c;
+ghost use Rattle.avs_lex.specs.Spelling as c;
 
 use crate::characters::{continues_name, is_blank};
 

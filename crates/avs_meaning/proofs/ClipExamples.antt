@@ -1,8 +1,8 @@
 -- Each is computed.
 use Rattle.std.proofs.Common.{refl}
 use Rattle.avs_values.specs.Binding.{bind}
-use Rattle.fv_plane.specs.Rate.{gcd}
-use Rattle.avs_meaning.specs.Loops.{is_past, turn}
+use Rattle.fv_plane.specs.Info.{gcd}
+use Rattle.avs_meaning.specs.Statements.{is_past, turn}
 use Rattle.avs_meaning.specs.Expressions.{call_within}
 use Rattle.avs_meaning.specs.Meaning.{to_clip, below}
 use Rattle.avs_meaning.specs.Table.{builtins, builtin_of}

@@ -8,11 +8,9 @@ use Rattle.avs_values.specs.declared.value.Value.{Value}
 use Rattle.avs_values.specs.declared.value.Value.TheVariants as v
 use Rattle.avs_meaning.proofs.TextArguments.{HasForm, has_form}
 use Rattle.avs_meaning.specs.Arguments.{is_filter_number, out_of_range}
-use Rattle.avs_meaning.specs.Calls.{Callee, user, builtin, takes, Fit, fit_or_last, unnamed}
-use Rattle.avs_meaning.specs.Context.{Context}
-use Rattle.avs_meaning.specs.Expressions.{Caller, called, ranged_by, applied, apply_by, call_within, apply, direct}
+use Rattle.avs_meaning.specs.Expressions.{Callee, user, builtin, takes, Fit, fit_or_last, unnamed, Caller, called, ranged_by, applied, apply_by, call_within, apply, direct}
+use Rattle.avs_meaning.specs.State.{Context, State, Outcome, Run, and_then, fails}
 use Rattle.avs_meaning.specs.Filters.{ranged}
-use Rattle.avs_meaning.specs.State.{State, Outcome, Run, and_then, fails}
 use Rattle.avs_meaning.specs.declared.builtin.Builtin.TheVariants as b
 
 -- what follows gives the same

@@ -8,16 +8,10 @@ use Rattle.avs_values.specs.declared.value.Value.{Value}
 use Rattle.avs_values.specs.declared.value.Value.TheVariants as v
 use Rattle.avs_meaning.proofs.UnitLemmas.{Leaves, Spends, then_leaves, lifted_leaves, if_runs, spend_leaves, load_short_leaves, filtered_leaves, told_leaves, joined_leaves, set_mode_leaves, prefetch_leaves, ranged_leaves}
 use Rattle.avs_meaning.specs.Arguments.{is_filter_number}
-use Rattle.avs_meaning.specs.Calls.{Callee, user, builtin, callee, takes, Fit, fit_or_last, unnamed, last_name}
-use Rattle.avs_meaning.specs.Context.{Context}
-use Rattle.avs_meaning.specs.Expressions.{Caller, ranged_by, call_within, script_by, known, called, may_nest, execute, eval_name, eval, import_, inside, applied, apply_by, apply, apply_last, named, value_of, givens_of, calls_from, steps_from}
-use Rattle.avs_meaning.specs.Loops.{Flow, on, back, go_on, turns, Turn, goes_to, stops, continues, advanced, advance, read_number, number_by, next_number, turned, turn, counts, is_past}
+use Rattle.avs_meaning.specs.Expressions.{Callee, user, builtin, callee, takes, Fit, fit_or_last, unnamed, last_name, Caller, ranged_by, call_within, script_by, known, called, may_nest, execute, eval_name, eval, import_, inside, applied, apply_by, apply, apply_last, named, value_of, givens_of, calls_from, steps_from, truth, joined, load_short}
+use Rattle.avs_meaning.specs.State.{Context, Outside, State, Defined, Env, Run, and_then, lifted, spend, variable, lookup}
+use Rattle.avs_meaning.specs.Statements.{Flow, on, back, go_on, turns, Turn, goes_to, stops, continues, advanced, advance, read_number, number_by, next_number, turned, turn, counts, is_past, condition, step_of, bounds, sets_last, settled, chosen, ends_with, effect_of, arms_of, other_of, block_of, body_of}
 use Rattle.avs_meaning.specs.Meaning.{below, context_of}
-use Rattle.avs_meaning.specs.Operators.{truth, joined}
-use Rattle.avs_meaning.specs.Outside.{Outside}
-use Rattle.avs_meaning.specs.State.{State, Defined, Env, Run, and_then, lifted, spend, variable, lookup}
-use Rattle.avs_meaning.specs.Statements.{condition, step_of, bounds, sets_last, settled, chosen, ends_with, effect_of, arms_of, other_of, block_of, body_of}
-use Rattle.avs_meaning.specs.Texts.{load_short}
 use Rattle.avs_meaning.specs.declared.builtin.Builtin.TheVariants as b
 use Rattle.avs_meaning.specs.declared.fault.FileKind.{FileKind}
 

@@ -1,7 +1,7 @@
 -- Each is computed.
 use Rattle.std.proofs.Common.{refl}
 use Rattle.avs_values.specs.Binding.{bind}
-use Rattle.fv_plane.specs.Rate.{gcd}
+use Rattle.fv_plane.specs.Info.{gcd}
 use Rattle.avs_meaning.specs.Expressions.{call_within}
 use Rattle.avs_meaning.specs.Meaning.{to_clip, below}
 use Rattle.avs_meaning.specs.Table.{builtins, builtin_of}

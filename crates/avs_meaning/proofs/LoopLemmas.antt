@@ -5,7 +5,7 @@ use Rattle.avs_values.specs.declared.value.Value.TheVariants as v
 use Rattle.avs_meaning.proofs.UnitLemmas.{Leaves, Spends, then_leaves}
 use Rattle.avs_meaning.proofs.ExecutionUnits.{advance_leaves}
 use Rattle.avs_meaning.specs.Faults.{script}
-use Rattle.avs_meaning.specs.Loops.{Flow, on, back, go_on, ends, turns, Turn, goes_to, stops, continues, advance, turned, turn, counts, is_past}
+use Rattle.avs_meaning.specs.Statements.{Flow, on, back, go_on, ends, turns, Turn, goes_to, stops, continues, advance, turned, turn, counts, is_past}
 use Rattle.avs_meaning.specs.State.{State, Outcome, Run, and_then, ◌>>=◌, ◌>>◌, fails, pay, spend}
 use Rattle.avs_meaning.specs.declared.fault.ScriptKind.TheVariants as k
 

@@ -6,8 +6,8 @@ use Rattle.avs_values.specs.Values.{Text}
 use Rattle.avs_values.specs.declared.binding.Given.{Given}
 use Rattle.avs_values.specs.declared.value.Value.{Value}
 use Rattle.avs_values.specs.declared.value.Value.TheVariants as v
-use Rattle.avs_meaning.specs.Calls.{Fit, fit, fit_by, fit_last, or_fit, fit_or_last, unnamed}
-use Rattle.avs_meaning.specs.Signatures.{apply_range}
+use Rattle.avs_meaning.specs.Expressions.{Fit, fit, fit_by, fit_last, or_fit, fit_or_last, unnamed}
+use Rattle.avs_meaning.specs.Table.{apply_range}
 
 abbrev pub IsRange : List Value → Type 0
 IsRange (v.Clip i ∷ v.Int first ∷ v.Int last ∷ v.Text word ∷ []) = Unit {0}

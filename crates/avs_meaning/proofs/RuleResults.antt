@@ -1,8 +1,7 @@
 -- The rules allow the outcome of the definitions.
 use Rattle.std.proofs.Common.{◌≡◌, ℕ, zero, suc, ◌+◌, ◌<◌, ◌≤◌, ℤ, List, [], ◌∷◌, ◌++◌, length, map, Bool, true, false, ◌&&◌, Option, Some, None, Result, Ok, Err, refl, sym, subst, if◌then◌else◌, arith}
 use Rattle.std.proofs.lemmas.List.{length-map}
-use Rattle.avs_tree.specs.Loaded.{Loaded}
-use Rattle.avs_tree.specs.Tree.{Expr, int, bool, str, name, call, method_calls, minus, not_, chain, compare, conditional, group, Args, no_args, arg, MethodCalls, no_method_calls, method, method_call, Steps, no_steps, step, Block}
+use Rattle.avs_tree.specs.Tree.{Loaded, Expr, int, bool, str, name, call, method_calls, minus, not_, chain, compare, conditional, group, Args, no_args, arg, MethodCalls, no_method_calls, method, method_call, Steps, no_steps, step, Block}
 use Rattle.avs_tree.specs.declared.tree.Operator.{Operator}
 use Rattle.avs_tree.specs.declared.tree.Operator.TheVariants as op
 use Rattle.avs_values.specs.Binding.{Bound}
@@ -15,17 +14,13 @@ use Rattle.avs_meaning.proofs.DirectCalls.{apply_direct}
 use Rattle.avs_meaning.proofs.RangeArguments.{IsRange}
 use Rattle.avs_meaning.proofs.TextArguments.{IsText, HasForm, has_form}
 use Rattle.avs_meaning.specs.Arguments.{is_filter_number, out_of_range}
-use Rattle.avs_meaning.specs.Calls.{Callee, user, builtin, callee, Fit, fit_or_last, takes, unnamed}
-use Rattle.avs_meaning.specs.Expressions.{ranged_by, eval_name, known, called, eval, import_, applied, apply_by, apply, named, value_of, givens_of, calls_from, steps_from}
+use Rattle.avs_meaning.specs.Expressions.{Callee, user, builtin, callee, Fit, fit_or_last, takes, unnamed, ranged_by, eval_name, known, called, eval, import_, applied, apply_by, apply, named, value_of, givens_of, calls_from, steps_from, compared, joined, load_short}
 use Rattle.avs_meaning.specs.Filters.{ranged}
 use Rattle.avs_meaning.specs.Meaning.{context_of, run}
-use Rattle.avs_meaning.specs.Operators.{compared, joined}
-use Rattle.avs_meaning.specs.Outside.{Outside}
+use Rattle.avs_meaning.specs.State.{Outside, State, Defined, Outcome, Run, and_then, ◌>>=◌, fails, imported, variable}
 use Rattle.avs_meaning.specs.Rules as r
 use Rattle.avs_meaning.specs.Rules.{receiver, retried}
-use Rattle.avs_meaning.specs.State.{State, Defined, Outcome, Run, and_then, ◌>>=◌, fails, imported, variable}
 use Rattle.avs_meaning.specs.Statements.{condition}
-use Rattle.avs_meaning.specs.Texts.{load_short}
 use Rattle.avs_meaning.specs.declared.builtin.Builtin.TheVariants as b
 use Rattle.avs_meaning.specs.declared.fault.FileKind.{FileKind}
 

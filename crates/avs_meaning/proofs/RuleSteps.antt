@@ -10,17 +10,12 @@ use Rattle.avs_values.specs.declared.value.Value.TheVariants as v
 use Rattle.avs_meaning.proofs.ExecutionUnits.{condition_leaves, block_leaves, below_leaves}
 use Rattle.avs_meaning.proofs.LoopLemmas.{turn_of, unrolled, counted_past, counted}
 use Rattle.avs_meaning.proofs.TextArguments.{IsText, HasForm}
-use Rattle.avs_meaning.specs.Calls.{Callee, user, builtin, parameters}
-use Rattle.avs_meaning.specs.Expressions.{Caller, direct, eval_name, called, eval, import_, applied, apply, value_of, givens_of}
+use Rattle.avs_meaning.specs.Expressions.{Callee, user, builtin, parameters, Caller, direct, eval_name, called, eval, import_, applied, apply, value_of, givens_of, truth, truth_of, combined, joined, load_short}
 use Rattle.avs_meaning.specs.Faults.{Fault, script}
-use Rattle.avs_meaning.specs.Loops.{Flow, on, go_on, ends, is_past, continues, turned, counts}
+use Rattle.avs_meaning.specs.Statements.{Flow, on, go_on, ends, is_past, continues, turned, counts, condition, chosen, effect_of, arms_of, other_of, block_of}
 use Rattle.avs_meaning.specs.Meaning.{below, context_of, run}
-use Rattle.avs_meaning.specs.Operators.{truth, truth_of, combined, joined}
-use Rattle.avs_meaning.specs.Outside.{Outside}
+use Rattle.avs_meaning.specs.State.{Outside, State, Defined, Outcome, Run, and_then, ◌>>=◌, ◌>>◌, pure, lifted, imported, spend}
 use Rattle.avs_meaning.specs.Rules.{is_logical, receiver, retried, nests}
-use Rattle.avs_meaning.specs.State.{State, Defined, Outcome, Run, and_then, ◌>>=◌, ◌>>◌, pure, lifted, imported, spend}
-use Rattle.avs_meaning.specs.Statements.{condition, chosen, effect_of, arms_of, other_of, block_of}
-use Rattle.avs_meaning.specs.Texts.{load_short}
 use Rattle.avs_meaning.specs.declared.builtin.Builtin.TheVariants as b
 use Rattle.avs_meaning.specs.declared.fault.FileKind.{FileKind}
 use Rattle.avs_meaning.specs.declared.fault.ScriptKind.TheVariants as k

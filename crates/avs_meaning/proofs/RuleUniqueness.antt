@@ -10,15 +10,11 @@ use Rattle.avs_meaning.proofs.LoopLemmas.{turn_of}
 use Rattle.avs_meaning.proofs.RuleSteps.{again_of, branched, chosen_block, for_ended, for_unrolled, call_of, paid_effect, choice_of, load_of, while_unrolled, user_called, eval_called, import_called, import_failed, called_too_deep, both_operands_joined, no_truth_joined, truth_grouped}
 use Rattle.avs_meaning.proofs.DirectCalls.{apply_direct}
 use Rattle.avs_meaning.proofs.TextArguments.{HasForm, has_form}
-use Rattle.avs_meaning.specs.Calls.{Callee}
-use Rattle.avs_meaning.specs.Expressions.{applied, apply, value_of, givens_of, calls_from, steps_from}
-use Rattle.avs_meaning.specs.Loops.{Flow, counts}
+use Rattle.avs_meaning.specs.Expressions.{Callee, applied, apply, value_of, givens_of, calls_from, steps_from, joined}
+use Rattle.avs_meaning.specs.Statements.{Flow, counts, condition, other_of, bounds, effect_of, block_of, body_of}
 use Rattle.avs_meaning.specs.Meaning.{context_of}
-use Rattle.avs_meaning.specs.Operators.{joined}
-use Rattle.avs_meaning.specs.Outside.{Outside}
+use Rattle.avs_meaning.specs.State.{Outside, State, Outcome}
 use Rattle.avs_meaning.specs.Rules as r
-use Rattle.avs_meaning.specs.State.{State, Outcome}
-use Rattle.avs_meaning.specs.Statements.{condition, other_of, bounds, effect_of, block_of, body_of}
 
 module _ (outside : Outside) where
   mutual

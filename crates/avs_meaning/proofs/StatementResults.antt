@@ -9,12 +9,10 @@ use Rattle.avs_meaning.proofs.LoopLemmas.{LeavesLess, turn_of, turn_less}
 use Rattle.avs_meaning.proofs.RuleResults.{AllBelow, some_gives}
 use Rattle.avs_meaning.proofs.RuleSteps.{chosen_block, paid_effect, choice_of, while_unrolled, count_of, for_ended, for_unrolled}
 use Rattle.avs_meaning.proofs.UnitLemmas.{Leaves}
-use Rattle.avs_meaning.specs.Loops.{Flow, on, back, go_on, ends, turned, advanced_to, advance, continues, numbers, is_past}
+use Rattle.avs_meaning.specs.Statements.{Flow, on, back, go_on, ends, turned, advanced_to, advance, continues, numbers, is_past, condition, step_of, bounds, chosen, ends_with, effect_of, arms_of, other_of, block_of, body_of}
 use Rattle.avs_meaning.specs.Meaning.{context_of}
-use Rattle.avs_meaning.specs.Outside.{Outside}
+use Rattle.avs_meaning.specs.State.{Outside, State, Outcome, Run, and_then, ◌>>=◌, ◌>>◌, pure, lifted, spend, set}
 use Rattle.avs_meaning.specs.Rules as r
-use Rattle.avs_meaning.specs.State.{State, Outcome, Run, and_then, ◌>>=◌, ◌>>◌, pure, lifted, spend, set}
-use Rattle.avs_meaning.specs.Statements.{condition, step_of, bounds, chosen, ends_with, effect_of, arms_of, other_of, block_of, body_of}
 
 -- What follows a part, whatever the outcome of the part is.
 module _ (outside : Outside) (n : ℕ) (here : Text) where

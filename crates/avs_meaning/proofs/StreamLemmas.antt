@@ -2,12 +2,12 @@
 use Rattle.std.proofs.Common.{◌≡◌, ℕ, zero, suc, ◌+◌, ◌<◌, ◌≤◌, List, [], ◌∷◌, length, drop, Option, Some, None, Ok, Err, is_none, Bool, true, false, ◌||◌, nat_lt, inl, inr, refl, sym, ◌∙◌, ap, arith, ne_eqb}
 use Rattle.std.specs.List.{position, position_or_len, after_first}
 use Rattle.std.proofs.lemmas.List.{length-drop}
-use Rattle.fv_plane.specs.Clip.{Clip}
+use Rattle.fv_plane.specs.Picture.{Clip}
 use Rattle.y4m_stream.specs.declared.fault.Y4mFault.{Y4mFault}
 use Rattle.y4m_stream.specs.Stream.{is_newline, is_cut, fault_after, FramesThen, size_of, body, Stream, HasFault}
 use Rattle.y4m_stream.proofs.PlaceLemmas.{some_at}
 use Rattle.avs_meaning.specs.Laws.{ClipsAreStreams}
-use Rattle.avs_meaning.specs.Outside.{frames_by, frames_from, info_by, stream_by, clip_in}
+use Rattle.avs_meaning.specs.State.{frames_by, frames_from, info_by, stream_by, clip_in}
 use Rattle.avs_meaning.specs.declared.fault.InputFault.TheVariants as i
 
 not_cut : (none small : Bool) → (none || small) ≡ false → none ≡ false

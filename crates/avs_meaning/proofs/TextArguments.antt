@@ -7,8 +7,8 @@ use Rattle.avs_values.specs.declared.binding.Given.{Given}
 use Rattle.avs_values.specs.declared.value.Kind.TheVariants as k
 use Rattle.avs_values.specs.declared.value.Value.{Value}
 use Rattle.avs_values.specs.declared.value.Value.TheVariants as v
-use Rattle.avs_meaning.specs.Calls.{Callee, builtin, takes, Fit, fit, fit_by, fit_last, or_fit, fit_or_last, unnamed}
-use Rattle.avs_meaning.specs.Signatures.{one}
+use Rattle.avs_meaning.specs.Expressions.{Callee, builtin, takes, Fit, fit, fit_by, fit_last, or_fit, fit_or_last, unnamed}
+use Rattle.avs_meaning.specs.Table.{one}
 use Rattle.avs_meaning.proofs.RangeArguments.{IsRangeOf, range_fits}
 use Rattle.avs_meaning.specs.declared.builtin.Builtin.TheVariants as b
 

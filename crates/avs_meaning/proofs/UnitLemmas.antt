@@ -2,20 +2,17 @@
 use Rattle.std.proofs.Common.{ℕ, zero, suc, ◌≤◌, ℤ, List, [], ◌∷◌, ◌++◌, Bool, true, false, Option, Some, None, Result, Ok, Err, if◌then◌else◌, nat_le, nat_lt, length, slice_get, arith}
 use Rattle.fv_plane.specs.declared.format.Info.{Info}
 use Rattle.fv_plane.specs.Refusals.{first_fault}
-use Rattle.avs_tree.specs.Loaded.{Loaded, NoTree}
-use Rattle.avs_tree.specs.Tree.{Function}
+use Rattle.avs_tree.specs.Tree.{Loaded, NoTree, Function}
 use Rattle.avs_tree.specs.declared.tree.Operator.{Operator}
 use Rattle.avs_tree.specs.declared.tree.Operator.TheVariants as op
 use Rattle.avs_values.specs.Binding.{Bound}
-use Rattle.avs_values.specs.Outcome.{text_limit}
+use Rattle.avs_values.specs.Values.{text_limit, Text}
 use Rattle.avs_values.specs.Operators.{binary}
-use Rattle.avs_values.specs.Values.{Text}
 use Rattle.avs_values.specs.declared.value.Value.{Value}
 use Rattle.avs_values.specs.declared.value.Value.TheVariants as v
 use Rattle.clip_term.specs.Blank.{BlankArgs, blank_refusals, blank_info, colour_of, colour_given}
-use Rattle.clip_term.specs.ClipTerm.{Act, source, plain, time}
+use Rattle.clip_term.specs.Terms.{Act, source, plain, time, check}
 use Rattle.clip_term.specs.Refusals.{nat_of}
-use Rattle.clip_term.specs.Terms.{check}
 use Rattle.clip_term.specs.declared.fault.FilterFault.{FilterFault}
 use Rattle.clip_term.specs.declared.filter.Filter.{Filter}
 use Rattle.clip_term.specs.declared.filter.Filter.TheVariants as f
@@ -24,16 +21,11 @@ use Rattle.clip_graph.specs.declared.graph.TheConstants.Graph.{MAX_NODES, MAX_DE
 use Rattle.clip_graph.specs.Plan.{Application, infos_among, sources_in}
 use Rattle.mt_modes.specs.Modes.{is_mode, mode_in, with_setting}
 use Rattle.avs_meaning.specs.Arguments.{Reading, takes, all_fit_filters, out_of_range}
-use Rattle.avs_meaning.specs.Expressions.{told}
-use Rattle.avs_meaning.specs.Crews.{Numbers}
+use Rattle.avs_meaning.specs.Expressions.{told, binary_of, placed, truth, truth_of, combined, joined, loaded_by, load, load_short}
+use Rattle.avs_meaning.specs.State.{Numbers, Outside, State, Defined, Outcome, Run, and_then, fails, lifted, pay, spend, find, define_by, define, define_all}
 use Rattle.avs_meaning.specs.Faults.{Fault}
 use Rattle.avs_meaning.specs.Filters as filters
-use Rattle.avs_meaning.specs.Filters.{info_of, filtered}
-use Rattle.avs_meaning.specs.Operators.{binary_of, placed, truth, truth_of, combined, joined}
-use Rattle.avs_meaning.specs.Outside.{Outside}
-use Rattle.avs_meaning.specs.Settings.{is_forced, crew_of, set_mode, with_crew, prefetch}
-use Rattle.avs_meaning.specs.State.{State, Defined, Outcome, Run, and_then, fails, lifted, pay, spend, find, define_by, define, define_all}
-use Rattle.avs_meaning.specs.Texts.{loaded_by, load, load_short}
+use Rattle.avs_meaning.specs.Filters.{info_of, filtered, is_forced, crew_of, set_mode, with_crew, prefetch}
 use Rattle.avs_meaning.specs.Meaning.{run}
 use Rattle.avs_meaning.specs.declared.builtin.ClipFn.{ClipFn}
 use Rattle.avs_meaning.specs.declared.fault.InputFault.{InputFault}

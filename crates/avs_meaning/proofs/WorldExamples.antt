@@ -2,8 +2,8 @@
 use Rattle.std.proofs.Common.{refl}
 use lib.Utf8.{encode}
 use Rattle.std.specs.Str.{is_utf8, chars}
-use Rattle.y4m_stream.specs.Parameters.{parameter_fault, info_of}
-use Rattle.avs_meaning.specs.Outside.{frames_from}
+use Rattle.y4m_stream.specs.Head.{parameter_fault, info_of}
+use Rattle.avs_meaning.specs.State.{frames_from}
 use Rattle.avs_meaning.specs.WorldExamples.{ScriptsInWorlds}
 
 pub scripts_in_worlds : ScriptsInWorlds

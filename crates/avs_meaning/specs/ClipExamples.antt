@@ -7,7 +7,7 @@ use Rattle.avs_tree.specs.declared.tree.Operator.TheVariants as op
 use Rattle.avs_tree.specs.declared.words.TypeWord.TheVariants as w
 use Rattle.avs_values.specs.Values.{Text, same}
 use Rattle.clip_term.specs.Blank.{default_clip}
-use Rattle.avs_meaning.specs.Crews.{Numbers}
+use Rattle.avs_meaning.specs.State.{Numbers}
 use Rattle.avs_meaning.specs.Meaning.{Meaning, clip, wrong, files_of}
 use Rattle.avs_meaning.specs.ExampleScripts.{here, script_of, meaning_of, between, dots, shown, seen}
 

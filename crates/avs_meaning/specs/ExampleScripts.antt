@@ -1,12 +1,11 @@
 -- What the worked scripts share: an outside without files, trees by hand, and what is looked at.
 use Rattle.std.specs.Prelude.{ℕ, pos, List, [], codes, Some, Result, Ok, Err}
-use Rattle.avs_tree.specs.Tree.{Expr, int, str, call, chain, Args, no_args, arg, no_steps, step, Block, Function}
+use Rattle.avs_tree.specs.Tree.{Expr, int, str, call, chain, Args, no_args, arg, no_steps, step, Block, Function, Loaded, NoTree}
 use Rattle.avs_tree.specs.declared.tree.Operator.{Operator}
 use Rattle.avs_values.specs.Values.{Text}
 use Rattle.clip_graph.specs.Plan.{application_at}
 use Rattle.avs_meaning.specs.Meaning.{Meaning, clip, wrong, text_meaning}
-use Rattle.avs_tree.specs.Loaded.{Loaded, NoTree}
-use Rattle.avs_meaning.specs.Outside.{Outside}
+use Rattle.avs_meaning.specs.State.{Outside}
 use Rattle.avs_meaning.specs.declared.fault.FileKind.TheVariants as f
 use Rattle.avs_meaning.specs.declared.fault.InputFault.TheVariants as i
 

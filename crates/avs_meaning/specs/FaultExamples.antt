@@ -1,13 +1,12 @@
 -- Scripts with a fault, each computed: its kind, the name of its text, and its line.
 use Rattle.std.specs.Prelude.{◌≡◌, [], ◌∷◌, pos, Ok, Err}
 use Rattle.std.specs.Prelude.{codes, false, Some, None, if◌then◌else◌}
-use Rattle.avs_tree.specs.Tree.{int, bool, str, name, call, no_args, arg, assign, value, if_, for, arm, no_arms, no_else, then_, no_more}
+use Rattle.avs_tree.specs.Tree.{int, bool, str, name, call, no_args, arg, assign, value, if_, for, arm, no_arms, no_else, then_, no_more, syntax}
 use Rattle.avs_tree.specs.declared.tree.Operator.TheVariants as op
 use Rattle.avs_values.specs.Values.{same}
 use Rattle.clip_term.specs.declared.fault.FilterFault.TheVariants as filter
 use Rattle.avs_meaning.specs.Faults.{script, input}
 use Rattle.avs_meaning.specs.Meaning.{wrong, meaning, text_meaning}
-use Rattle.avs_tree.specs.Loaded.{syntax}
 use Rattle.avs_meaning.specs.declared.fault.FileKind.TheVariants as file
 use Rattle.avs_meaning.specs.declared.fault.InputFault.TheVariants as i
 use Rattle.avs_meaning.specs.declared.fault.ScriptKind.TheVariants as k

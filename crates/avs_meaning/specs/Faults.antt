@@ -1,13 +1,18 @@
--- Why a script has no clip.
-use Rattle.std.specs.Prelude.{◌≡◌, ℕ}
-use Rattle.avs_values.specs.Refusals.{Refusal}
-use Rattle.avs_values.specs.Refusals as v
-use Rattle.avs_values.specs.Values.{Text}
+-- Why a script has no clip, and the printed names of it.
+use Rattle.std.specs.Prelude.{◌≡◌, ℕ, codes}
+use Rattle.avs_lex.specs.Tokens.{lex_kind_name}
+use Rattle.avs_values.specs.Values.{Refusal, Text}
+use Rattle.avs_values.specs.Values as v
+use Rattle.clip_term.specs.Refusals.{filter_fault_name}
+use Rattle.avs_meaning.specs.declared.fault.FileKind.{FileKind}
+use Rattle.avs_meaning.specs.declared.fault.FileKind.TheVariants as f
 use Rattle.avs_meaning.specs.declared.fault.InputFault.{InputFault}
 use Rattle.avs_meaning.specs.declared.fault.ScriptKind.{ScriptKind}
 use Rattle.avs_meaning.specs.declared.fault.ScriptKind.TheVariants as k
 use Rattle.avs_meaning.specs.declared.stop.EvalError.{EvalError}
 use Rattle.avs_meaning.specs.declared.stop.EvalError.TheVariants as s
+
+-- ==== Why a script has no clip.
 
 pub data Fault : Type 0 where
   -- a fault at a line of the text of this name
@@ -31,3 +36,35 @@ Shows fault (s.Fault kind name line) = fault ≡ script kind name line
 Shows fault (s.Input name why) = fault ≡ input name why
 Shows fault s.Read = ⊥
 Shows fault s.Memory = Unit {0}
+
+-- ==== The printed names of faults of scripts. A fault that holds one of another kind has that one's name.
+
+abbrev pub file_kind_name : FileKind → Text
+file_kind_name f.NotThere = codes "NotThere"
+file_kind_name f.ScriptTooLong = codes "ScriptTooLong"
+file_kind_name f.NotUtf8 = codes "NotUtf8"
+
+abbrev pub kind_name : ScriptKind → Text
+kind_name (k.Lex kind) = lex_kind_name kind
+kind_name (k.Filter fault) = filter_fault_name fault
+kind_name (k.File kind) = file_kind_name kind
+kind_name (k.AssertFailed message) = codes "AssertFailed"
+kind_name k.TypeFault = codes "TypeFault"
+kind_name k.Overflow = codes "Overflow"
+kind_name k.DivZero = codes "DivZero"
+kind_name k.BadText = codes "BadText"
+kind_name k.BadRange = codes "BadRange"
+kind_name k.BadExpression = codes "BadExpression"
+kind_name k.TextLimit = codes "TextLimit"
+kind_name k.Syntax = codes "Syntax"
+kind_name k.NestLimit = codes "NestLimit"
+kind_name k.UnknownName = codes "UnknownName"
+kind_name k.NoMatch = codes "NoMatch"
+kind_name k.NotClip = codes "NotClip"
+kind_name k.DuplicateFunction = codes "DuplicateFunction"
+kind_name k.StepLimit = codes "StepLimit"
+kind_name k.CallDepth = codes "CallDepth"
+kind_name k.NodeLimit = codes "NodeLimit"
+kind_name k.DepthLimit = codes "DepthLimit"
+kind_name k.ModeRefused = codes "ModeRefused"
+kind_name k.PrefetchRange = codes "PrefetchRange"

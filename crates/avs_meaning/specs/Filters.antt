@@ -1,31 +1,37 @@
--- Filters: their arguments become what they do, and the plan grows where a filter refuses nothing (AviSynth+ wiki,
--- "Internal filters"). Values that no signature lets through are NoMatch.
-use Rattle.std.specs.Prelude.{ℕ, zero, suc, ◌+◌, nat_lt, nat_le, List, [], ◌∷◌, ◌++◌, length, slice_get, Bool, ℤ, Option, Some, None, Result, Ok, Err, if◌then◌else◌}
+-- What calls on clips do: filters, functions that tell of a clip, and settings.
 use Rattle.std.specs.List.{list_all}
-use Rattle.fv_plane.specs.declared.format.Info.{Info}
+use Rattle.std.specs.Prelude.{ℕ, zero, suc, ◌+◌, nat_lt, nat_le, List, [], ◌∷◌, ◌++◌, length, slice_get, Bool, ℤ, Option, Some, None, Result, Ok, Err, if◌then◌else◌, pos, ◌&&◌, ◌==◌, negsuc, false}
+use Rattle.fv_plane.specs.Format.{format_name}
 use Rattle.fv_plane.specs.Refusals.{first_fault}
-use Rattle.avs_tree.specs.Loaded.{Loaded, NoTree}
+use Rattle.fv_plane.specs.declared.format.Info.{Info}
+use Rattle.fv_plane.specs.declared.format.PixelType.{PixelType}
+use Rattle.fv_plane.specs.declared.format.PixelType.TheVariants.{Y8, YV12, YV16, YV24, YV411}
+use Rattle.avs_tree.specs.Tree.{Loaded, NoTree}
 use Rattle.avs_values.specs.Binding.{Bound}
-use Rattle.avs_values.specs.Values.{Text}
+use Rattle.avs_values.specs.Values.{Text, Outcome, number}
 use Rattle.avs_values.specs.declared.value.Value.{Value}
 use Rattle.avs_values.specs.declared.value.Value.TheVariants as v
 use Rattle.clip_term.specs.Blank.{BlankArgs, default_clip, colour_given, blank_info, colour_of, blank_refusals}
-use Rattle.clip_term.specs.ClipTerm.{Act, source, plain, time}
-use Rattle.clip_term.specs.Terms.{check}
+use Rattle.clip_term.specs.Refusals.{same_kind, nat_of}
+use Rattle.clip_term.specs.Terms.{Act, source, plain, time, check}
 use Rattle.clip_term.specs.declared.fault.FilterFault.{FilterFault}
 use Rattle.clip_term.specs.declared.filter.Filter.{Filter}
 use Rattle.clip_term.specs.declared.filter.Filter.TheVariants as f
 use Rattle.clip_term.specs.declared.op.TimeOp.TheVariants as t
-use Rattle.clip_graph.specs.declared.graph.TheConstants.Graph.{MAX_NODES, MAX_DEPTH}
 use Rattle.clip_graph.specs.Plan.{Application, deepest, infos_among, sources_in}
-use Rattle.mt_modes.specs.Modes.{mode_in}
+use Rattle.clip_graph.specs.declared.graph.TheConstants.Graph.{MAX_NODES, MAX_DEPTH}
+use Rattle.mt_modes.specs.Modes.{mode_in, Setting, is_mode, with_setting}
 use Rattle.avs_meaning.specs.Arguments.{Reading, takes, number_at, text_at, clips_given, all_fit_filters, out_of_range}
 use Rattle.avs_meaning.specs.Faults.{input}
-use Rattle.avs_meaning.specs.FilterRows.{reading}
-use Rattle.avs_meaning.specs.Outside.{Outside}
-use Rattle.avs_meaning.specs.State.{Run, ◌>>=◌, pure, fails}
+use Rattle.avs_meaning.specs.State.{Outside, Run, ◌>>=◌, pure, fails, Numbers, crew_in}
+use Rattle.avs_meaning.specs.Table.{reading}
+use Rattle.avs_meaning.specs.declared.builtin.ClipFn.{ClipFn}
+use Rattle.avs_meaning.specs.declared.builtin.ClipFn.TheVariants as c
 use Rattle.avs_meaning.specs.declared.fault.InputFault.{InputFault}
 use Rattle.avs_meaning.specs.declared.fault.ScriptKind.TheVariants as k
+
+-- ==== Filters: their arguments become what they do, and the plan grows where a filter refuses nothing (AviSynth+ wiki,
+-- "Internal filters"). Values that no signature lets through are NoMatch.
 
 -- the seven arguments of BlankClip beside its clip, from a place on
 abbrev pub blank_args : List Value → ℕ → BlankArgs
@@ -132,3 +138,64 @@ module _ (here : Text) where
   abbrev pub ranged : ℕ → ℤ → ℤ → ℕ → Value → Run Value
   ranged i first last line (v.Clip j) = made f.ApplyRange (time (t.ApplyRange first last)) (i ∷ j ∷ []) line
   ranged i first last line _ = fails k.TypeFault here line
+
+-- ==== What the functions on clips tell of a clip's info (AviSynth+ wiki, 'Script functions': "Clip properties").
+
+-- of eight bits
+abbrev pub has_format : PixelType → Info → Outcome
+has_format kind info = Ok (v.Bool (same_kind info.shape.kind kind && info.shape.bits == 8))
+
+abbrev pub clip_value : ClipFn → Info → Outcome
+clip_value c.Width info = number (pos info.shape.width)
+clip_value c.Height info = number (pos info.shape.height)
+clip_value c.FrameCount info = number (pos info.frames)
+clip_value c.FrameRateNumerator info = number (pos info.num)
+clip_value c.FrameRateDenominator info = number (pos info.den)
+clip_value c.IsY8 info = has_format Y8 info
+clip_value c.IsYV12 info = has_format YV12 info
+clip_value c.IsYV16 info = has_format YV16 info
+clip_value c.IsYV24 info = has_format YV24 info
+clip_value c.IsYV411 info = has_format YV411 info
+clip_value c.PixelType info = Ok (v.Text (format_name info.shape))
+clip_value c.BitsPerComponent info = number (pos info.shape.bits)
+
+-- ==== SetFilterMTMode and Prefetch (AviSynth+ wiki, "SetFilterMTMode" and "Prefetch").
+
+-- Without a word on it a setting has no force.
+abbrev pub is_forced : Value → Bool
+is_forced (v.Bool force) = force
+is_forced _ = false
+
+-- A negative number is in no range, as 0 is.
+abbrev pub count_of : ℤ → ℕ
+count_of (pos n) = n
+count_of (negsuc n) = 0
+
+abbrev pub frames_given : Value → Option ℕ
+frames_given (v.Int frames) = Some (count_of frames)
+frames_given _ = None
+
+-- the workers, and the frames of a window where they are given
+abbrev pub crew_of : ℤ → Value → Option Numbers
+crew_of threads frames = crew_in (count_of threads) (frames_given frames)
+
+-- in the text of this name
+module _ (here : Text) where
+  abbrev pub set_mode_of : Text → ℤ → Bool → ℕ → Run Value
+  set_mode_of name mode force line = λ s.
+      let setting : Setting = record { name = name; mode = nat_of mode; force = force } in
+      if is_mode mode then Ok (v.Undefined, record s { modes = with_setting s.modes setting })
+      else fails k.ModeRefused here line s
+
+  abbrev pub set_mode : List Value → ℕ → Run Value
+  set_mode (v.Text name ∷ v.Int mode ∷ force ∷ []) line = set_mode_of name mode (is_forced force) line
+  set_mode _ line = fails k.NoMatch here line
+
+  abbrev pub with_crew : Option Numbers → ℕ → ℕ → Run Value
+  with_crew (Some crew) i line = λ s. Ok (v.Clip i, record s { crew = Some crew })
+  with_crew None i line = fails k.PrefetchRange here line
+
+  -- The clip is given on. Of several calls the last one counts.
+  abbrev pub prefetch : List Value → ℕ → Run Value
+  prefetch (v.Clip i ∷ v.Int threads ∷ frames ∷ []) line = with_crew (crew_of threads frames) i line
+  prefetch _ line = fails k.NoMatch here line

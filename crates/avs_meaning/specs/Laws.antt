@@ -1,11 +1,11 @@
 -- What the definitions determine.
 use Rattle.std.specs.Prelude.{◌≡◌, ℕ, List, Some, Ok, Err, map}
-use Rattle.fv_plane.specs.Clip.{Clip}
+use Rattle.fv_plane.specs.Picture.{Clip}
 use Rattle.y4m_stream.specs.declared.fault.Y4mFault.{Y4mFault}
 use Rattle.y4m_stream.specs.Stream.{Stream, HasFault}
 use Rattle.clip_term.specs.Filters as filters
 use Rattle.clip_term.specs.declared.filter.Filter.{Filter}
-use Rattle.avs_meaning.specs.Outside.{clip_in}
+use Rattle.avs_meaning.specs.State.{clip_in}
 use Rattle.avs_meaning.specs.Table.{builtins, builtin_of, maker_of, name_of}
 use Rattle.avs_meaning.specs.declared.fault.InputFault.TheVariants as i
 

@@ -6,14 +6,11 @@ use Rattle.avs_values.specs.declared.value.Value.{Value}
 use Rattle.avs_values.specs.declared.value.Value.TheVariants as v
 use Rattle.clip_graph.specs.Plan.{Application, sources_in}
 use Rattle.mt_modes.specs.Modes.{no_modes}
-use Rattle.avs_meaning.specs.Context.{Context}
-use Rattle.avs_meaning.specs.Crews.{Numbers}
+use Rattle.avs_meaning.specs.State.{Context, Numbers, Outside, State, Outcome, Run, ◌>>=◌, fails, pure}
 use Rattle.avs_meaning.specs.Faults.{Fault, script}
 use Rattle.avs_meaning.specs.Filters.{info_of}
-use Rattle.avs_meaning.specs.Outside.{Outside}
-use Rattle.avs_meaning.specs.State.{State, Outcome, Run, ◌>>=◌, fails, pure}
 use Rattle.avs_meaning.specs.Statements.{body_of}
-use Rattle.avs_meaning.specs.Texts.{load}
+use Rattle.avs_meaning.specs.Expressions.{load}
 use Rattle.avs_meaning.specs.declared.fault.FileKind.{FileKind}
 use Rattle.avs_meaning.specs.declared.fault.ScriptKind.TheVariants as k
 

@@ -6,9 +6,8 @@ use Rattle.avs_values.specs.declared.value.Value.{Value}
 use Rattle.avs_values.specs.declared.value.Value.TheVariants as v
 use Rattle.avs_meaning.specs.Expressions.{value_of}
 use Rattle.avs_meaning.specs.Meaning.{context_of, run}
-use Rattle.avs_meaning.specs.Outside.{Outside}
+use Rattle.avs_meaning.specs.State.{Outside, State, Outcome}
 use Rattle.avs_meaning.specs.Rules.{Gives, Executes}
-use Rattle.avs_meaning.specs.State.{State, Outcome}
 
 -- the statements of a text or a function
 pub record RulesAreExecution : Type 0 where

@@ -2,8 +2,7 @@
 -- Nothing bounds the turns of a loop but the units that they cost. Expressions.antt and Statements.antt say the same by
 -- functions: each start has the one outcome that these give (RuleLaws.antt).
 use Rattle.std.specs.Prelude.{◌≡◌, ℕ, zero, suc, ℤ, pos, List, [], ◌∷◌, ◌++◌, map, Bool, true, false, ◌&&◌, Option, Some, None, Ok, Err}
-use Rattle.avs_tree.specs.Loaded.{Loaded}
-use Rattle.avs_tree.specs.Tree.{Expr, int, bool, str, name, call, method_calls, minus, not_, chain, compare, conditional, group, Args, no_args, arg, MethodCalls, no_method_calls, method, method_call, Steps, no_steps, step, Kind, global, assign, return, if_, while, for, value, Arms, no_arms, arm, Else, no_else, else_, Block, no_more, then_}
+use Rattle.avs_tree.specs.Tree.{Loaded, Expr, int, bool, str, name, call, method_calls, minus, not_, chain, compare, conditional, group, Args, no_args, arg, MethodCalls, no_method_calls, method, method_call, Steps, no_steps, step, Kind, global, assign, return, if_, while, for, value, Arms, no_arms, arm, Else, no_else, else_, Block, no_more, then_}
 use Rattle.avs_tree.specs.declared.tree.Operator.{Operator}
 use Rattle.avs_tree.specs.declared.tree.Operator.TheVariants as op
 use Rattle.avs_values.specs.Binding.{Bound}
@@ -16,17 +15,11 @@ use Rattle.avs_values.specs.declared.value.Value.{Value}
 use Rattle.avs_values.specs.declared.value.Value.TheVariants as v
 use Rattle.clip_term.specs.declared.filter.Filter.{Filter}
 use Rattle.avs_meaning.specs.Arguments.{is_filter_number, out_of_range}
-use Rattle.avs_meaning.specs.Calls.{Callee, user, builtin, callee, takes, fit_or_last, unnamed, last_name, parameters}
-use Rattle.avs_meaning.specs.Expressions.{eval_name, told}
+use Rattle.avs_meaning.specs.Expressions.{Callee, user, builtin, callee, takes, fit_or_last, unnamed, last_name, parameters, eval_name, told, placed, truth, prefixed, compared, combined, load_short}
 use Rattle.avs_meaning.specs.Faults.{Fault, script}
-use Rattle.avs_meaning.specs.Filters.{filtered, ranged}
-use Rattle.avs_meaning.specs.Loops.{Flow, on, back, ends, is_past, advance, numbers}
-use Rattle.avs_meaning.specs.Operators.{placed, truth, prefixed, compared, combined}
-use Rattle.avs_meaning.specs.Outside.{Outside}
-use Rattle.avs_meaning.specs.Settings.{set_mode, prefetch}
-use Rattle.avs_meaning.specs.State.{State, Defined, Outcome, and_then, ◌>>◌, pure, lifted, imported, spend, lookup, with, variable, set, set_global}
-use Rattle.avs_meaning.specs.Statements.{sets_last, settled}
-use Rattle.avs_meaning.specs.Texts.{load_short}
+use Rattle.avs_meaning.specs.Filters.{filtered, ranged, set_mode, prefetch}
+use Rattle.avs_meaning.specs.Statements.{Flow, on, back, ends, is_past, advance, numbers, sets_last, settled}
+use Rattle.avs_meaning.specs.State.{Outside, State, Defined, Outcome, and_then, ◌>>◌, pure, lifted, imported, spend, lookup, with, variable, set, set_global}
 use Rattle.avs_meaning.specs.declared.builtin.Builtin.TheVariants as b
 use Rattle.avs_meaning.specs.declared.builtin.ClipFn.{ClipFn}
 use Rattle.avs_meaning.specs.declared.fault.FileKind.{FileKind}

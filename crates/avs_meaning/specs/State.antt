@@ -1,16 +1,119 @@
--- The state of a run, and what a run gives: a value and the next state, or a fault.
-use Rattle.std.specs.Prelude.{ℕ, zero, suc, ◌+◌, List, [], ◌∷◌, ◌++◌, Option, Some, None, Result, Ok, Err, if◌then◌else◌}
+-- What a run works in: the outside, its state, its workers, and its context.
+use Rattle.std.specs.FinMap.{get}
+use Rattle.std.specs.List.{after_first}
+use Rattle.std.specs.Prelude.{ℕ, ◌*◌, ◌≤◌, nat_le, Bool, true, ◌&&◌, Option, Some, None, if◌then◌else◌, zero, suc, ◌+◌, List, [], ◌∷◌, length, drop, nat_lt, Result, Ok, Err, ◌++◌}
+use Rattle.std.specs.Str.{is_utf8}
+use Rattle.fv_io.specs.World.{World}
+use Rattle.fv_plane.specs.declared.format.Info.{Info}
+use Rattle.y4m_stream.specs.Stream.{is_newline, head_fault, head_info, fault_after, size_of, body}
+use Rattle.y4m_stream.specs.declared.fault.Y4mFault.{Y4mFault}
+use Rattle.y4m_stream.specs.declared.fault.Y4mFault.TheVariants.{NoFrames}
+use Rattle.avs_tree.specs.Tree.{Loaded, NoTree, Block}
 use Rattle.avs_tree.specs.Tree as tree
-use Rattle.avs_values.specs.Values.{Text, same}
+use Rattle.avs_values.specs.Values.{text_limit, Text, same}
 use Rattle.avs_values.specs.declared.value.Value.{Value}
 use Rattle.clip_graph.specs.Plan.{Application}
 use Rattle.mt_modes.specs.Modes.{Modes}
-use Rattle.avs_meaning.specs.Crews.{Numbers}
 use Rattle.avs_meaning.specs.Faults.{Fault, script}
+use Rattle.avs_meaning.specs.declared.fault.FileKind.{FileKind}
+use Rattle.avs_meaning.specs.declared.fault.FileKind.TheVariants as f
+use Rattle.avs_meaning.specs.declared.fault.InputFault.{InputFault}
+use Rattle.avs_meaning.specs.declared.fault.InputFault.TheVariants as i
 use Rattle.avs_meaning.specs.declared.fault.ScriptKind.{ScriptKind}
 use Rattle.avs_meaning.specs.declared.fault.ScriptKind.TheVariants as k
 use Rattle.avs_meaning.specs.declared.state.SourceClip.{SourceClip}
 use Rattle.avs_meaning.specs.declared.state.Variable.{Variable}
+
+-- ==== The workers of a render (AviSynth+ wiki, "Prefetch").
+
+-- how many workers, and how many frames a window has, where that is given
+pub record Numbers : Type 0 where
+  pub threads : ℕ
+  pub frames : Option ℕ
+
+abbrev pub is_among : ℕ → ℕ → Bool
+is_among most n = nat_le 1 n && nat_le n most
+
+abbrev pub all_among : ℕ → Option ℕ → Bool
+all_among most None = true
+all_among most (Some n) = is_among most n
+
+-- the numbers, where they are in their ranges
+abbrev pub crew_in : ℕ → Option ℕ → Option Numbers
+crew_in threads frames =
+    if is_among 16 threads && all_among 32 frames then Some (record { threads = threads; frames = frames }) else None
+
+-- twice as many frames as workers where none are given
+abbrev pub frames_or : ℕ → Option ℕ → ℕ
+frames_or threads (Some n) = n
+frames_or threads None = 2 * threads
+
+abbrev pub window_of : Numbers → ℕ
+window_of crew = frames_or crew.threads crew.frames
+
+pub record IsCrew (crew : Numbers) : Type 0 where
+  pub least : 1 ≤ crew.threads
+  pub most : crew.threads ≤ 16
+  pub some_frames : 1 ≤ window_of crew
+  pub few_frames : window_of crew ≤ 32
+
+-- Without Prefetch there is one worker, and a window has one frame.
+abbrev pub workers : Option Numbers → ℕ
+workers None = 1
+workers (Some crew) = crew.threads
+
+abbrev pub window : Option Numbers → ℕ
+window None = 1
+window (Some crew) = window_of crew
+
+-- ==== What the outside tells a script: the trees of texts, the clips of files, and the scripts of files.
+
+pub record Outside : Type 0 where
+  pub trees : Text → Result Loaded NoTree
+  -- by the names of files
+  pub clips : Text → Result Info InputFault
+  pub scripts : Text → Result Text FileKind
+
+-- ---- the outside of a world of files
+
+abbrev pub script_in : Option (List ℕ) → Result Text FileKind
+script_in None = Err f.NotThere
+script_in (Some bytes) =
+    if nat_lt text_limit (length bytes) then Err f.ScriptTooLong else (if is_utf8 bytes then Ok bytes else Err f.NotUtf8)
+
+-- after k frames: the fault that comes next, or their number where the bytes end, or what the rest gives
+abbrev pub frames_by : Option Y4mFault → ℕ → List ℕ → Result ℕ Y4mFault → Result ℕ Y4mFault
+frames_by (Some fault) k left rest = Err fault
+frames_by None k [] rest = Ok k
+frames_by None k (byte ∷ left) rest = rest
+
+-- Each frame has a byte, so that there are no more frames than bytes.
+unfoldable pub frames_from : ℕ → ℕ → ℕ → List ℕ → Result ℕ Y4mFault
+frames_from zero size k left = Err NoFrames
+frames_from (suc fuel) size k left =
+    frames_by (fault_after size k left) k left (frames_from fuel size (k + 1) (drop size (after_first is_newline left)))
+
+abbrev pub info_by : Result ℕ Y4mFault → List ℕ → Result Info InputFault
+info_by (Ok frames) bytes = Ok (head_info bytes frames)
+info_by (Err fault) bytes = Err (i.Y4m fault)
+
+abbrev pub stream_by : Option Y4mFault → List ℕ → Result Info InputFault
+stream_by (Some fault) bytes = Err (i.Y4m fault)
+stream_by None bytes = info_by (frames_from (length bytes + 1) (size_of bytes) 0 (body bytes)) bytes
+
+abbrev pub clip_in : Option (List ℕ) → Result Info InputFault
+clip_in None = Err i.NotThere
+clip_in (Some bytes) = stream_by (head_fault bytes) bytes
+
+-- what the files of a world tell, where texts have these trees
+abbrev pub outside_of : (Text → Result Loaded NoTree) → World → Outside
+outside_of trees world = record {
+  trees = trees;
+  clips = λ name. clip_in (get world name);
+  scripts = λ name. script_in (get world name);
+}
+
+-- ==== The state of a run, and what a run gives: a value and the next state, or a fault.
 
 -- a function, and the name of the text that it stands in
 pub record Defined : Type 0 where
@@ -128,3 +231,12 @@ define function here = λ s. define_by (find function.name s.functions) function
 abbrev pub define_all : List tree.Function → Text → Run (Unit {0})
 define_all [] here = pure tt
 define_all (function ∷ rest) here = define function here >> define_all rest here
+
+-- ==== What the expressions and the statements of a text are evaluated in.
+
+pub record Context : Type 0 where
+  pub outside : Outside
+  -- how many calls may still nest
+  pub depth : ℕ
+  -- what executes the statements of a text one call deeper
+  pub deeper : Text → Block → Run Value

@@ -2,7 +2,7 @@
 use Rattle.std.specs.Prelude.{◌≡◌, [], ◌∷◌, Ok, Err}
 use Rattle.std.specs.Prelude.{codes, Some, None}
 use Rattle.y4m_stream.specs.declared.fault.Y4mFault.TheVariants.{NotY4m, NoFrames, Truncated}
-use Rattle.avs_meaning.specs.Outside.{script_in, clip_in}
+use Rattle.avs_meaning.specs.State.{script_in, clip_in}
 use Rattle.avs_meaning.specs.declared.fault.FileKind.TheVariants as f
 use Rattle.avs_meaning.specs.declared.fault.InputFault.TheVariants as i
 

@@ -1,6 +1,6 @@
 // How many workers and outputs a window `Prefetch` asks for.
 ghost use Rattle.std.specs.Prelude.{◌≡◌, ◌≤◌};
-ghost use Rattle.avs_meaning.specs.Crews as d;
+ghost use Rattle.avs_meaning.specs.State as d;
 
 use std::marker::Model;
 
@@ -12,7 +12,7 @@ pub struct Crew {
 }
 
 impl Model for Crew {
-    ghost use Rattle.avs_meaning.specs.Crews.{IsCrew, Numbers};
+    ghost use Rattle.avs_meaning.specs.State.{IsCrew, Numbers};
 
     ghost Value = { Numbers };
 

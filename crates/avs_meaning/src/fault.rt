@@ -17,7 +17,7 @@ pub enum FileKind {
 
 impl FileKind {
     ghost use Rattle.std.specs.Prelude.{◌≡◌};
-    ghost use Rattle.avs_meaning.specs.FaultNames.{file_kind_name};
+    ghost use Rattle.avs_meaning.specs.Faults.{file_kind_name};
 
     /// The name of the fault as it is printed.
     pub fn name(self) -> &'static str
@@ -93,7 +93,7 @@ pub enum ScriptKind {
 
 impl ScriptKind {
     ghost use Rattle.std.specs.Prelude.{◌≡◌};
-    ghost use Rattle.avs_meaning.specs.FaultNames.{kind_name};
+    ghost use Rattle.avs_meaning.specs.Faults.{kind_name};
 
     /// The name of the fault as it is printed, without the text of an `AssertFailed`.
     pub fn name(&self) -> &'static str

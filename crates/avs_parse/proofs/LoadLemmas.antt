@@ -2,19 +2,17 @@
 use Rattle.std.proofs.Common.{◌≡◌, ℕ, zero, suc, ◌-◌, ◌<◌, ◌≤◌, sym, subst, refl, ap, ◌∙◌, arith, List, length, drop, Result, Ok, Err}
 use Rattle.avs_lex.specs.declared.fault.LexKind.{LexKind}
 use Rattle.avs_lex.specs.declared.token.Token.{Token}
-use Rattle.avs_lex.specs.Characters.{Text}
+use Rattle.avs_lex.specs.Spelling.{Text}
 use Rattle.avs_lex.specs.Tokens.{Tokens, LexFault, IsFault}
 use Rattle.avs_lex.specs.declared.fault.LexError.{LexError}
 use Rattle.avs_lex.specs.declared.fault.LexError.TheVariants as l
 use Rattle.avs_tree.specs.Lexeme as x
 use Rattle.avs_tree.specs.Lexeme.{Lexemes, lexemes}
-use Rattle.avs_tree.specs.Tree.{Script}
-use Rattle.avs_tree.specs.Script.{HasTree}
-use Rattle.avs_tree.specs.Loaded.{Loaded, NoTree, lexical, syntax, nests}
+use Rattle.avs_tree.specs.Tree.{Script, Loaded, NoTree, lexical, syntax, nests}
+use Rattle.avs_tree.specs.Grammar.{HasTree}
 use Rattle.avs_tree.specs.Place.{Verdict, accepts, stops, too_deep, verdict, StopsAt, DeepAt, Answers}
 use Rattle.avs_tree.proofs.CallerLemmas.{exact, accepted}
-use Rattle.avs_parse.specs.TokensOf.{Reading, tokens_of}
-use Rattle.avs_parse.specs.Load.{last_line, line_at, tree_by, script_by, script_of}
+use Rattle.avs_parse.specs.Load.{Reading, tokens_of, last_line, line_at, tree_by, script_by, script_of}
 use Rattle.avs_parse.specs.Loads.{Loads, of_tokens, of_text}
 use Rattle.avs_parse.specs.Place.{TellsPlace, TellsLine}
 use Rattle.avs_parse.specs.declared.fault.ParseError.{ParseError}

@@ -4,9 +4,8 @@ use Rattle.std.proofs.lemmas.Bool.Decides.{nat_tests}
 use Rattle.avs_lex.specs.declared.token.Token.{Token}
 use Rattle.avs_lex.specs.declared.token.TokenKind.{TokenKind}
 use Rattle.avs_lex.specs.declared.token.TokenKind.TheVariants.{Ident, Int, Str, Newline, End, LeftParen, RightParen, LeftBrace, RightBrace, Comma, Dot, Assign, Equal, NotEqual, Less, LessEqual, Greater, GreaterEqual, Plus, PlusPlus, Minus, Times, Divide, Remainder, AndAnd, OrOr, Not, Question, Colon}
-use Rattle.avs_lex.specs.Characters.{Text}
-use Rattle.avs_lex.specs.Spelling.{Spells}
-use Rattle.avs_lex.specs.TokenList.{bytes_of, IsTokenOf, IsTokenList}
+use Rattle.avs_lex.specs.Spelling.{Text, Spells}
+use Rattle.avs_lex.specs.Tokens.{bytes_of, IsTokenOf, IsTokenList}
 use Rattle.avs_tree.specs.Lexeme.{lexeme_of, lexemes, line_of}
 use Rattle.avs_lex.proofs.CallerLemmas.{either}
 

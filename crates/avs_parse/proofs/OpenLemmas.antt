@@ -1,8 +1,7 @@
 -- How much is open in an expression: a token opens at most two things more, whatever it closes.
 use Rattle.std.proofs.Common.{◌≡◌, refl, sym, subst, ap, ◌∙◌, ℕ, suc, ◌+◌, ◌≤◌, arith, Bool, true, false, List, [], ◌∷◌, ◌++◌, length, Option, Some, None, if◌then◌else◌}
-use Rattle.avs_lex.specs.Characters.{Text}
-use Rattle.avs_tree.specs.Lexeme.{Lexemes, line_of, is_name}
-use Rattle.avs_tree.specs.Words.{type_word_of}
+use Rattle.avs_lex.specs.Spelling.{Text}
+use Rattle.avs_tree.specs.Lexeme.{Lexemes, line_of, is_name, type_word_of, peek, content_at, is_punctuation}
 use Rattle.avs_tree.specs.Tree.{Expr, global, assign, return, if_, while, for, value, no_else, else_, Function, method_calls}
 use Rattle.avs_tree.specs.Tree as t
 use Rattle.avs_tree.specs.View.{StatementIs, ArmIs, MethodCallIs, arms_of, method_calls_of}
@@ -13,9 +12,7 @@ use Rattle.avs_tree.specs.declared.words.TypeWord.{TypeWord}
 use Rattle.avs_tree.specs.declared.symbol.Punctuation.TheVariants as m
 use Rattle.avs_tree.specs.declared.tree.Operator.TheVariants as o
 use Rattle.avs_tree.specs.declared.tree.Parameter.{Parameter}
-use Rattle.avs_tree.specs.Next.{peek, content_at, is_punctuation}
-use Rattle.avs_tree.specs.ExprMachine.{Open, argument, ExprState, operand_next, value_read, name_read, args_opened, dot_read, method_read, calls_read, call_of, method_of, ExprStep, keeps, leaves, refused, operand, operand_by, grow, grow_by, grows, called, Closing, no_closing, taken, reopened, closed, closing, by_closing, close, after, after_calls, method_by, expr_step}
-use Rattle.avs_tree.specs.Machine.{Use, to_value, to_global, to_assign, to_return, to_arm, to_while, to_first, to_last, to_step, Owner, arm_of, else_of, while_of, for_of, Levels, top, in_function, level, StatementState, statement_next, in_expression, parenthesis_next, braces_next, after_arm, after_else, after_global, after_global_name, after_for, for_opened, after_for_name, HeadState, after_function, after_function_name, head_opened, after_type, after_parameter, parameter_next, function_braces_next, State, start, at, at_head, Step, stuck, goes, whole, close_by, end_by, in_statement, function_by, items_by, done_by, assigned, used, expression_by, body_by, arms_by, other_by, global_by, for_by, advance_statement, function_name_by, type_by, with_parameter, parameter_by, function_body_by, advance_head, advance}
+use Rattle.avs_tree.specs.Machine.{Open, argument, ExprState, operand_next, value_read, name_read, args_opened, dot_read, method_read, calls_read, call_of, method_of, ExprStep, keeps, leaves, refused, operand, operand_by, grow, grow_by, grows, called, Closing, no_closing, taken, reopened, closed, closing, by_closing, close, after, after_calls, method_by, expr_step, Use, to_value, to_global, to_assign, to_return, to_arm, to_while, to_first, to_last, to_step, Owner, arm_of, else_of, while_of, for_of, Levels, top, in_function, level, StatementState, statement_next, in_expression, parenthesis_next, braces_next, after_arm, after_else, after_global, after_global_name, after_for, for_opened, after_for_name, HeadState, after_function, after_function_name, head_opened, after_type, after_parameter, parameter_next, function_braces_next, State, start, at, at_head, Step, stuck, goes, whole, close_by, end_by, in_statement, function_by, items_by, done_by, assigned, used, expression_by, body_by, arms_by, other_by, global_by, for_by, advance_statement, function_name_by, type_by, with_parameter, parameter_by, function_body_by, advance_head, advance}
 use Rattle.avs_frames.specs.ExprViews.{open_view, onto, opened_view}
 use Rattle.avs_frames.specs.declared.state.Open as f
 use Rattle.avs_parse.specs.ScriptViews.{state_view, statement_state_view}

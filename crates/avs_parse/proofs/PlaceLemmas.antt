@@ -1,14 +1,13 @@
 -- From the verdict of the machine to what the parser answers, and back.
 use Rattle.std.proofs.Common.{◌≡◌, refl, ap, subst, ◌∙◌, ℕ, zero, suc, ◌+◌, ◌-◌, ◌<◌, ◌≤◌, arith, List, [], ◌∷◌, ◌++◌, length, map, append_assoc, length-append, slice_index_or}
 use Rattle.std.proofs.lemmas.List.{length-map}
-use Rattle.avs_lex.specs.Characters.{Text}
-use Rattle.avs_lex.specs.Tokens.{Tokens}
-use Rattle.avs_lex.specs.TokenList.{IsTokenList}
+use Rattle.avs_lex.specs.Spelling.{Text}
+use Rattle.avs_lex.specs.Tokens.{Tokens, IsTokenList}
 use Rattle.avs_lex.specs.declared.token.Token.{Token}
 use Rattle.avs_lex.specs.declared.token.TokenKind.TheVariants.{End}
 use Rattle.avs_tree.specs.Lexeme.{Lexeme, Lexemes, lexeme_of, lexemes}
 use Rattle.avs_tree.specs.Tree.{Script}
-use Rattle.avs_tree.specs.Script.{IsScript, HasTree}
+use Rattle.avs_tree.specs.Grammar.{IsScript, HasTree}
 use Rattle.avs_tree.specs.declared.symbol.Symbol.TheVariants as s
 use Rattle.avs_tree.specs.declared.symbol.Punctuation.TheVariants as m
 use Rattle.avs_tree.specs.Place.{Verdict, accepts, stops, too_deep, verdict, StopsAt, DeepAt, Answers}

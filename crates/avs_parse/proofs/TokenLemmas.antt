@@ -3,13 +3,13 @@ use Rattle.std.proofs.Common.{◌≡◌, ℕ, zero, suc, ◌+◌, ◌-◌, ◌<�
 use Rattle.avs_lex.specs.declared.piece.Piece.TheVariants.{Blank, One, EndOfScript, Fault}
 use Rattle.avs_lex.specs.declared.fault.LexKind.{LexKind}
 use Rattle.avs_lex.specs.declared.token.Token.{Token}
-use Rattle.avs_lex.specs.Characters.{Text}
+use Rattle.avs_lex.specs.Spelling.{Text}
 use Rattle.avs_lex.specs.Piece.{IsWithin}
 use Rattle.avs_lex.specs.Tokens.{start_of, begins_line, piece_at, token_at, open_parentheses_after, ReadTo, begin, blank, token, Tokens, LexFault}
 use Rattle.avs_lex.proofs.CallerLemmas.{one_reading}
 use Rattle.avs_lex.proofs.FitLemmas.{piece_within}
 use Rattle.avs_lex.proofs.ReadingLemmas.{start_within}
-use Rattle.avs_parse.specs.TokensOf.{Reading, read_by, read_on, tokens_of}
+use Rattle.avs_parse.specs.Load.{Reading, read_by, read_on, tokens_of}
 use Rattle.avs_parse.specs.Laws.{TokensAreFound, FirstFaultIsFound}
 
 -- the text has these tokens, or this first fault

@@ -1,7 +1,7 @@
 -- One turn of the machine.
 use Rattle.std.proofs.Common.{◌≡◌, refl, ap, sym, subst, ◌∙◌, slice_index_or, take, drop, ◌+◌, ◌-◌, ◌*◌, All, ℕ, suc, ◌<◌, ◌≤◌, List, [], ◌∷◌, length, arith}
 use Rattle.std.proofs.Math.Seq.{take-length}
-use Rattle.avs_lex.specs.Characters.{Text}
+use Rattle.avs_lex.specs.Spelling.{Text}
 use Rattle.avs_lex.specs.declared.token.Token.{Token}
 use Rattle.avs_tree.specs.Lexeme.{Lexeme, Lexemes, lexeme_of, lexemes}
 use Rattle.avs_tree.specs.Machine.{State, Step, advance}

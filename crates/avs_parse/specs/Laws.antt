@@ -2,14 +2,13 @@
 use Rattle.std.specs.Prelude.{◌≡◌, ◌↔◌, ℕ, ◌-◌, List, length, drop, Ok, Err}
 use Rattle.avs_lex.specs.declared.fault.LexKind.{LexKind}
 use Rattle.avs_lex.specs.declared.token.Token.{Token}
-use Rattle.avs_lex.specs.Characters.{Text}
+use Rattle.avs_lex.specs.Spelling.{Text}
 use Rattle.avs_lex.specs.Tokens.{Tokens, LexFault}
 use Rattle.avs_tree.specs.Lexeme.{Lexemes, lexemes, line_of}
-use Rattle.avs_tree.specs.Loaded.{Loaded, lexical, syntax, nests}
-use Rattle.avs_tree.specs.Script.{HasTree}
+use Rattle.avs_tree.specs.Tree.{Loaded, lexical, syntax, nests}
+use Rattle.avs_tree.specs.Grammar.{HasTree}
 use Rattle.avs_tree.specs.Place.{StopsAt, DeepAt}
-use Rattle.avs_parse.specs.TokensOf.{tokens_of}
-use Rattle.avs_parse.specs.Load.{last_line, script_of}
+use Rattle.avs_parse.specs.Load.{tokens_of, last_line, script_of}
 
 -- ---- tokens
 

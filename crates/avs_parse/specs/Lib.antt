@@ -2,7 +2,6 @@ pub mod Place
 pub mod ScriptViews
 pub mod Turns
 pub mod VerdictView
-pub mod TokensOf
 pub mod Load
 pub mod Loads
 pub mod Laws

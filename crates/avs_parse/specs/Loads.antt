@@ -1,7 +1,7 @@
 -- What the code answers.
 use Rattle.std.specs.Prelude.{◌≡◌, Result, Ok, Err, ⊤}
 use Rattle.avs_tree.specs.View.{script_view}
-use Rattle.avs_tree.specs.Loaded as d
+use Rattle.avs_tree.specs.Tree as d
 use Rattle.avs_parse.specs.declared.loader.Loaded.{Loaded}
 use Rattle.avs_parse.specs.declared.fault.LoadFault.{LoadFault}
 use Rattle.avs_parse.specs.declared.fault.LoadFault.TheVariants.{Lex, Syntax, NestLimit, Memory}

@@ -2,7 +2,7 @@
 use Rattle.std.specs.Prelude.{◌≡◌, ◌-◌, length, drop, ⊤}
 use Rattle.avs_tree.specs.Lexeme.{Lexemes, line_of}
 use Rattle.avs_tree.specs.Tree.{Script}
-use Rattle.avs_tree.specs.Script.{HasTree}
+use Rattle.avs_tree.specs.Grammar.{HasTree}
 use Rattle.avs_tree.specs.Place.{StopsAt, DeepAt}
 use Rattle.avs_parse.specs.declared.fault.ParseError.{ParseError}
 use Rattle.avs_parse.specs.declared.fault.ParseError.TheVariants.{Syntax, NestLimit, Memory}

@@ -1,6 +1,6 @@
 // What a token does to the head of a function.
 ghost use Rattle.std.specs.Prelude.{◌≡◌, [], Some, IfOk};
-ghost use Rattle.avs_tree.specs.Words.{type_word_of};
+ghost use Rattle.avs_tree.specs.Lexeme.{type_word_of};
 ghost use Rattle.avs_tree.specs.Machine as machine;
 ghost use Rattle.avs_parse.specs.ScriptViews.{Steps, head_state_view, outer, step_view};
 ghost use Rattle.avs_frames.specs.Seen.{seen};

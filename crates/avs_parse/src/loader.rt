@@ -1,7 +1,6 @@
 // `load`: the tree of a text, with the line of its end.
 ghost use Rattle.std.specs.Prelude.{◌≡◌, ◌<◌, ◌-◌, ◌^◌, length};
-ghost use Rattle.avs_lex.specs.TokenList.{IsTokenList};
-ghost use Rattle.avs_lex.specs.Tokens.{Tokens};
+ghost use Rattle.avs_lex.specs.Tokens.{IsTokenList, Tokens};
 ghost use Rattle.avs_parse.specs.Load.{script_of, last_line};
 ghost use Rattle.avs_parse.specs.Loads.{Loads, of_text, of_tokens};
 

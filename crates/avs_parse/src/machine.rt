@@ -1,6 +1,6 @@
 // The machine over tokens.
 ghost use Rattle.std.specs.Prelude.{◌≡◌, ◌<◌, ◌≤◌, ◌+◌, ◌^◌, All, length, IfOk, IfErr};
-ghost use Rattle.avs_lex.specs.TokenList.{IsTokenOf};
+ghost use Rattle.avs_lex.specs.Tokens.{IsTokenOf};
 ghost use Rattle.avs_tree.specs.Lexeme.{lexemes};
 ghost use Rattle.avs_tree.specs.View.{script_view};
 ghost use Rattle.avs_tree.specs.Machine as machine;

@@ -1,7 +1,7 @@
 // How many levels of nesting are open.
 ghost use Rattle.std.specs.Prelude.{◌≡◌, ◌≤◌, nat_lt};
 ghost use Rattle.avs_tree.specs.Machine as machine;
-ghost use Rattle.avs_tree.specs.Nesting.{use_level, statement_level, head_level, level_of};
+ghost use Rattle.avs_tree.specs.Machine.{use_level, statement_level, head_level, level_of};
 ghost use Rattle.avs_parse.specs.ScriptViews.{levels_view, statement_state_view, head_state_view, state_view, use_view};
 
 use crate::around::Levels;

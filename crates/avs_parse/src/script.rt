@@ -1,8 +1,8 @@
 // `parse`: the tree of tokens, or the place of their first fault.
 ghost use Rattle.std.specs.Prelude.{◌≡◌, ◌-◌, ◌<◌, ◌≤◌, length, drop, IfOk, IfErr, IsOk};
-ghost use Rattle.avs_lex.specs.TokenList.{IsTokenList};
+ghost use Rattle.avs_lex.specs.Tokens.{IsTokenList};
 ghost use Rattle.avs_tree.specs.Lexeme.{lexemes, line_of};
-ghost use Rattle.avs_tree.specs.Script.{HasTree};
+ghost use Rattle.avs_tree.specs.Grammar.{HasTree};
 ghost use Rattle.avs_tree.specs.View.{script_view};
 ghost use Rattle.avs_tree.specs.Place.{verdict};
 ghost use Rattle.avs_parse.specs.Place.{TellsPlace, TellsLine, HasNoTree, IsNamed};

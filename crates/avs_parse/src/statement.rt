@@ -2,8 +2,8 @@
 ghost use Rattle.std.specs.Prelude.{◌≡◌, ◌∷◌, ◌++◌, [], Some, map, length, IfOk, if◌then◌else◌};
 ghost use Rattle.avs_tree.specs.View.{expr_view, arm_view, statement_view};
 ghost use Rattle.avs_tree.specs.declared.symbol.Punctuation.TheVariants.{RightParen};
-ghost use Rattle.avs_tree.specs.Next.{is_punctuation};
-ghost use Rattle.avs_tree.specs.ExprMachine as expr;
+ghost use Rattle.avs_tree.specs.Lexeme.{is_punctuation};
+ghost use Rattle.avs_tree.specs.Machine as expr;
 ghost use Rattle.avs_tree.specs.Machine as machine;
 ghost use Rattle.avs_frames.specs.ExprViews.{expr_state_view, opened_view};
 ghost use Rattle.avs_parse.specs.ScriptViews.{Steps, ended_view, inner, levels_view, owner_view, statement_state_view, step_view, use_view};

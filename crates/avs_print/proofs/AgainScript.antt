@@ -1,13 +1,10 @@
 -- The words of a script are read again as that script, apart from lines.
 use Rattle.std.proofs.Common.{◌≡◌, refl, ap, subst, ◌∙◌, inl, ◌<◌, Bool, true, false, List, [], ◌∷◌, ◌++◌, map, length, append_assoc, Option, Some, None, option_map, arith}
 use Rattle.avs_lex.specs.declared.token.TokenKind.TheVariants as k
-use Rattle.avs_lex.specs.Spelling.{spelling}
-use Rattle.avs_tree.specs.Lexeme.{Lexemes, line_of}
-use Rattle.avs_tree.specs.Words.{keyword_of, type_word_of, word_of_type}
-use Rattle.avs_lex.specs.Characters.{Text}
+use Rattle.avs_lex.specs.Spelling.{spelling, Text}
+use Rattle.avs_tree.specs.Lexeme.{Lexemes, line_of, keyword_of, type_word_of, word_of_type}
 use Rattle.avs_tree.specs.Tree.{Expr, Kind, global, assign, return, if_, while, for, value, Arms, no_arms, arm, Else, no_else, else_, Block, no_more, then_, Function, Script, ends_with_brace}
-use Rattle.avs_tree.specs.Grammar.{IsPunctuation}
-use Rattle.avs_tree.specs.Script.{Newlines, Separates, Condition, Braces, ForStep, ForHead, DerivesKind, DerivesElseIfs, DerivesElse, DerivesAll, ParameterName, DerivesParameter, MoreParameters, Parameters, DerivesFunction, Items, no_items, function_then, statement_then, functions_of, statements_of, DerivesItems, IsScript}
+use Rattle.avs_tree.specs.Grammar.{IsPunctuation, Newlines, Separates, Condition, Braces, ForStep, ForHead, DerivesKind, DerivesElseIfs, DerivesElse, DerivesAll, ParameterName, DerivesParameter, MoreParameters, Parameters, DerivesFunction, Items, no_items, function_then, statement_then, functions_of, statements_of, DerivesItems, IsScript}
 use Rattle.avs_tree.specs.declared.symbol.Punctuation.TheVariants as m
 use Rattle.avs_tree.specs.declared.tree.Parameter.{Parameter}
 use Rattle.avs_tree.specs.declared.words.Keyword.TheVariants as reserved

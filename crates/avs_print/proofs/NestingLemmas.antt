@@ -2,8 +2,7 @@
 use Rattle.std.proofs.Common.{◌≡◌, refl, ap, ℕ, suc, max, List, [], ◌∷◌, map, Option, Some, None, option_map}
 use Rattle.avs_tree.specs.Tree.{Expr, int, bool, str, call, method_calls, minus, not_, chain, compare, conditional, group, Args, no_args, arg, MethodCalls, no_method_calls, method, method_call, Steps, no_steps, step, Kind, global, assign, return, if_, while, for, value, Arms, no_arms, arm, Else, no_else, else_, Block, no_more, then_, Function, Script}
 use Rattle.avs_tree.specs.Tree as t
-use Rattle.avs_tree.specs.Grammar.{nesting, steps_nesting, method_calls_nesting, args_nesting}
-use Rattle.avs_tree.specs.Script.{step_nesting, kind_nesting, arms_nesting, else_nesting, block_nesting, functions_nesting, script_nesting}
+use Rattle.avs_tree.specs.Grammar.{nesting, steps_nesting, method_calls_nesting, args_nesting, step_nesting, kind_nesting, arms_nesting, else_nesting, block_nesting, functions_nesting, script_nesting}
 use Rattle.avs_print.specs.WithoutLines.{without_lines, args_without_lines, method_calls_without_lines, steps_without_lines, kind_without_lines, arms_without_lines, else_without_lines, block_without_lines, function_without_lines, script_without_lines}
 
 max_same : {a b c d : ℕ} → a ≡ c → b ≡ d → max a b ≡ max c d

@@ -12,11 +12,9 @@ use Rattle.std.proofs.lemmas.Fmt.{digits_decimal, digits_value-decimal, decimal_
 use Rattle.std.proofs.lemmas.Bool.Decides.{nat_tests}
 use Rattle.avs_lex.specs.declared.token.TokenKind.{TokenKind}
 use Rattle.avs_lex.specs.declared.token.TokenKind.TheVariants as k
-use Rattle.avs_lex.specs.Spelling.{hexadecimal_digits, value, Spells, IsDecimal, IsHexadecimal}
+use Rattle.avs_lex.specs.Spelling.{hexadecimal_digits, value, Spells, IsDecimal, IsHexadecimal, Text}
 use Rattle.avs_lex.proofs.CallerLemmas.{hexdigit_value, sixteen_times, sixteen_digits}
-use Rattle.avs_tree.specs.Lexeme.{said, symbol_by, word_of}
-use Rattle.avs_tree.specs.Words.{keyword_of}
-use Rattle.avs_lex.specs.Characters.{Text}
+use Rattle.avs_tree.specs.Lexeme.{said, symbol_by, word_of, keyword_of}
 use Rattle.avs_tree.specs.declared.symbol.Symbol.TheVariants as s
 use Rattle.avs_tree.specs.declared.words.Keyword.{Keyword}
 use Rattle.avs_print.specs.Printed.{number, half, hexadecimal, hexadecimal_digit}

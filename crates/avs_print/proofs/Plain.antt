@@ -3,11 +3,9 @@
 use Rattle.std.specs.Prelude.{◌≡◌, ◌≤◌, ℕ, ◌-◌, ℤ, Bool, true, false, IsTrue, List, [], ◌∷◌, Option, Some, None}
 use Rattle.avs_lex.specs.declared.token.TokenKind.{TokenKind}
 use Rattle.avs_lex.specs.declared.token.TokenKind.TheVariants as k
-use Rattle.avs_lex.specs.Spelling.{IsName, IsQuoted}
+use Rattle.avs_lex.specs.Spelling.{IsName, IsQuoted, Text}
 use Rattle.avs_lex.specs.Spelling as l
-use Rattle.avs_tree.specs.Lexeme.{Lexeme, Lexemes, precedence_of, unquoted, said, symbol_by, is_name}
-use Rattle.avs_tree.specs.Words.{keyword_of}
-use Rattle.avs_lex.specs.Characters.{Text}
+use Rattle.avs_tree.specs.Lexeme.{Lexeme, Lexemes, precedence_of, unquoted, said, symbol_by, is_name, keyword_of}
 use Rattle.avs_tree.specs.Tree.{Expr, int, bool, str, name, call, method_calls, minus, not_, chain, compare, conditional, group, Args, no_args, arg, MethodCalls, no_method_calls, method, method_call, Steps, no_steps, step, Kind, global, assign, return, if_, while, for, value, Arms, no_arms, arm, Else, no_else, else_, Block, no_more, then_, Function, Script}
 use Rattle.avs_tree.specs.Grammar.{Chains, precedence_of_steps, HasMethodCall}
 use Rattle.avs_tree.specs.declared.tree.Parameter.{Parameter}

@@ -1,11 +1,10 @@
 -- What the grammar reads of tokens is plain, and the rest are tokens still.
 use Rattle.std.proofs.Common.{subst, ℕ, ℤ, ◌-◌, Bool, true, false, inl, inr, List, [], ◌∷◌, Option, Some, None}
 use Rattle.avs_tree.specs.Lexeme.{Lexemes}
-use Rattle.avs_lex.specs.Characters.{Text}
+use Rattle.avs_lex.specs.Spelling.{Text}
 use Rattle.avs_tree.specs.Tree.{Expr, int, bool, str, call, method_calls, minus, not_, chain, compare, conditional, group, Args, no_args, arg, MethodCalls, no_method_calls, method, method_call, Steps, no_steps, step, Kind, global, assign, return, if_, while, for, value, Arms, no_arms, arm, Else, no_else, else_, Block, no_more, then_, Function, Script, ends_with_brace}
 use Rattle.avs_tree.specs.Tree as t
-use Rattle.avs_tree.specs.Grammar.{Is, IsAt, IsNameAt, IsName, IsString, Labels, precedence_of_steps, Derives, DerivesSteps, DerivesMethodCalls, DerivesArgs, DerivesMoreArgs}
-use Rattle.avs_tree.specs.Script.{Newlines, Separates, Condition, Braces, ForStep, ForHead, DerivesKind, DerivesElseIfs, DerivesElse, DerivesAll, ParameterName, DerivesParameter, MoreParameters, Parameters, DerivesFunction, Items, no_items, function_then, statement_then, functions_of, statements_of, DerivesItems, IsScript}
+use Rattle.avs_tree.specs.Grammar.{Is, IsAt, IsNameAt, IsName, IsString, Labels, precedence_of_steps, Derives, DerivesSteps, DerivesMethodCalls, DerivesArgs, DerivesMoreArgs, Newlines, Separates, Condition, Braces, ForStep, ForHead, DerivesKind, DerivesElseIfs, DerivesElse, DerivesAll, ParameterName, DerivesParameter, MoreParameters, Parameters, DerivesFunction, Items, no_items, function_then, statement_then, functions_of, statements_of, DerivesItems, IsScript}
 use Rattle.avs_tree.specs.declared.symbol.Symbol.{Symbol}
 use Rattle.avs_tree.specs.declared.symbol.Symbol.TheVariants as s
 use Rattle.avs_tree.specs.declared.tree.Parameter.{Parameter}

@@ -3,14 +3,12 @@ use Rattle.std.proofs.Common.{◌≡◌, refl, ap, sym, subst, ◌∙◌, suc, �
 use Rattle.avs_lex.specs.declared.token.Token.{Token}
 use Rattle.avs_lex.specs.declared.token.TokenKind.{TokenKind}
 use Rattle.avs_lex.specs.declared.token.TokenKind.TheVariants as k
-use Rattle.avs_lex.specs.Characters.{newline, Text}
-use Rattle.avs_lex.specs.Tokens.{Tokens}
-use Rattle.avs_lex.specs.TokenList.{bytes_of, IsTokenOf, IsTokenList}
+use Rattle.avs_lex.specs.Spelling.{newline, Text}
+use Rattle.avs_lex.specs.Tokens.{Tokens, bytes_of, IsTokenOf, IsTokenList}
 use Rattle.avs_lex.specs.Written.{Word, spelled_of}
 use Rattle.avs_tree.specs.Lexeme.{Lexemes, said, symbol_by, lexeme_of, lexemes}
 use Rattle.avs_tree.specs.Tree.{Script}
-use Rattle.avs_tree.specs.Grammar.{IsPunctuation}
-use Rattle.avs_tree.specs.Script.{IsScript, HasTree, script_nesting, nesting_limit}
+use Rattle.avs_tree.specs.Grammar.{IsPunctuation, IsScript, HasTree, script_nesting, nesting_limit}
 use Rattle.avs_tree.specs.declared.symbol.Punctuation.TheVariants as m
 use Rattle.avs_tree.proofs.CallerLemmas.{one_tree}
 use Rattle.avs_lex.proofs.CallerLemmas.{one_reading, written_is_read}

@@ -2,11 +2,9 @@
 use Rattle.std.proofs.Common.{◌≡◌, refl, ap, ◌∙◌, ℕ, ◌<◌, Bool, true, false, List, [], ◌∷◌, ◌++◌, length, Option, Some, None, arith}
 use Rattle.avs_lex.specs.declared.token.TokenKind.{TokenKind}
 use Rattle.avs_lex.specs.declared.token.TokenKind.TheVariants as k
-use Rattle.avs_lex.specs.Spelling.{spelling}
+use Rattle.avs_lex.specs.Spelling.{spelling, Text}
 use Rattle.avs_lex.specs.Written.{Word}
-use Rattle.avs_tree.specs.Lexeme.{Lexemes, said, symbol_by, word_of}
-use Rattle.avs_tree.specs.Words.{keyword_of, word_of_keyword}
-use Rattle.avs_lex.specs.Characters.{Text}
+use Rattle.avs_tree.specs.Lexeme.{Lexemes, said, symbol_by, word_of, keyword_of, word_of_keyword}
 use Rattle.avs_tree.specs.Grammar.{Is, IsAt, IsPunctuation, IsKeyword, IsName, IsString, Labels}
 use Rattle.avs_tree.specs.declared.symbol.Symbol.TheVariants as s
 use Rattle.avs_tree.specs.declared.words.Keyword.{Keyword}

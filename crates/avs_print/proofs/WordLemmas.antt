@@ -5,11 +5,9 @@ use Rattle.std.proofs.lemmas.Bool.Decides.{nat_tests}
 use Rattle.std.proofs.lemmas.List.{take-append-drop, take_at, drop_at, drop-drop}
 use Rattle.avs_lex.specs.declared.token.TokenKind.{TokenKind}
 use Rattle.avs_lex.specs.declared.token.TokenKind.TheVariants as k
-use Rattle.avs_lex.specs.Characters.{quote, Text}
-use Rattle.avs_lex.specs.Spelling.{IsName, IsQuoted, Spells, through, triple, quotes_of}
+use Rattle.avs_lex.specs.Spelling.{quote, Text, IsName, IsQuoted, Spells, through, triple, quotes_of}
 use Rattle.avs_lex.proofs.CallerLemmas.{by_test, either}
-use Rattle.avs_tree.specs.Lexeme.{unquoted, said, symbol_by, word_of}
-use Rattle.avs_tree.specs.Words.{keyword_of}
+use Rattle.avs_tree.specs.Lexeme.{unquoted, said, symbol_by, word_of, keyword_of}
 use Rattle.avs_tree.specs.declared.symbol.Symbol.TheVariants as s
 use Rattle.avs_tree.specs.declared.words.Keyword.{Keyword}
 use Rattle.avs_print.specs.Printed.{quoted}

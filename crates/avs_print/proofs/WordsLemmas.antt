@@ -4,12 +4,11 @@ use Rattle.std.specs.List.{list_all}
 use Rattle.std.specs.Char.{is_ascii_digit}
 use Rattle.avs_lex.specs.declared.token.TokenKind.{TokenKind}
 use Rattle.avs_lex.specs.declared.token.TokenKind.TheVariants as k
-use Rattle.avs_lex.specs.Characters.{dollar, begins_name, continues_name, Text}
-use Rattle.avs_lex.specs.Spelling.{IsName, IsQuoted, Spells}
+use Rattle.avs_lex.specs.Spelling.{dollar, begins_name, continues_name, Text, IsName, IsQuoted, Spells}
 use Rattle.avs_lex.specs.Tokens.{open_parentheses_after}
 use Rattle.avs_lex.specs.Written.{Word, IsWord, AreWords}
 use Rattle.avs_lex.proofs.CallerLemmas.{is_punctuation}
-use Rattle.avs_tree.specs.Words.{keyword_of, word_of_keyword, word_of_type}
+use Rattle.avs_tree.specs.Lexeme.{keyword_of, word_of_keyword, word_of_type}
 use Rattle.avs_tree.specs.Tree.{Expr, int, bool, str, name, call, method_calls, minus, not_, chain, compare, conditional, group, Args, no_args, arg, MethodCalls, no_method_calls, method, method_call, Steps, no_steps, step, Kind, global, assign, return, if_, while, for, value, Arms, no_arms, arm, Else, no_else, else_, Block, no_more, then_, Function, Script}
 use Rattle.avs_tree.specs.Grammar.{precedence_of_steps, truth}
 use Rattle.avs_tree.specs.declared.tree.Operator.{Operator}

@@ -1,12 +1,11 @@
 -- What holds of the text of a script.
 use Rattle.std.specs.Prelude.{◌≡◌, List}
-use Rattle.avs_lex.specs.Tokens.{Tokens}
-use Rattle.avs_lex.specs.TokenList.{IsTokenList}
+use Rattle.avs_lex.specs.Tokens.{Tokens, IsTokenList}
 use Rattle.avs_lex.specs.declared.token.Token.{Token}
 use Rattle.avs_tree.specs.Lexeme.{lexemes}
-use Rattle.avs_lex.specs.Characters.{Text}
+use Rattle.avs_lex.specs.Spelling.{Text}
 use Rattle.avs_tree.specs.Tree.{Script}
-use Rattle.avs_tree.specs.Script.{HasTree}
+use Rattle.avs_tree.specs.Grammar.{HasTree}
 use Rattle.avs_print.specs.WithoutLines.{script_without_lines}
 use Rattle.avs_print.specs.Printed.{printed}
 

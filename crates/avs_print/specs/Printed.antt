@@ -6,12 +6,11 @@ use Rattle.std.specs.List.{list_any}
 use Rattle.std.specs.Int.{cast_unsigned, w64}
 use Rattle.avs_lex.specs.declared.token.TokenKind.{TokenKind}
 use Rattle.avs_lex.specs.declared.token.TokenKind.TheVariants as k
-use Rattle.avs_lex.specs.Spelling.{spelling}
+use Rattle.avs_lex.specs.Spelling.{spelling, Text}
 use Rattle.avs_lex.specs.Written.{Word, written}
-use Rattle.avs_lex.specs.Characters.{Text}
 use Rattle.avs_tree.specs.Tree.{Expr, int, bool, str, name, call, method_calls, minus, not_, chain, compare, conditional, group, Args, no_args, arg, MethodCalls, no_method_calls, method, method_call, Steps, no_steps, step, Kind, global, assign, return, if_, while, for, value, Arms, no_arms, arm, Else, no_else, else_, Block, no_more, then_, Function, Script}
 use Rattle.avs_tree.specs.Grammar.{truth}
-use Rattle.avs_tree.specs.Words.{word_of_keyword, word_of_type}
+use Rattle.avs_tree.specs.Lexeme.{word_of_keyword, word_of_type}
 use Rattle.avs_tree.specs.declared.tree.Operator.{Operator}
 use Rattle.avs_tree.specs.declared.tree.Operator.TheVariants as o
 use Rattle.avs_tree.specs.declared.tree.Parameter.{Parameter}

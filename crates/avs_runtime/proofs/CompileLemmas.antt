@@ -2,7 +2,7 @@
 use Rattle.std.proofs.Common.{◌≡◌, rules, ℕ, suc, ◌+◌, ◌<◌, ◌≤◌, ◌∙◌, List, [], ◌∷◌, ◌++◌, length, map, drop, get_or, true, false, refl, arith, sym, ap, add-one, drop-cons}
 use Rattle.std.specs.Prelude.{Option, Some, None, option_map, nat_le, ◌&&◌, if◌then◌else◌, Bool}
 use Rattle.std.specs.Str.{str_eq_ignore_ascii_case}
-use Rattle.avs_tree.specs.Words.{meaning_in}
+use Rattle.avs_tree.specs.Lexeme.{meaning_in}
 use Rattle.std.proofs.lemmas.Bool.Decides.{nat_tests}
 use Rattle.avs_tree.specs.View as tree
 use Rattle.avs_tree.specs.declared.tree.Arg.{Arg}
@@ -12,7 +12,7 @@ use Rattle.avs_tree.specs.declared.tree.Statement.{Statement}
 use Rattle.avs_tree.specs.declared.tree.StatementKind.{the_lemmas as statement_lemmas}
 use Rattle.clip_term.specs.declared.run.RunExpr.{RunExpr, the_lemmas}
 use Rattle.clip_term.specs.declared.run.RunStep.{RunStep}
-use Rattle.avs_meaning.specs.Compiled.{of_kind, of_statements}
+use Rattle.avs_meaning.specs.Arguments.{of_kind, of_statements}
 use Rattle.clip_term.specs.Expression.{expr_view, step_view, exprs_of, steps_of, are_two, are_numbers}
 
 -- the rest of a list begins with its first element

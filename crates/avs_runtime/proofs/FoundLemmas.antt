@@ -2,14 +2,14 @@
 use Rattle.std.proofs.Common.{◌≡◌, ℕ, ◌≤◌, Bool, true, false, List, [], length, Option, Some, None, Result, Ok, Err, refl, subst, arith}
 use Rattle.std.specs.Prelude.{nat_le, if◌then◌else◌}
 use Rattle.std.proofs.lemmas.Bool.Decides.{nat_tests}
-use Rattle.avs_lex.specs.Characters.{Text}
-use Rattle.avs_tree.specs.Loaded.{Loaded, NoTree}
+use Rattle.avs_lex.specs.Spelling.{Text}
+use Rattle.avs_tree.specs.Tree.{Loaded, NoTree}
 use Rattle.avs_tree.specs.Tree as t
 use Rattle.avs_parse.specs.Load.{script_of}
 use Rattle.avs_parse.specs.Laws.{HasScript}
 use Rattle.avs_parse.proofs.LoadLemmas.{script_found, tree_is}
 use Rattle.clip_term.specs.Expression.{Expr, is_number}
-use Rattle.avs_meaning.specs.Compiled.{expression_in, length_limit, part_of, planes_of, typed, of_kind, of_functions, of_script}
+use Rattle.avs_meaning.specs.Arguments.{expression_in, length_limit, part_of, planes_of, typed, of_kind, of_functions, of_script}
 use Rattle.avs_runtime.specs.Laws.{IsExpression, ExpressionIsFound}
 
 -- ---- what the function gives is what the text has

@@ -1,14 +1,14 @@
 -- Which texts are expressions, by the relations of tokens and of the grammar.
 use Rattle.std.specs.Prelude.{◌≡◌, ◌↔◌, ℕ, ◌≤◌, Bool, true, List, [], length, Some}
-use Rattle.avs_lex.specs.Characters.{Text}
+use Rattle.avs_lex.specs.Spelling.{Text}
 use Rattle.avs_lex.specs.Tokens.{Tokens}
 use Rattle.avs_lex.specs.declared.token.Token.{Token}
 use Rattle.avs_tree.specs.Lexeme.{lexemes}
-use Rattle.avs_tree.specs.Script.{HasTree}
+use Rattle.avs_tree.specs.Grammar.{HasTree}
 use Rattle.avs_tree.specs.Tree as t
 use Rattle.avs_parse.specs.Load.{script_of}
 use Rattle.clip_term.specs.Expression.{Expr, is_number}
-use Rattle.avs_meaning.specs.Compiled.{expression_in, length_limit, part_of, planes_of}
+use Rattle.avs_meaning.specs.Arguments.{expression_in, length_limit, part_of, planes_of}
 
 -- the tokens of the text are one expression statement, whose parts are those of this expression, which is a number
 pub record IsExpression (chroma : Bool) (text : Text) (e : Expr) : Type 0 where

@@ -1,7 +1,7 @@
 // Names with arguments: functions of numbers.
 ghost use Rattle.std.specs.Prelude.{◌≡◌, map, IfOk};
 ghost use Rattle.clip_term.specs.Expression as e;
-ghost use Rattle.avs_meaning.specs.Compiled as c;
+ghost use Rattle.avs_meaning.specs.Arguments as c;
 ghost use Rattle.avs_runtime.specs.Read.{Reads};
 
 use crate::fault::RunFault;

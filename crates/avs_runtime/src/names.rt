@@ -1,6 +1,6 @@
 // Names without arguments: the number of the frame, and the statistics of its planes.
 ghost use Rattle.std.specs.Prelude.{◌≡◌, option_map};
-ghost use Rattle.avs_meaning.specs.Compiled as c;
+ghost use Rattle.avs_meaning.specs.Arguments as c;
 ghost use Rattle.avs_runtime.specs.Read.{Reads, frame_meaning};
 
 use crate::fault::RunFault;

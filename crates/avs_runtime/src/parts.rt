@@ -1,7 +1,7 @@
 // The parts of an expression, from the tree of a text.
 ghost use Rattle.std.specs.Prelude.{◌≡◌, map};
 ghost use Rattle.avs_tree.specs.View as t;
-ghost use Rattle.avs_meaning.specs.Compiled as c;
+ghost use Rattle.avs_meaning.specs.Arguments as c;
 ghost use Rattle.avs_runtime.specs.Read.{Reads, ReadsBox, ReadsAll, ReadsSteps};
 
 use crate::fault::RunFault;

@@ -3,7 +3,7 @@ ghost use Rattle.std.specs.Prelude.{Some};
 ghost use Rattle.avs_parse.specs.Load.{script_of};
 ghost use Rattle.avs_tree.specs.View as t;
 ghost use Rattle.clip_term.specs.Expression as e;
-ghost use Rattle.avs_meaning.specs.Compiled as c;
+ghost use Rattle.avs_meaning.specs.Arguments as c;
 ghost use Rattle.avs_runtime.specs.Read.{Reads};
 
 use crate::fault::RunFault;
@@ -20,7 +20,7 @@ const LENGTH_LIMIT: usize = 4096;
 
 /// The expression that a text is, for a test clip with chroma or without. `BadExpression` comes exactly where the text is
 /// none.
-#[tactic(auto, unfolding(avs_meaning::specs::Compiled::expression_in))]
+#[tactic(auto, unfolding(avs_meaning::specs::Arguments::expression_in))]
 pub fn compile(alloc: Global, text: &Text, chroma: bool) -> Result<RunExpr, RunFault>
     ensures { Reads (c.expression_in script_of chroma text.now) result }
 {

@@ -8,8 +8,7 @@ use Rattle.avs_meaning.specs.declared.stop.EvalError.{EvalError}
 use Rattle.avs_meaning.specs.declared.stop.EvalError.TheVariants as e
 use Rattle.avs_values.specs.Values.{Text}
 use Rattle.clip_graph.specs.Plan.{infos_among}
-use Rattle.clip_term.specs.ClipTerm.{Act}
-use Rattle.clip_term.specs.Terms.{check}
+use Rattle.clip_term.specs.Terms.{Act, check}
 use Rattle.clip_term.specs.declared.fault.FilterFault.{FilterFault}
 use Rattle.clip_term.specs.declared.filter.Filter.{Filter}
 use Rattle.avs_state.specs.Answers.{Fails}

@@ -1,7 +1,6 @@
 -- The sources of a plan.
 use Rattle.std.specs.Prelude.{◌≡◌, List, [], ◌∷◌, ◌++◌, Option, Some, None, Result, OnOk}
-use Rattle.clip_term.specs.ClipTerm.{Act}
-use Rattle.clip_term.specs.Ops.{SourcePart, source_part}
+use Rattle.clip_term.specs.Terms.{Act, SourcePart, source_part}
 use Rattle.clip_graph.specs.Plan.{Application}
 use Rattle.avs_meaning.specs.declared.state.SourceClip.{SourceClip}
 use Rattle.avs_meaning.specs.declared.stop.EvalError.{EvalError}

@@ -1,5 +1,5 @@
 // The conditions of `if`, `while` and `? :`, and the operands of `&&` and `||`.
-ghost use Rattle.avs_meaning.specs.Operators as m;
+ghost use Rattle.avs_meaning.specs.Expressions as m;
 ghost use Rattle.avs_state.specs.Answers.{Answers};
 
 use crate::At;

@@ -3,14 +3,13 @@ ghost use Rattle.std.specs.Prelude.{◌≡◌, ◌↔◌, IsTrue, ◌+◌, ◌^�
 ghost use Rattle.std.specs.List.{All};
 ghost use Rattle.fv_plane.specs.Info.{IsLawful};
 ghost use Rattle.avs_tree.specs.View.{function_view};
-ghost use Rattle.clip_term.specs.ClipTerm.{act_of};
-ghost use Rattle.clip_term.specs.Terms.{IsSound, check};
+ghost use Rattle.clip_term.specs.Terms.{act_of, IsSound, check};
 ghost use Rattle.clip_term.specs.Filters.{IsMode};
 ghost use Rattle.clip_graph.specs.Plan.{IsCounted, infos_among, sources_in};
 ghost use Rattle.mt_modes.specs.Modes.{mode_in};
 ghost use Rattle.avs_meaning.specs.Filters as f;
 ghost use Rattle.avs_meaning.specs.Meaning as m;
-ghost use Rattle.avs_meaning.specs.Settings as w;
+ghost use Rattle.avs_meaning.specs.Filters as w;
 ghost use Rattle.avs_meaning.specs.State as d;
 ghost use Rattle.avs_state.specs.Answers.{Gives};
 ghost use Rattle.avs_state.specs.Sources.{source_of, sources_of, Lists};

@@ -1,7 +1,7 @@
 -- Loops, a turn at a time.
 use Rattle.std.proofs.Common.{◌≡◌, ◌∙◌, sym, Ok, ap, ℕ, ℤ, suc, ◌+◌, ◌-◌, ◌<◌, Bool, arith, if◌then◌else◌}
 use Rattle.avs_values.specs.Values.{Text}
-use Rattle.avs_meaning.specs.Loops as m
+use Rattle.avs_meaning.specs.Statements as m
 use Rattle.avs_meaning.specs.State.{State, Outcome, Run, and_then, ◌>>=◌, ◌>>◌, spend}
 use Rattle.avs_meaning.specs.declared.stop.EvalError.{EvalError}
 use Rattle.avs_state.specs.Answers.{Fails}

@@ -1,5 +1,5 @@
 -- How a statement of the code ends.
-use Rattle.avs_meaning.specs.Loops as m
+use Rattle.avs_meaning.specs.Statements as m
 use Rattle.avs_statements.specs.declared.flow.Flow.{Flow}
 use Rattle.avs_statements.specs.declared.flow.Flow.TheVariants.{On, Back}
 use Rattle.avs_statements.specs.declared.flow.Turn.{Turn}

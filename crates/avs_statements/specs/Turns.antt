@@ -2,9 +2,8 @@
 use Rattle.std.specs.Prelude.{ℕ, ℤ}
 use Rattle.avs_tree.specs.Tree.{Expr, Kind, Block}
 use Rattle.avs_values.specs.Values.{Text}
-use Rattle.avs_meaning.specs.Context.{Context}
-use Rattle.avs_meaning.specs.Loops as l
-use Rattle.avs_meaning.specs.State.{Run, ◌>>◌, spend}
+use Rattle.avs_meaning.specs.State.{Context, Run, ◌>>◌, spend}
+use Rattle.avs_meaning.specs.Statements as l
 use Rattle.avs_meaning.specs.Statements.{condition, effect_of, block_of}
 
 -- in the text of this name

@@ -10,7 +10,7 @@ pub trait Evaluator<H: Host> {
     ghost use Rattle.std.specs.Prelude.{◌≡◌};
     ghost use Rattle.avs_tree.specs.View.{expr_view};
     ghost use Rattle.avs_values.specs.Values.{Text as Name};
-    ghost use Rattle.avs_meaning.specs.Context.{Context};
+    ghost use Rattle.avs_meaning.specs.State.{Context};
     ghost use Rattle.avs_meaning.specs.Expressions as e;
     ghost use Rattle.avs_state.specs.Hosts.{Told};
     ghost use Rattle.avs_state.specs.Walks.{Keeps, stop_in};

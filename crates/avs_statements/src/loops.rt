@@ -1,7 +1,7 @@
 // The numbers of `for`, and the conditions of `if` and `while`.
 ghost use Rattle.std.specs.Prelude.{◌≡◌, ℤ, ◌+ℤ◌, option_map};
 ghost use Rattle.avs_tree.specs.View.{expr_view};
-ghost use Rattle.avs_meaning.specs.Loops as l;
+ghost use Rattle.avs_meaning.specs.Statements as l;
 ghost use Rattle.avs_meaning.specs.Statements as s;
 ghost use Rattle.avs_state.specs.Answers.{Answers, Gives};
 ghost use Rattle.avs_state.specs.Hosts.{Told};
@@ -18,7 +18,7 @@ use fv_io::Text;
 use std::alloc::{AllocError, Global};
 
 /// Whether a number is past the end of a loop.
-#[tactic(auto, unfolding(avs_meaning::specs::Loops::is_past))]
+#[tactic(auto, unfolding(avs_meaning::specs::Statements::is_past))]
 pub(crate) fn is_past(last: i64, step: i64, i: i64) -> bool
     ensures { result ≡ l.is_past last step i }
 {

@@ -231,7 +231,7 @@ impl<'e, H: Host, E: Evaluator<H>> Executor<'e, H, E> {
 
     // One turn of a loop over numbers, which costs a unit.
     #[cycle(statements)]
-    #[tactic(auto, unfolding(avs_meaning::specs::Loops::turn))]
+    #[tactic(auto, unfolding(avs_meaning::specs::Statements::turn))]
     fn turn(
         &self,
         machine: &mut Machine,

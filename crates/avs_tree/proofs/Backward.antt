@@ -1,13 +1,12 @@
 -- What may come after a token may come with it.
 use Rattle.std.proofs.Common.{◌≡◌, refl, ap, subst, ◌∙◌, ℕ, ◌-◌, ◌<◌, ◌≤◌, arith, inl, inr, ◌&&◌, List, [], ◌∷◌, ◌++◌, Option, Some, None, nat_eq, nat_lt, nat_le, if◌then◌else◌}
-use Rattle.avs_tree.specs.Lexeme.{Lexemes, precedence_of, line_of}
-use Rattle.avs_lex.specs.Characters.{Text}
+use Rattle.avs_tree.specs.Lexeme.{Lexemes, precedence_of, line_of, peek, content_at, tail, is_punctuation, operator_at, operator_by}
+use Rattle.avs_lex.specs.Spelling.{Text}
 use Rattle.avs_tree.specs.Tree.{Expr, call, method_calls, minus, not_, chain, compare, conditional, group, Args, no_args, arg, no_method_calls, method, method_call, no_steps, step}
 use Rattle.avs_tree.specs.Tree as t
 use Rattle.avs_tree.specs.View.{ArgIs, MethodCallIs, StepIs, args_of, method_calls_of, steps_of}
 use Rattle.avs_tree.specs.Grammar.{IsPunctuation, Labels, Derives, DerivesSteps}
-use Rattle.avs_tree.specs.Next.{peek, content_at, tail, is_punctuation, operator_at, operator_by}
-use Rattle.avs_tree.specs.ExprMachine.{Callee, call_of, method_of, Open, paren, argument, minus_of, not_of, chain_of, compare_of, yes_of, no_of, ExprState, operand_next, value_read, name_read, args_opened, dot_read, method_read, calls_read, keeps, hole, reach, operand_by, operand, operand_of, grow_by, continues, grow, called, no_closing, taken, reopened, label_of, closing_argument, more_of, by_closing, close, ExprStep, after, after_calls, method_by, expr_step}
+use Rattle.avs_tree.specs.Machine.{Callee, call_of, method_of, Open, paren, argument, minus_of, not_of, chain_of, compare_of, yes_of, no_of, ExprState, operand_next, value_read, name_read, args_opened, dot_read, method_read, calls_read, keeps, hole, reach, operand_by, operand, operand_of, grow_by, continues, grow, called, no_closing, taken, reopened, label_of, closing_argument, more_of, by_closing, close, ExprStep, after, after_calls, method_by, expr_step}
 use Rattle.avs_tree.specs.declared.symbol.Symbol.{Symbol}
 use Rattle.avs_tree.specs.declared.symbol.Symbol.TheVariants as s
 use Rattle.avs_tree.specs.declared.words.Keyword.TheVariants as w

@@ -1,19 +1,16 @@
 -- What may come in the head of a function after a token may come with it.
 use Rattle.std.proofs.Common.{◌≡◌, refl, sym, subst, ℕ, Bool, true, false, inl, inr, List, [], ◌∷◌, append_assoc, append-nil, Option, Some, if◌then◌else◌}
-use Rattle.avs_tree.specs.Lexeme.{Lexemes, line_of, is_name}
-use Rattle.avs_lex.specs.Characters.{Text}
-use Rattle.avs_tree.specs.Words.{type_word_of}
+use Rattle.avs_tree.specs.Lexeme.{Lexemes, line_of, is_name, type_word_of, peek, content_at, tail, is_punctuation}
+use Rattle.avs_lex.specs.Spelling.{Text}
 use Rattle.avs_tree.specs.Tree.{Function, Script}
 use Rattle.avs_tree.specs.View.{StatementIs}
-use Rattle.avs_tree.specs.Grammar.{IsPunctuation, IsKeyword, IsName}
-use Rattle.avs_tree.specs.Script.{Parameters}
+use Rattle.avs_tree.specs.Grammar.{IsPunctuation, IsKeyword, IsName, Parameters}
 use Rattle.avs_tree.specs.declared.symbol.Symbol.{Symbol}
 use Rattle.avs_tree.specs.declared.symbol.Symbol.TheVariants as s
 use Rattle.avs_tree.specs.declared.words.Keyword.TheVariants as w
 use Rattle.avs_tree.specs.declared.words.TypeWord.{TypeWord}
 use Rattle.avs_tree.specs.declared.symbol.Punctuation.TheVariants as m
 use Rattle.avs_tree.specs.declared.tree.Parameter.{Parameter}
-use Rattle.avs_tree.specs.Next.{peek, content_at, tail, is_punctuation}
 use Rattle.avs_tree.specs.Machine.{HeadState, after_function, after_function_name, head_opened, after_type, after_parameter, parameter_next, function_braces_next, at_head, stuck, goes, function_name_by, type_by, with_parameter, parameter_by, function_body_by, advance_head}
 use Rattle.avs_tree.proofs.ScriptMeaning.{function_with, TopRest, FunctionBodied, HeadEnds, ParametersEnd, Typed, ParameterNext, HeadOpened, HeadNamed, Head, AfterStep}
 use Rattle.avs_tree.proofs.Tokens.{next_is, is_next, is_here, on_if}

@@ -1,18 +1,15 @@
 -- What may come in a script after a token may come with it.
 use Rattle.std.proofs.Common.{◌≡◌, refl, sym, ap, subst, ◌∙◌, ℕ, true, false, inl, inr, List, [], ◌∷◌, ◌++◌, Option, Some, None, if◌then◌else◌}
-use Rattle.avs_tree.specs.Lexeme.{Lexemes, line_of}
+use Rattle.avs_tree.specs.Lexeme.{Lexemes, line_of, peek, content_at, tail, is_punctuation}
 use Rattle.avs_tree.specs.Tree.{Expr, Kind, global, assign, return, if_, while, for, value, Arms, no_arms, arm, Else, no_else, else_, Block, no_more, then_, Function, Script, ends_with_brace}
 use Rattle.avs_tree.specs.Tree as t
 use Rattle.avs_tree.specs.View.{StatementIs, ArmIs, arms_of}
-use Rattle.avs_tree.specs.Grammar.{IsPunctuation, IsKeyword, Derives}
-use Rattle.avs_tree.specs.Script.{Newlines, Separates, DerivesKind, DerivesElseIfs, DerivesElse}
+use Rattle.avs_tree.specs.Grammar.{IsPunctuation, IsKeyword, Derives, Newlines, Separates, DerivesKind, DerivesElseIfs, DerivesElse}
 use Rattle.avs_tree.specs.declared.symbol.Symbol.{Symbol}
 use Rattle.avs_tree.specs.declared.symbol.Symbol.TheVariants as s
 use Rattle.avs_tree.specs.declared.words.Keyword.TheVariants as w
 use Rattle.avs_tree.specs.declared.symbol.Punctuation.TheVariants as m
-use Rattle.avs_tree.specs.Next.{peek, content_at, tail, is_punctuation}
-use Rattle.avs_tree.specs.ExprMachine.{operand_next, keeps, leaves, refused, ExprStep, operand_by, operand, expr_step}
-use Rattle.avs_tree.specs.Machine.{Use, to_value, to_global, to_assign, to_return, to_arm, to_while, to_first, to_last, to_step, Owner, arm_of, else_of, while_of, for_of, Levels, top, in_function, level, StatementState, statement_next, in_expression, parenthesis_next, braces_next, after_arm, after_else, after_global, after_global_name, after_for, for_opened, after_for_name, State, at, at_head, stuck, goes, close_by, end_by, in_statement, function_by, items_by, done_by, assigned, used, expression_by, body_by, arms_by, other_by, global_by, for_by, advance_statement, advance}
+use Rattle.avs_tree.specs.Machine.{operand_next, keeps, leaves, refused, ExprStep, operand_by, operand, expr_step, Use, to_value, to_global, to_assign, to_return, to_arm, to_while, to_first, to_last, to_step, Owner, arm_of, else_of, while_of, for_of, Levels, top, in_function, level, StatementState, statement_next, in_expression, parenthesis_next, braces_next, after_arm, after_else, after_global, after_global_name, after_for, for_opened, after_for_name, State, at, at_head, stuck, goes, close_by, end_by, in_statement, function_by, items_by, done_by, assigned, used, expression_by, body_by, arms_by, other_by, global_by, for_by, advance_statement, advance}
 use Rattle.avs_tree.proofs.ScriptMeaning.{all_arms, function_with, ArmsIn, OwnedIn, TopNext, Rest, Next, Done, Bodied, Assigns, Stepped, Used, OperandNext, Conditioned, ForNamed, Statement, Completion, AfterStep}
 use Rattle.avs_tree.proofs.Tokens.{next_is, is_next, is_here, on_if}
 use Rattle.avs_tree.proofs.ExprMeaning.{After}

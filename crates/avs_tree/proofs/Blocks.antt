@@ -1,14 +1,12 @@
 -- What ends a block, a further statement of it and a further function of a script, each as a fact about what may come in the
 -- block, whatever braces it stands in.
 use Rattle.std.proofs.Common.{◌≡◌, refl, sym, ap, subst, ◌∙◌, ℕ, true, inl, inr, List, [], ◌∷◌, ◌++◌, append_assoc, append-nil, Some}
-use Rattle.avs_tree.specs.Lexeme.{Lexemes, line_of}
+use Rattle.avs_tree.specs.Lexeme.{Lexemes, line_of, peek, tail}
 use Rattle.avs_tree.specs.Tree.{Expr, Kind, Arms, no_arms, arm, Block, no_more, then_, Function, Script, ends_with_brace}
 use Rattle.avs_tree.specs.View.{StatementIs, ArmIs, arms_of, block_of}
-use Rattle.avs_tree.specs.Grammar.{IsPunctuation}
-use Rattle.avs_tree.specs.Script.{Newlines, Separates, DerivesKind, DerivesFunction, Items, no_items, function_then, statement_then, functions_of, statements_of}
+use Rattle.avs_tree.specs.Grammar.{IsPunctuation, Newlines, Separates, DerivesKind, DerivesFunction, Items, no_items, function_then, statement_then, functions_of, statements_of}
 use Rattle.avs_tree.specs.declared.symbol.Symbol.TheVariants as s
 use Rattle.avs_tree.specs.declared.symbol.Punctuation.TheVariants as m
-use Rattle.avs_tree.specs.Next.{peek, tail}
 use Rattle.avs_tree.specs.Machine.{Levels, top, in_function, level}
 use Rattle.avs_tree.proofs.Tokens.{is_next}
 use Rattle.avs_tree.proofs.ScriptMeaning.{all_block, all_arms, all_items, function_with, OwnedIn, Closed, TopRest, TopNext, Rest, Next}

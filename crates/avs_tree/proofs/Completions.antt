@@ -1,21 +1,16 @@
 -- What is open in a script can always be completed.
 use Rattle.std.proofs.Common.{◌≡◌, refl, ℕ, pos, Bool, true, IsTrue, inl, inr, List, [], ◌∷◌, ◌++◌, Option, Some, None}
-use Rattle.avs_tree.specs.Lexeme.{Lexemes, is_name}
-use Rattle.avs_lex.specs.Characters.{Text}
-use Rattle.avs_tree.specs.Words.{type_word_of}
-use Rattle.avs_tree.specs.Tree.{Expr, Kind, global, assign, return, if_, while, for, value, no_arms, no_else, else_, Block, no_more, Function, Script}
+use Rattle.avs_tree.specs.Lexeme.{Lexemes, is_name, type_word_of, spells_name, keyword_of}
+use Rattle.avs_lex.specs.Spelling.{Text}
+use Rattle.avs_tree.specs.Tree.{Expr, Kind, global, assign, return, if_, while, for, value, no_arms, no_else, else_, Block, no_more, Function, Script, int}
 use Rattle.avs_tree.specs.View.{StatementIs, ArmIs, arms_of}
 use Rattle.avs_tree.specs.declared.symbol.Symbol.TheVariants as s
 use Rattle.avs_tree.specs.declared.words.TypeWord.{TypeWord}
 use Rattle.avs_tree.specs.declared.symbol.Punctuation.TheVariants as m
 use Rattle.avs_tree.specs.declared.tree.Parameter.{Parameter}
-use Rattle.avs_tree.specs.ExprMachine.{operand_next, ExprState, Open}
-use Rattle.avs_tree.specs.Machine.{Use, to_value, to_global, to_assign, to_return, to_arm, to_while, to_first, to_last, to_step, Owner, arm_of, else_of, while_of, for_of, Levels, top, in_function, level, StatementState, statement_next, in_expression, parenthesis_next, braces_next, after_arm, after_else, after_global, after_global_name, after_for, for_opened, after_for_name, HeadState, after_function, after_function_name, head_opened, after_type, after_parameter, parameter_next, function_braces_next, State, at, at_head}
+use Rattle.avs_tree.specs.Machine.{operand_next, ExprState, Open, Use, to_value, to_global, to_assign, to_return, to_arm, to_while, to_first, to_last, to_step, Owner, arm_of, else_of, while_of, for_of, Levels, top, in_function, level, StatementState, statement_next, in_expression, parenthesis_next, braces_next, after_arm, after_else, after_global, after_global_name, after_for, for_opened, after_for_name, HeadState, after_function, after_function_name, head_opened, after_type, after_parameter, parameter_next, function_braces_next, State, at, at_head}
 use Rattle.avs_tree.proofs.ScriptMeaning.{all_block, all_arms, function_with, ArmsIn, OwnedIn, Closed, Next, Done, Bodied, ForBodied, Stepped, Used, Conditioned, Equals, ForNamed, Statement, FunctionBodied, HeadEnds, ParametersEnd, Typed, ParameterNext, HeadNamed, Head, Completion}
 use Rattle.std.specs.Prelude.{codes}
-use Rattle.avs_tree.specs.Lexeme.{spells_name}
-use Rattle.avs_tree.specs.Words.{keyword_of}
-use Rattle.avs_tree.specs.Tree.{int}
 use Rattle.avs_tree.specs.declared.words.TypeWord.TheVariants as v
 use Rattle.avs_tree.proofs.ExprMeaning.{Meaning}
 use Rattle.avs_tree.proofs.Formed.{some_meaning}

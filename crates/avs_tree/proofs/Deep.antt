@@ -1,19 +1,15 @@
 -- What may still come nests as deep as what is open.
 use Rattle.std.proofs.Common.{ap, ℕ, suc, ◌+◌, ◌≤◌, max, arith, Bool, false, inl, inr, List, [], ◌∷◌, ◌++◌, Option, Some}
 use Rattle.avs_tree.specs.Lexeme.{Lexemes}
-use Rattle.avs_lex.specs.Characters.{Text}
+use Rattle.avs_lex.specs.Spelling.{Text}
 use Rattle.avs_tree.specs.Tree.{Expr, Kind, global, assign, return, if_, while, for, value, Arms, no_arms, arm, Else, no_else, else_, Block, no_more, then_, Function, Script, ends_with_brace}
 use Rattle.avs_tree.specs.Tree as t
 use Rattle.avs_tree.specs.View.{StatementIs, ArmIs, arms_of}
-use Rattle.avs_tree.specs.Grammar.{nesting}
-use Rattle.avs_tree.specs.Script.{step_nesting, kind_nesting, arms_nesting, block_nesting, functions_nesting, script_nesting}
+use Rattle.avs_tree.specs.Grammar.{nesting, step_nesting, kind_nesting, arms_nesting, block_nesting, functions_nesting, script_nesting, functions_of, statements_of}
 use Rattle.avs_tree.specs.declared.words.TypeWord.{TypeWord}
 use Rattle.avs_tree.specs.declared.tree.Parameter.{Parameter}
-use Rattle.avs_tree.specs.ExprMachine.{operand_next, ExprState, Open}
-use Rattle.avs_tree.specs.Machine.{Use, to_value, to_global, to_assign, to_return, to_arm, to_while, to_first, to_last, to_step, Owner, arm_of, else_of, while_of, for_of, Levels, top, in_function, level, depth, StatementState, statement_next, in_expression, parenthesis_next, braces_next, after_arm, after_else, after_global, after_global_name, after_for, for_opened, after_for_name, HeadState, after_function, after_function_name, head_opened, after_type, after_parameter, parameter_next, function_braces_next, State, at, at_head}
+use Rattle.avs_tree.specs.Machine.{operand_next, ExprState, Open, Use, to_value, to_global, to_assign, to_return, to_arm, to_while, to_first, to_last, to_step, Owner, arm_of, else_of, while_of, for_of, Levels, top, in_function, level, depth, StatementState, statement_next, in_expression, parenthesis_next, braces_next, after_arm, after_else, after_global, after_global_name, after_for, for_opened, after_for_name, HeadState, after_function, after_function_name, head_opened, after_type, after_parameter, parameter_next, function_braces_next, State, at, at_head, open_level, expr_level, use_level, level_of}
 use Rattle.avs_tree.proofs.ScriptMeaning.{all_block, all_arms, function_with, ArmsIn, OwnedIn, Rest, Next, Done, Bodied, ForBodied, Used, Equals, ForNamed, Statement, FunctionBodied, HeadEnds, Typed, HeadOpened, Head, Completion}
-use Rattle.avs_tree.specs.Script.{functions_of, statements_of}
-use Rattle.avs_tree.specs.Nesting.{open_level, expr_level, use_level, level_of}
 use Rattle.avs_tree.proofs.ExprMeaning.{Meaning}
 use Rattle.avs_tree.proofs.DeepExpr.{meaning_deep}
 

@@ -1,14 +1,13 @@
 -- What may still come of an expression nests as deep as what is open.
 use Rattle.std.proofs.Common.{ℕ, suc, ◌+◌, ◌≤◌, arith, inl, inr, List, [], ◌∷◌, ◌++◌, Option, Some, None}
 use Rattle.avs_tree.specs.Lexeme.{Lexemes, precedence_of}
-use Rattle.avs_lex.specs.Characters.{Text}
+use Rattle.avs_lex.specs.Spelling.{Text}
 use Rattle.avs_tree.specs.Tree.{Expr, Kind, global, assign, return, if_, while, value, Arms, arm, Else, else_, Block, no_more, then_, call, method_calls, minus, not_, chain, compare, conditional, group, Args, no_args, arg, MethodCalls, method, method_call, Steps, step}
 use Rattle.avs_tree.specs.Tree as t
 use Rattle.avs_tree.specs.View.{ArgIs, MethodCallIs, StepIs}
 use Rattle.avs_tree.specs.Grammar.{nesting, args_nesting, method_calls_nesting, steps_nesting}
-use Rattle.avs_tree.specs.ExprMachine.{Callee, call_of, method_of, Open, paren, argument, minus_of, not_of, chain_of, compare_of, yes_of, no_of, ExprState, operand_next, value_read, name_read, args_opened, dot_read, method_read, calls_read, hole}
+use Rattle.avs_tree.specs.Machine.{Callee, call_of, method_of, Open, paren, argument, minus_of, not_of, chain_of, compare_of, yes_of, no_of, ExprState, operand_next, value_read, name_read, args_opened, dot_read, method_read, calls_read, hole, open_level, expr_level}
 use Rattle.avs_tree.specs.declared.tree.Operator.{Operator}
-use Rattle.avs_tree.specs.Nesting.{open_level, expr_level}
 use Rattle.avs_tree.proofs.Left.{Grows, grown, by_methods, by_chain, by_compare, by_question}
 use Rattle.avs_tree.proofs.ExprMeaning.{all_args, all_calls, all_steps, ArgumentIn, LabelIn, Continuation, Grown, Called, Opened, WithCalls, MethodNamed, Meaning}
 

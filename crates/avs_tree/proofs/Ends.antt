@@ -1,23 +1,16 @@
 -- The end of a script is told: tokens that end with it are accepted, or one of them is the place of a fault.
 use Rattle.std.proofs.Common.{◌≡◌, sym, subst, ℕ, suc, List, [], ◌∷◌, ◌++◌, length, None}
-use Rattle.avs_tree.specs.Lexeme.{Lexeme, Lexemes}
-use Rattle.avs_lex.specs.Characters.{Text}
-use Rattle.avs_tree.specs.Tree.{Expr, Kind, global, assign, return, if_, while, for, value, Arms, no_arms, arm, Else, no_else, else_, Block, no_more, then_, Function, Script, ends_with_brace}
+use Rattle.avs_tree.specs.Lexeme.{Lexeme, Lexemes, is_punctuation, precedence_of, operator_at}
+use Rattle.avs_lex.specs.Spelling.{Text}
+use Rattle.avs_tree.specs.Tree.{Expr, Kind, global, assign, return, if_, while, for, value, Arms, no_arms, arm, Else, no_else, else_, Block, no_more, then_, Function, Script, ends_with_brace, method_calls, minus, not_, chain, compare, conditional}
 use Rattle.avs_tree.specs.Tree as t
 use Rattle.avs_tree.specs.View.{StatementIs, arms_of}
 use Rattle.avs_tree.specs.declared.symbol.Symbol.TheVariants as s
 use Rattle.avs_tree.specs.declared.symbol.Punctuation.TheVariants as m
-use Rattle.avs_tree.specs.Next.{is_punctuation}
-use Rattle.avs_tree.specs.ExprMachine.{operand_next, keeps, leaves, refused, ExprStep, ExprState, Open, operand, expr_step}
-use Rattle.avs_tree.specs.Machine.{start, Use, to_value, to_global, to_assign, to_return, to_arm, to_while, to_first, to_last, to_step, Levels, top, statement_next, in_expression, parenthesis_next, braces_next, after_arm, after_else, after_global, after_global_name, after_for, for_opened, after_for_name, after_function, after_function_name, head_opened, after_type, after_parameter, parameter_next, function_braces_next, State, at, at_head, Step, stuck, goes, whole, end_by, used, expression_by, advance}
-use Rattle.avs_tree.specs.Lexeme.{precedence_of}
-use Rattle.avs_tree.specs.Tree.{method_calls, minus, not_, chain, compare, conditional}
+use Rattle.avs_tree.specs.Machine.{operand_next, keeps, leaves, refused, ExprStep, ExprState, Open, operand, expr_step, start, Use, to_value, to_global, to_assign, to_return, to_arm, to_while, to_first, to_last, to_step, Levels, top, statement_next, in_expression, parenthesis_next, braces_next, after_arm, after_else, after_global, after_global_name, after_for, for_opened, after_for_name, after_function, after_function_name, head_opened, after_type, after_parameter, parameter_next, function_braces_next, State, at, at_head, Step, stuck, goes, whole, end_by, used, expression_by, advance, paren, argument, minus_of, not_of, chain_of, compare_of, yes_of, no_of, value_read, name_read, args_opened, dot_read, method_read, calls_read, grow, grows, closing_argument, close, after, level_of}
 use Rattle.avs_tree.specs.View.{method_calls_of, steps_of}
-use Rattle.avs_tree.specs.Script.{nesting_limit}
+use Rattle.avs_tree.specs.Grammar.{nesting_limit}
 use Rattle.std.specs.Prelude.{nat_le}
-use Rattle.avs_tree.specs.Next.{operator_at}
-use Rattle.avs_tree.specs.ExprMachine.{paren, argument, minus_of, not_of, chain_of, compare_of, yes_of, no_of, value_read, name_read, args_opened, dot_read, method_read, calls_read, grow, grows, closing_argument, close, after}
-use Rattle.avs_tree.specs.Nesting.{level_of}
 use Rattle.avs_tree.specs.Place.{Verdict, stops, too_deep, alone, go_on, run, verdict}
 use Rattle.avs_tree.proofs.Tokens.{in_if}
 use Rattle.avs_tree.proofs.LowWords.{NotOn}

@@ -1,9 +1,7 @@
 -- The table of places, computed by the machine.
 use Rattle.std.proofs.Common.{◌≡◌, refl, subst, ℕ, suc}
-use Rattle.avs_tree.specs.Lexeme.{Lexemes}
-use Rattle.avs_tree.specs.Words.{type_word_of}
-use Rattle.avs_tree.specs.Next.{is_punctuation, operator_at}
-use Rattle.avs_tree.specs.ExprMachine.{operand, continues, grow, reach, closing_argument}
+use Rattle.avs_tree.specs.Lexeme.{Lexemes, type_word_of, is_punctuation, operator_at}
+use Rattle.avs_tree.specs.Machine.{operand, continues, grow, reach, closing_argument}
 use Rattle.avs_tree.specs.Place.{verdict, stops, too_deep, StopsAt, DeepAt, Answers}
 use Rattle.avs_tree.specs.Examples.{Examples}
 use Rattle.avs_tree.proofs.Places.{exact}

@@ -1,13 +1,12 @@
 -- What may still come, by the grammar, where a part of an expression was read.
 use Rattle.std.proofs.Common.{◌≡◌, ℕ, ◌≤◌, ◌⊎◌, List, [], ◌∷◌, ◌++◌, Option, Some, None}
-use Rattle.avs_tree.specs.Lexeme.{Lexemes, precedence_of}
-use Rattle.avs_lex.specs.Characters.{Text}
+use Rattle.avs_tree.specs.Lexeme.{Lexemes, precedence_of, tail}
+use Rattle.avs_lex.specs.Spelling.{Text}
 use Rattle.avs_tree.specs.Tree.{Expr, call, method_calls, minus, not_, chain, compare, conditional, group, Args, arg, MethodCalls, Steps, step}
 use Rattle.avs_tree.specs.Tree as t
 use Rattle.avs_tree.specs.View.{ArgIs, MethodCallIs, StepIs, method_call_of}
 use Rattle.avs_tree.specs.Grammar.{IsPunctuation, IsNameAt, Derives, DerivesSteps, DerivesMethodCalls, DerivesArgs, DerivesMoreArgs}
-use Rattle.avs_tree.specs.Next.{tail}
-use Rattle.avs_tree.specs.ExprMachine.{Callee, call_of, method_of, Open, paren, argument, minus_of, not_of, chain_of, compare_of, yes_of, no_of, ExprState, operand_next, value_read, name_read, args_opened, dot_read, method_read, calls_read, ExprStep, refused, keeps, leaves, hole}
+use Rattle.avs_tree.specs.Machine.{Callee, call_of, method_of, Open, paren, argument, minus_of, not_of, chain_of, compare_of, yes_of, no_of, ExprState, operand_next, value_read, name_read, args_opened, dot_read, method_read, calls_read, ExprStep, refused, keeps, leaves, hole}
 use Rattle.avs_tree.specs.declared.symbol.Punctuation.TheVariants as m
 use Rattle.avs_tree.proofs.Left.{Grows}
 

@@ -1,14 +1,12 @@
 -- What was read of an expression fits within the limit of nesting, as long as no more levels are open than it allows.
 use Rattle.std.proofs.Common.{ℕ, suc, ◌+◌, ◌<◌, ◌≤◌, max, arith, ◌&&◌, List, [], ◌∷◌, ◌++◌, Option, Some, None, nat_eq, nat_lt, nat_le, if◌then◌else◌}
-use Rattle.avs_tree.specs.Lexeme.{Lexemes, precedence_of, line_of}
-use Rattle.avs_lex.specs.Characters.{Text}
+use Rattle.avs_tree.specs.Lexeme.{Lexemes, precedence_of, line_of, peek, content_at, is_punctuation, operator_at}
+use Rattle.avs_lex.specs.Spelling.{Text}
 use Rattle.avs_tree.specs.Tree.{Expr, method_calls, minus, not_, chain, compare, conditional, group, Args, no_args, no_method_calls, no_steps}
 use Rattle.avs_tree.specs.Tree as t
 use Rattle.avs_tree.specs.View.{ArgIs, MethodCallIs, StepIs, args_of, method_calls_of, steps_of}
 use Rattle.avs_tree.specs.Grammar.{nesting, args_nesting, method_calls_nesting, steps_nesting}
-use Rattle.avs_tree.specs.Next.{peek, content_at, is_punctuation, operator_at}
-use Rattle.avs_tree.specs.ExprMachine.{Callee, call_of, method_of, Open, paren, argument, minus_of, not_of, chain_of, compare_of, yes_of, no_of, ExprState, operand_next, value_read, name_read, args_opened, dot_read, method_read, calls_read, ExprStep, refused, keeps, leaves, hole, reach, operand_by, operand, grow_by, continues, grow, called, no_closing, taken, reopened, label_of, closing_argument, more_of, by_closing, close, after, after_calls, method_by, expr_step}
-use Rattle.avs_tree.specs.Nesting.{open_level, expr_level}
+use Rattle.avs_tree.specs.Machine.{Callee, call_of, method_of, Open, paren, argument, minus_of, not_of, chain_of, compare_of, yes_of, no_of, ExprState, operand_next, value_read, name_read, args_opened, dot_read, method_read, calls_read, ExprStep, refused, keeps, leaves, hole, reach, operand_by, operand, grow_by, continues, grow, called, no_closing, taken, reopened, label_of, closing_argument, more_of, by_closing, close, after, after_calls, method_by, expr_step, open_level, expr_level}
 use Rattle.avs_tree.specs.declared.symbol.Symbol.{Symbol}
 use Rattle.avs_tree.specs.declared.symbol.Symbol.TheVariants as s
 use Rattle.avs_tree.specs.declared.words.Keyword.TheVariants as w

@@ -1,12 +1,11 @@
 -- Operators stand at their precedences, whatever is read, and what is open can always be completed.
 use Rattle.std.proofs.Common.{◌≡◌, refl, sym, ◌∙◌, ℕ, pos, ◌≤◌, arith, inl, ◌&&◌, List, [], ◌∷◌, ◌++◌, Option, Some, None, nat_eq, nat_lt, nat_le, if◌then◌else◌}
-use Rattle.avs_tree.specs.Lexeme.{Lexemes, precedence_of, line_of}
-use Rattle.avs_lex.specs.Characters.{Text}
+use Rattle.avs_tree.specs.Lexeme.{Lexemes, precedence_of, line_of, peek, content_at, is_punctuation, operator_at, operator_by}
+use Rattle.avs_lex.specs.Spelling.{Text}
 use Rattle.avs_tree.specs.Tree.{Expr, int, call, method_calls, minus, not_, chain, compare, conditional, group, Args, no_args, arg, no_method_calls, no_steps, step}
 use Rattle.avs_tree.specs.Tree as t
 use Rattle.avs_tree.specs.View.{ArgIs, MethodCallIs, StepIs, method_calls_of, method_call_of, steps_of}
-use Rattle.avs_tree.specs.Next.{peek, content_at, is_punctuation, operator_at, operator_by}
-use Rattle.avs_tree.specs.ExprMachine.{Callee, call_of, method_of, Open, paren, argument, minus_of, not_of, chain_of, compare_of, yes_of, no_of, ExprState, operand_next, value_read, name_read, args_opened, dot_read, method_read, calls_read, ExprStep, refused, keeps, leaves, hole, reach, operand_by, operand, operand_of, grow_by, continues, grow, called, no_closing, taken, reopened, label_of, closing_argument, more_of, by_closing, close, after, after_calls, method_by, expr_step}
+use Rattle.avs_tree.specs.Machine.{Callee, call_of, method_of, Open, paren, argument, minus_of, not_of, chain_of, compare_of, yes_of, no_of, ExprState, operand_next, value_read, name_read, args_opened, dot_read, method_read, calls_read, ExprStep, refused, keeps, leaves, hole, reach, operand_by, operand, operand_of, grow_by, continues, grow, called, no_closing, taken, reopened, label_of, closing_argument, more_of, by_closing, close, after, after_calls, method_by, expr_step}
 use Rattle.avs_tree.specs.declared.symbol.Symbol.{Symbol}
 use Rattle.avs_tree.specs.declared.symbol.Symbol.TheVariants as s
 use Rattle.avs_tree.specs.declared.words.Keyword.TheVariants as w

@@ -1,14 +1,13 @@
 -- Nothing that may come is lost at a token.
 use Rattle.std.proofs.Common.{◌≡◌, refl, sym, ap, subst, ◌∙◌, ℕ, ◌-◌, ◌<◌, ◌≤◌, arith, Bool, true, false, inl, inr, ◌&&◌, List, [], ◌∷◌, ◌++◌, Option, Some, None, nat_eq, nat_lt, nat_le, if◌then◌else◌}
 use Rattle.std.proofs.lemmas.Bool.Decides.{nat_tests}
-use Rattle.avs_tree.specs.Lexeme.{Lexemes, precedence_of, line_of}
-use Rattle.avs_lex.specs.Characters.{Text}
+use Rattle.avs_tree.specs.Lexeme.{Lexemes, precedence_of, line_of, peek, content_at, punctuation_by, is_punctuation, operator_at, operator_by}
+use Rattle.avs_lex.specs.Spelling.{Text}
 use Rattle.avs_tree.specs.Tree.{Expr, int, bool, str, call, method_calls, minus, not_, chain, compare, conditional, group, Args, no_args, arg, MethodCalls, no_method_calls, method, method_call, Steps, no_steps, step}
 use Rattle.avs_tree.specs.Tree as t
 use Rattle.avs_tree.specs.View.{ArgIs, MethodCallIs, StepIs, args_of, method_calls_of, method_call_of, steps_of}
 use Rattle.avs_tree.specs.Grammar.{IsAt, Labels, Derives, DerivesSteps}
-use Rattle.avs_tree.specs.Next.{peek, content_at, punctuation_by, is_punctuation, operator_at, operator_by}
-use Rattle.avs_tree.specs.ExprMachine.{Callee, call_of, method_of, Open, paren, argument, minus_of, not_of, chain_of, compare_of, yes_of, no_of, ExprState, operand_next, value_read, name_read, args_opened, dot_read, method_read, calls_read, ExprStep, keeps, hole, reach, operand_by, operand, grow_by, continues, grows, grow, called, Closing, reopened, closed, closing_argument, more_of, by_closing, close, after, after_calls, expr_step}
+use Rattle.avs_tree.specs.Machine.{Callee, call_of, method_of, Open, paren, argument, minus_of, not_of, chain_of, compare_of, yes_of, no_of, ExprState, operand_next, value_read, name_read, args_opened, dot_read, method_read, calls_read, ExprStep, keeps, hole, reach, operand_by, operand, grow_by, continues, grows, grow, called, Closing, reopened, closed, closing_argument, more_of, by_closing, close, after, after_calls, expr_step}
 use Rattle.avs_tree.specs.declared.symbol.Symbol.{Symbol}
 use Rattle.avs_tree.specs.declared.symbol.Symbol.TheVariants as s
 use Rattle.avs_tree.specs.declared.symbol.Punctuation.TheVariants as m

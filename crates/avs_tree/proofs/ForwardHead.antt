@@ -1,19 +1,15 @@
 -- Nothing that may come in the head of a function is lost at a token.
 use Rattle.std.proofs.Common.{◌≡◌, refl, sym, ap, subst, ◌∙◌, ℕ, Bool, true, false, IsTrue, inl, inr, List, [], ◌∷◌, ◌++◌, append_assoc, append-nil, Some, if◌then◌else◌}
-use Rattle.avs_tree.specs.Lexeme.{Lexemes, line_of, is_name}
-use Rattle.avs_lex.specs.Characters.{Text}
-use Rattle.avs_tree.specs.Words.{type_word_of}
+use Rattle.avs_tree.specs.Lexeme.{Lexemes, line_of, is_name, type_word_of, peek, content_at, is_punctuation}
+use Rattle.avs_lex.specs.Spelling.{Text}
 use Rattle.avs_tree.specs.Tree.{Block, Function, Script}
 use Rattle.avs_tree.specs.View.{StatementIs}
-use Rattle.avs_tree.specs.Grammar.{IsPunctuation}
-use Rattle.avs_tree.specs.Script.{Separates, Braces, DerivesAll, Parameters, DerivesFunction}
+use Rattle.avs_tree.specs.Grammar.{IsPunctuation, Separates, Braces, DerivesAll, Parameters, DerivesFunction}
 use Rattle.avs_tree.specs.declared.symbol.Symbol.TheVariants as s
 use Rattle.avs_tree.specs.declared.words.TypeWord.{TypeWord}
 use Rattle.avs_tree.specs.declared.symbol.Punctuation.TheVariants as m
 use Rattle.avs_tree.specs.declared.tree.Parameter.{Parameter}
-use Rattle.avs_tree.specs.Next.{peek, content_at, is_punctuation}
-use Rattle.avs_tree.specs.ExprMachine.{operand}
-use Rattle.avs_tree.specs.Machine.{top, HeadState, after_function, after_function_name, head_opened, after_type, after_parameter, parameter_next, function_braces_next, at_head, stuck, goes, items_by, type_by, with_parameter, function_body_by, advance_head}
+use Rattle.avs_tree.specs.Machine.{operand, top, HeadState, after_function, after_function_name, head_opened, after_type, after_parameter, parameter_next, function_braces_next, at_head, stuck, goes, items_by, type_by, with_parameter, function_body_by, advance_head}
 use Rattle.avs_tree.proofs.ScriptMeaning.{function_with, TopRest, FunctionBodied, HeadEnds, ParametersEnd, Typed, ParameterNext, HeadOpened, Head, AfterStep}
 use Rattle.avs_tree.proofs.Blocks.{newlines_cases, next_of}
 

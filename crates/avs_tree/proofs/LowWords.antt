@@ -1,15 +1,11 @@
 -- `if`, `while` and `for` open no level.
 use Rattle.std.proofs.Common.{◌≡◌, sym, subst, inl, inr, ◌≤◌, arith, ℕ, List, [], ◌∷◌, ◌++◌, Some, None}
-use Rattle.avs_tree.specs.Lexeme.{Lexeme, Lexemes, precedence_of}
-use Rattle.avs_lex.specs.Characters.{Text}
-use Rattle.avs_tree.specs.Tree.{Expr, method_calls, minus, not_, chain, compare, conditional}
-use Rattle.avs_tree.specs.Tree.{Function}
+use Rattle.avs_tree.specs.Lexeme.{Lexeme, Lexemes, precedence_of, is_punctuation, operator_at}
+use Rattle.avs_lex.specs.Spelling.{Text}
+use Rattle.avs_tree.specs.Tree.{Expr, method_calls, minus, not_, chain, compare, conditional, Function}
 use Rattle.avs_tree.specs.Tree as t
 use Rattle.avs_tree.specs.View.{StatementIs, method_calls_of, steps_of}
-use Rattle.avs_tree.specs.Next.{is_punctuation, operator_at}
-use Rattle.avs_tree.specs.ExprMachine.{Open, paren, argument, minus_of, not_of, chain_of, compare_of, yes_of, no_of, ExprState, operand_next, value_read, name_read, args_opened, dot_read, method_read, calls_read, ExprStep, refused, keeps, leaves, operand_by, operand, grow, grows, closing_argument, close, after, expr_step}
-use Rattle.avs_tree.specs.Machine.{Use, to_value, to_global, to_assign, to_return, to_arm, to_while, to_first, to_last, to_step, Levels, depth, after_for, for_opened, after_for_name, HeadState, after_function, after_function_name, head_opened, after_type, after_parameter, parameter_next, function_braces_next, State, at, at_head, advance_statement, advance_head, StatementState, statement_next, in_expression, parenthesis_next, braces_next, after_arm, after_else, after_global, after_global_name, Step, stuck, goes, whole, expression_by, advance}
-use Rattle.avs_tree.specs.Nesting.{level_of}
+use Rattle.avs_tree.specs.Machine.{Open, paren, argument, minus_of, not_of, chain_of, compare_of, yes_of, no_of, ExprState, operand_next, value_read, name_read, args_opened, dot_read, method_read, calls_read, ExprStep, refused, keeps, leaves, operand_by, operand, grow, grows, closing_argument, close, after, expr_step, Use, to_value, to_global, to_assign, to_return, to_arm, to_while, to_first, to_last, to_step, Levels, depth, after_for, for_opened, after_for_name, HeadState, after_function, after_function_name, head_opened, after_type, after_parameter, parameter_next, function_braces_next, State, at, at_head, advance_statement, advance_head, StatementState, statement_next, in_expression, parenthesis_next, braces_next, after_arm, after_else, after_global, after_global_name, Step, stuck, goes, whole, expression_by, advance, level_of}
 use Rattle.avs_tree.specs.Place.{IsWord}
 use Rattle.avs_tree.specs.declared.symbol.Symbol.TheVariants as s
 use Rattle.avs_tree.specs.declared.words.Keyword.{Keyword}

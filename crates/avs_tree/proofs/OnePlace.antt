@@ -2,7 +2,7 @@
 use Rattle.std.proofs.Common.{◌≡◌, refl, sym, ap, subst, ◌∙◌, ℕ, suc, arith, ◌⊎◌, inl, inr, [], ◌∷◌, ◌++◌, Some, length, length-append, append_assoc}
 use Rattle.avs_tree.specs.Lexeme.{Lexeme, Lexemes}
 use Rattle.avs_tree.specs.Tree.{Script}
-use Rattle.avs_tree.specs.Script.{IsScript}
+use Rattle.avs_tree.specs.Grammar.{IsScript}
 use Rattle.avs_tree.specs.Place.{BeginsWithin, IsWord, IsWithin, StopsAt, DeepAt}
 
 data Split (a : Lexemes) (x : Lexeme) (b c : Lexemes) (y : Lexeme) (d : Lexemes) : Type 0 where

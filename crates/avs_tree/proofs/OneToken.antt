@@ -1,13 +1,10 @@
 -- What a token does depends on no token after it.
 use Rattle.std.proofs.Common.{◌≡◌, refl, ap, ◌∙◌, ℕ, List, [], ◌∷◌, ◌++◌, None, if◌then◌else◌}
-use Rattle.avs_tree.specs.Lexeme.{Lexeme, Lexemes}
-use Rattle.avs_tree.specs.Tree.{Expr, method_calls}
-use Rattle.avs_tree.specs.Tree.{Function}
+use Rattle.avs_tree.specs.Lexeme.{Lexeme, Lexemes, is_punctuation, operator_at}
+use Rattle.avs_tree.specs.Tree.{Expr, method_calls, Function}
 use Rattle.avs_tree.specs.Tree as t
 use Rattle.avs_tree.specs.View.{StatementIs, MethodCallIs, method_calls_of}
-use Rattle.avs_tree.specs.Next.{is_punctuation, operator_at}
-use Rattle.avs_tree.specs.ExprMachine.{Open, paren, argument, minus_of, not_of, chain_of, compare_of, yes_of, no_of, ExprState, operand_next, value_read, name_read, args_opened, dot_read, method_read, calls_read, call_of, method_of, ExprStep, refused, leaves, keeps, operand, grow, continues, grows, Closing, no_closing, taken, reopened, closed, closing_argument, closing, by_closing, close, after, after_calls, expr_step}
-use Rattle.avs_tree.specs.Machine.{StatementState, statement_next, in_expression, parenthesis_next, braces_next, after_arm, after_else, after_global, after_global_name, after_for, for_opened, after_for_name, HeadState, after_function, after_function_name, head_opened, after_type, after_parameter, parameter_next, function_braces_next, State, at, at_head, Levels, used, expression_by, Use, to_value, to_global, to_assign, to_return, to_arm, to_while, to_first, to_last, to_step, advance_statement, advance_head, advance}
+use Rattle.avs_tree.specs.Machine.{Open, paren, argument, minus_of, not_of, chain_of, compare_of, yes_of, no_of, ExprState, operand_next, value_read, name_read, args_opened, dot_read, method_read, calls_read, call_of, method_of, ExprStep, refused, leaves, keeps, operand, grow, continues, grows, Closing, no_closing, taken, reopened, closed, closing_argument, closing, by_closing, close, after, after_calls, expr_step, StatementState, statement_next, in_expression, parenthesis_next, braces_next, after_arm, after_else, after_global, after_global_name, after_for, for_opened, after_for_name, HeadState, after_function, after_function_name, head_opened, after_type, after_parameter, parameter_next, function_braces_next, State, at, at_head, Levels, used, expression_by, Use, to_value, to_global, to_assign, to_return, to_arm, to_while, to_first, to_last, to_step, advance_statement, advance_head, advance}
 use Rattle.avs_tree.specs.declared.symbol.Punctuation.TheVariants as m
 
 same_by_closing : (c : Closing) (fs : List Open) (go other : ℕ → Expr → ExprStep) → ((k : ℕ) (e : Expr) → go k e ≡ other k e) → by_closing c fs go ≡ by_closing c fs other

@@ -2,7 +2,7 @@
 use Rattle.std.proofs.Common.{◌≡◌, ap, [], ◌∷◌, Option, Some, None}
 use Rattle.avs_tree.specs.Lexeme.{Lexeme, Lexemes}
 use Rattle.avs_tree.specs.Tree.{Script}
-use Rattle.avs_tree.specs.Script.{IsScript}
+use Rattle.avs_tree.specs.Grammar.{IsScript}
 use Rattle.avs_tree.specs.Machine.{State, start, Step, stuck, goes, whole, advance}
 use Rattle.avs_tree.proofs.ForwardScript.{FormedState, on_advance}
 use Rattle.avs_tree.proofs.FormedScript.{FormedStep, formed_advance}

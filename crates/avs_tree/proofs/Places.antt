@@ -1,13 +1,10 @@
 -- The verdict on tokens is right.
 use Rattle.std.proofs.Common.{◌≡◌, refl, sym, ap, subst, ◌∙◌, ℕ, zero, suc, inl, inr, [], ◌∷◌, ◌++◌, length, ◌<◌, ◌≤◌, arith, Some, true, false, nat_le, append_assoc}
 use Rattle.std.proofs.lemmas.Bool.Decides.{nat_tests}
-use Rattle.avs_tree.specs.Lexeme.{Lexeme, Lexemes}
+use Rattle.avs_tree.specs.Lexeme.{Lexeme, Lexemes, is_punctuation}
 use Rattle.avs_tree.specs.Tree.{Script}
-use Rattle.avs_tree.specs.Script.{IsScript, statements_of, script_nesting, nesting_limit}
-use Rattle.avs_tree.specs.Next.{is_punctuation}
-use Rattle.avs_tree.specs.ExprMachine.{operand}
-use Rattle.avs_tree.specs.Machine.{statement_next, in_expression, parenthesis_next, braces_next, after_arm, after_else, after_global, after_global_name, after_for, for_opened, after_for_name, after_function, after_function_name, head_opened, after_type, after_parameter, parameter_next, function_braces_next, State, at, at_head, start, Step, stuck, goes, whole, advance}
-use Rattle.avs_tree.specs.Nesting.{level_of}
+use Rattle.avs_tree.specs.Grammar.{IsScript, statements_of, script_nesting, nesting_limit}
+use Rattle.avs_tree.specs.Machine.{operand, statement_next, in_expression, parenthesis_next, braces_next, after_arm, after_else, after_global, after_global_name, after_for, for_opened, after_for_name, after_function, after_function_name, head_opened, after_type, after_parameter, parameter_next, function_braces_next, State, at, at_head, start, Step, stuck, goes, whole, advance, level_of}
 use Rattle.avs_tree.specs.Place.{Verdict, accepts, stops, too_deep, alone, go_on, run, verdict, BeginsWithin, IsWord, IsWithin, Answers}
 use Rattle.avs_tree.proofs.Tokens.{in_if}
 use Rattle.avs_tree.proofs.Forward.{if_true, some_token}

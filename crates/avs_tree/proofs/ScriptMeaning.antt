@@ -1,20 +1,16 @@
 -- What may still come, by the grammar, where a part of a script was read.
 use Rattle.std.proofs.Common.{◌≡◌, ℕ, ◌⊎◌, Bool, false, IsTrue, List, [], ◌∷◌, ◌++◌, Option, Some}
-use Rattle.avs_tree.specs.Lexeme.{Lexemes}
-use Rattle.avs_lex.specs.Characters.{Text}
-use Rattle.avs_tree.specs.Words.{type_word_of}
+use Rattle.avs_tree.specs.Lexeme.{Lexemes, type_word_of, tail}
+use Rattle.avs_lex.specs.Spelling.{Text}
 use Rattle.avs_tree.specs.Tree.{Expr, Kind, global, assign, return, if_, while, for, value, Arms, arm, Else, else_, Block, then_, Function, Script}
 use Rattle.avs_tree.specs.Tree as t
 use Rattle.avs_tree.specs.View.{StatementIs, ArmIs, arms_of}
-use Rattle.avs_tree.specs.Grammar.{IsPunctuation, IsKeyword, IsName, Derives}
-use Rattle.avs_tree.specs.Script.{Newlines, Separates, ForStep, DerivesElseIfs, DerivesElse, DerivesAll, ParameterName, MoreParameters, Items, functions_of, statements_of, DerivesItems}
+use Rattle.avs_tree.specs.Grammar.{IsPunctuation, IsKeyword, IsName, Derives, Newlines, Separates, ForStep, DerivesElseIfs, DerivesElse, DerivesAll, ParameterName, MoreParameters, Items, functions_of, statements_of, DerivesItems}
 use Rattle.avs_tree.specs.declared.words.Keyword.TheVariants as w
 use Rattle.avs_tree.specs.declared.words.TypeWord.{TypeWord}
 use Rattle.avs_tree.specs.declared.symbol.Punctuation.TheVariants as m
 use Rattle.avs_tree.specs.declared.tree.Parameter.{Parameter}
-use Rattle.avs_tree.specs.Next.{tail}
-use Rattle.avs_tree.specs.ExprMachine.{operand_next}
-use Rattle.avs_tree.specs.Machine.{Use, to_value, to_global, to_assign, to_return, to_arm, to_while, to_first, to_last, to_step, Owner, arm_of, else_of, while_of, for_of, Levels, top, in_function, level, StatementState, statement_next, in_expression, parenthesis_next, braces_next, after_arm, after_else, after_global, after_global_name, after_for, for_opened, after_for_name, HeadState, after_function, after_function_name, head_opened, after_type, after_parameter, parameter_next, function_braces_next, State, at, at_head, Step, stuck, goes, whole}
+use Rattle.avs_tree.specs.Machine.{operand_next, Use, to_value, to_global, to_assign, to_return, to_arm, to_while, to_first, to_last, to_step, Owner, arm_of, else_of, while_of, for_of, Levels, top, in_function, level, StatementState, statement_next, in_expression, parenthesis_next, braces_next, after_arm, after_else, after_global, after_global_name, after_for, for_opened, after_for_name, HeadState, after_function, after_function_name, head_opened, after_type, after_parameter, parameter_next, function_braces_next, State, at, at_head, Step, stuck, goes, whole}
 use Rattle.avs_tree.proofs.ExprMeaning.{Meaning}
 
 -- these and then further ones

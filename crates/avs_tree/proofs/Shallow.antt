@@ -1,22 +1,18 @@
 -- What was read of a script and fits within the limit of nesting can be completed within it.
 use Rattle.std.proofs.Common.{◌≡◌, refl, ℕ, pos, ◌+◌, ◌<◌, ◌≤◌, arith, Bool, true, inl, inr, List, [], ◌∷◌, ◌++◌, Option, Some, None}
 use Rattle.avs_tree.specs.Lexeme.{Lexemes}
-use Rattle.avs_lex.specs.Characters.{Text}
-use Rattle.avs_tree.specs.Tree.{Expr, Kind, global, assign, return, if_, while, for, value, no_arms, no_else, else_, Block, no_more, Function, Script}
+use Rattle.avs_lex.specs.Spelling.{Text}
+use Rattle.avs_tree.specs.Tree.{Expr, Kind, global, assign, return, if_, while, for, value, no_arms, no_else, else_, Block, no_more, Function, Script, int}
 use Rattle.avs_tree.specs.View.{StatementIs, ArmIs, arms_of}
-use Rattle.avs_tree.specs.Grammar.{nesting}
-use Rattle.avs_tree.specs.Script.{kind_nesting, block_nesting, functions_nesting, script_nesting}
+use Rattle.avs_tree.specs.Grammar.{nesting, kind_nesting, block_nesting, functions_nesting, script_nesting}
 use Rattle.avs_tree.specs.declared.symbol.Symbol.TheVariants as s
 use Rattle.avs_tree.specs.declared.words.TypeWord.{TypeWord}
 use Rattle.avs_tree.specs.declared.symbol.Punctuation.TheVariants as m
 use Rattle.avs_tree.specs.declared.tree.Parameter.{Parameter}
-use Rattle.avs_tree.specs.ExprMachine.{operand_next, ExprState, Open}
-use Rattle.avs_tree.specs.Machine.{Use, to_value, to_global, to_assign, to_return, to_arm, to_while, to_first, to_last, to_step, Owner, arm_of, else_of, while_of, for_of, Levels, top, in_function, level, depth, StatementState, statement_next, in_expression, parenthesis_next, braces_next, after_arm, after_else, after_global, after_global_name, after_for, for_opened, after_for_name, HeadState, after_function, after_function_name, head_opened, after_type, after_parameter, parameter_next, function_braces_next, State, at, at_head}
+use Rattle.avs_tree.specs.Machine.{operand_next, ExprState, Open, Use, to_value, to_global, to_assign, to_return, to_arm, to_while, to_first, to_last, to_step, Owner, arm_of, else_of, while_of, for_of, Levels, top, in_function, level, depth, StatementState, statement_next, in_expression, parenthesis_next, braces_next, after_arm, after_else, after_global, after_global_name, after_for, for_opened, after_for_name, HeadState, after_function, after_function_name, head_opened, after_type, after_parameter, parameter_next, function_braces_next, State, at, at_head, use_level}
 use Rattle.avs_tree.proofs.ScriptMeaning.{all_block, all_arms, function_with, ArmsIn, OwnedIn, Closed, Next, Done, Bodied, ForBodied, Stepped, Used, OperandNext, Conditioned, Equals, ForNamed, Statement, FunctionBodied, HeadEnds, ParametersEnd, Typed, ParameterNext, HeadNamed, Head, Completion}
 use Rattle.std.specs.Prelude.{codes}
-use Rattle.avs_tree.specs.Tree.{int}
 use Rattle.avs_tree.specs.declared.words.TypeWord.TheVariants as v
-use Rattle.avs_tree.specs.Nesting.{use_level}
 use Rattle.avs_tree.proofs.ExprMeaning.{Meaning}
 use Rattle.avs_tree.proofs.Blocks.{no_newlines, rest_ends}
 use Rattle.avs_tree.proofs.Completions.{a_name, a_type}

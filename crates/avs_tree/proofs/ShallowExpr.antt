@@ -1,13 +1,12 @@
 -- What was read of an expression and fits within the limit of nesting can be completed within it.
 use Rattle.std.proofs.Common.{refl, ℕ, pos, suc, ◌+◌, ◌≤◌, max, arith, inl, List, [], ◌∷◌, ◌++◌, Option, Some, None}
 use Rattle.avs_tree.specs.Lexeme.{Lexemes, precedence_of}
-use Rattle.avs_lex.specs.Characters.{Text}
+use Rattle.avs_lex.specs.Spelling.{Text}
 use Rattle.avs_tree.specs.Tree.{Expr, int, call, method_calls, minus, not_, chain, compare, conditional, group, Args, no_args, arg, no_method_calls, no_steps, step, Kind, global, assign, return, if_, while, value, no_arms, no_else, else_, Block, no_more}
 use Rattle.avs_tree.specs.Tree as t
 use Rattle.avs_tree.specs.View.{ArgIs, MethodCallIs, StepIs, method_call_of}
 use Rattle.avs_tree.specs.Grammar.{nesting, args_nesting, method_calls_nesting, steps_nesting}
-use Rattle.avs_tree.specs.ExprMachine.{Callee, call_of, method_of, Open, paren, argument, minus_of, not_of, chain_of, compare_of, yes_of, no_of, ExprState, operand_next, value_read, name_read, args_opened, dot_read, method_read, calls_read}
-use Rattle.avs_tree.specs.Nesting.{open_level}
+use Rattle.avs_tree.specs.Machine.{Callee, call_of, method_of, Open, paren, argument, minus_of, not_of, chain_of, compare_of, yes_of, no_of, ExprState, operand_next, value_read, name_read, args_opened, dot_read, method_read, calls_read, open_level}
 use Rattle.avs_tree.specs.declared.symbol.Symbol.TheVariants as s
 use Rattle.avs_tree.specs.declared.symbol.Punctuation.TheVariants as m
 use Rattle.avs_tree.specs.declared.tree.Operator.{Operator}

@@ -3,9 +3,8 @@ use Rattle.std.proofs.Common.{◌≡◌, refl, ap, subst, ℕ, ◌<◌, ◌≤�
 use Rattle.std.proofs.lemmas.Bool.Decides.{nat_tests}
 use denote.Enum.Bare.{same_true}
 use Rattle.avs_tree.specs.contracts.symbol.Punctuation.{the_type}
-use Rattle.avs_tree.specs.Lexeme.{Lexemes, precedence_of, line_of}
+use Rattle.avs_tree.specs.Lexeme.{Lexemes, precedence_of, line_of, peek, content_at, tail, punctuation_by, is_punctuation, operator_by}
 use Rattle.avs_tree.specs.Grammar.{Is, IsPunctuation}
-use Rattle.avs_tree.specs.Next.{peek, content_at, tail, punctuation_by, is_punctuation, operator_by}
 use Rattle.avs_tree.specs.declared.symbol.Symbol.{Symbol}
 use Rattle.avs_tree.specs.declared.symbol.Symbol.TheVariants as s
 use Rattle.avs_tree.specs.declared.symbol.Punctuation.{Punctuation}

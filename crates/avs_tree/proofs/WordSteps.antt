@@ -1,8 +1,7 @@
 -- A parenthesis has to come next only after `if`, `while` and `for`.
 use Rattle.std.proofs.Common.{refl, ℕ, ◌<◌, Bool, true, false, inl, inr, List, [], ◌∷◌, ◌++◌, Option, Some, None, if◌then◌else◌}
-use Rattle.avs_tree.specs.Lexeme.{Lexemes, line_of, is_name}
-use Rattle.avs_lex.specs.Characters.{Text}
-use Rattle.avs_tree.specs.Words.{type_word_of}
+use Rattle.avs_tree.specs.Lexeme.{Lexemes, line_of, is_name, type_word_of, peek, content_at, is_punctuation}
+use Rattle.avs_lex.specs.Spelling.{Text}
 use Rattle.avs_tree.specs.Tree.{Expr, Kind, global, assign, return, if_, while, for, value, Arms, no_arms, arm, Else, no_else, else_, Block, no_more, then_, Function, Script, ends_with_brace}
 use Rattle.avs_tree.specs.Tree as t
 use Rattle.avs_tree.specs.View.{StatementIs, ArmIs, arms_of}
@@ -12,10 +11,8 @@ use Rattle.avs_tree.specs.declared.words.Keyword.TheVariants as w
 use Rattle.avs_tree.specs.declared.words.TypeWord.{TypeWord}
 use Rattle.avs_tree.specs.declared.symbol.Punctuation.TheVariants as m
 use Rattle.avs_tree.specs.declared.tree.Parameter.{Parameter}
-use Rattle.avs_tree.specs.Next.{peek, content_at, is_punctuation}
-use Rattle.avs_tree.specs.ExprMachine.{operand_next, keeps, leaves, refused, ExprStep, operand, expr_step}
-use Rattle.avs_tree.specs.Machine.{Use, to_value, to_global, to_assign, to_return, to_arm, to_while, to_first, to_last, to_step, Owner, arm_of, else_of, while_of, for_of, Levels, top, in_function, level, depth, statement_next, in_expression, parenthesis_next, braces_next, after_arm, after_else, after_global, after_global_name, after_for, for_opened, after_for_name, HeadState, after_function, after_function_name, head_opened, after_type, after_parameter, parameter_next, function_braces_next, State, at, at_head, Step, stuck, goes, whole, close_by, end_by, in_statement, function_by, items_by, done_by, assigned, used, expression_by, body_by, arms_by, other_by, global_by, for_by, advance_statement, function_name_by, type_by, with_parameter, parameter_by, function_body_by, advance_head, advance}
-use Rattle.avs_tree.specs.Script.{nesting_limit}
+use Rattle.avs_tree.specs.Machine.{operand_next, keeps, leaves, refused, ExprStep, operand, expr_step, Use, to_value, to_global, to_assign, to_return, to_arm, to_while, to_first, to_last, to_step, Owner, arm_of, else_of, while_of, for_of, Levels, top, in_function, level, depth, statement_next, in_expression, parenthesis_next, braces_next, after_arm, after_else, after_global, after_global_name, after_for, for_opened, after_for_name, HeadState, after_function, after_function_name, head_opened, after_type, after_parameter, parameter_next, function_braces_next, State, at, at_head, Step, stuck, goes, whole, close_by, end_by, in_statement, function_by, items_by, done_by, assigned, used, expression_by, body_by, arms_by, other_by, global_by, for_by, advance_statement, function_name_by, type_by, with_parameter, parameter_by, function_body_by, advance_head, advance}
+use Rattle.avs_tree.specs.Grammar.{nesting_limit}
 use Rattle.avs_tree.specs.Place.{IsWord}
 use Rattle.avs_tree.proofs.Tokens.{in_if}
 use Rattle.avs_tree.proofs.Shallow.{MayOpen}

@@ -1,7 +1,7 @@
 -- Scripts with a fault, each as its lexemes, and the place of the fault, with tokens counted from 0. The table is this project's
 -- own; what a place is stands in Place.
 use Rattle.std.specs.Prelude.{ℕ, ◌-◌, pos, List, [], ◌∷◌, ◌++◌, length, replicate, codes}
-use Rattle.avs_lex.specs.Characters.{Text}
+use Rattle.avs_lex.specs.Spelling.{Text}
 use Rattle.avs_tree.specs.Lexeme.{Lexeme, Lexemes}
 use Rattle.avs_tree.specs.declared.symbol.Symbol.{Symbol}
 use Rattle.avs_tree.specs.declared.symbol.Symbol.TheVariants as s

@@ -4,7 +4,7 @@ use Rattle.avs_tree.specs.declared.symbol.Symbol.TheVariants as s
 use Rattle.avs_tree.specs.declared.symbol.Punctuation.TheVariants as m
 use Rattle.avs_tree.specs.Lexeme.{Lexeme, Lexemes}
 use Rattle.avs_tree.specs.Tree.{Script}
-use Rattle.avs_tree.specs.Script.{IsScript, script_nesting, nesting_limit}
+use Rattle.avs_tree.specs.Grammar.{IsScript, script_nesting, nesting_limit}
 use Rattle.avs_tree.specs.Machine.{State, advance}
 use Rattle.avs_tree.specs.Place.{verdict, Answers, accepts, stops, StopsAt, DeepAt}
 

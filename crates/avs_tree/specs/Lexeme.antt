@@ -1,19 +1,73 @@
--- What the grammar sees of a token: its symbol, what it says, and its line.
-use Rattle.std.specs.Prelude.{◌-◌, ℕ, Bool, ◌&&◌, List, [], ◌∷◌, map, length, slice_range, slice_index, Option, Some, None, is_none}
+-- What the grammar sees of a token, and of the next one; and the words of the language.
 use Rattle.std.specs.List.{list_all}
-use Rattle.avs_lex.specs.Characters.{Text, begins_name, continues_name}
-use Rattle.avs_lex.specs.Spelling.{quotes_of}
-use Rattle.avs_lex.specs.TokenList.{bytes_of}
+use Rattle.std.specs.Prelude.{Bool, List, [], ◌∷◌, codes, Option, Some, None, if◌then◌else◌, ◌-◌, ℕ, ◌&&◌, map, length, slice_range, slice_index, is_none, false, nat_eq}
+use Rattle.std.specs.Str.{str_eq_ignore_ascii_case}
+use denote.Enum.Bare.{sameb}
+use Rattle.avs_lex.specs.Spelling.{Text, begins_name, continues_name, quotes_of}
+use Rattle.avs_lex.specs.Tokens.{bytes_of}
 use Rattle.avs_lex.specs.declared.token.Token.{Token}
 use Rattle.avs_lex.specs.declared.token.TokenKind.{TokenKind}
 use Rattle.avs_lex.specs.declared.token.TokenKind.TheVariants as k
-use Rattle.avs_tree.specs.Words.{keyword_of}
+use Rattle.avs_tree.specs.contracts.symbol.Punctuation.{the_type}
+use Rattle.avs_tree.specs.contracts.words.Keyword as keyword
+use Rattle.avs_tree.specs.contracts.words.TypeWord as type_word
+use Rattle.avs_tree.specs.declared.symbol.Punctuation.{Punctuation}
+use Rattle.avs_tree.specs.declared.symbol.Punctuation.TheVariants as m
 use Rattle.avs_tree.specs.declared.symbol.Symbol.{Symbol}
 use Rattle.avs_tree.specs.declared.symbol.Symbol.TheVariants as s
-use Rattle.avs_tree.specs.declared.words.Keyword.{Keyword}
-use Rattle.avs_tree.specs.declared.symbol.Punctuation.TheVariants as m
 use Rattle.avs_tree.specs.declared.tree.Operator.{Operator}
 use Rattle.avs_tree.specs.declared.tree.Operator.TheVariants as o
+use Rattle.avs_tree.specs.declared.words.Keyword.{Keyword}
+use Rattle.avs_tree.specs.declared.words.Keyword.TheVariants as w
+use Rattle.avs_tree.specs.declared.words.TypeWord.{TypeWord}
+use Rattle.avs_tree.specs.declared.words.TypeWord.TheVariants as y
+
+-- ==== The words of the language: the reserved words and the words for the types of parameters, without regard to case
+-- (AviSynth+ wiki, 'Grammar': "The full AviSynth grammar").
+
+abbrev pub keywords : List (Text × Keyword)
+keywords =
+    (codes "function", w.Function)
+    ∷ (codes "global", w.Global)
+    ∷ (codes "return", w.Return)
+    ∷ (codes "if", w.If)
+    ∷ (codes "else", w.Else)
+    ∷ (codes "while", w.While)
+    ∷ (codes "for", w.For)
+    ∷ (codes "true", w.True)
+    ∷ (codes "yes", w.True)
+    ∷ (codes "false", w.False)
+    ∷ (codes "no", w.False)
+    ∷ (codes "__END__", w.End)
+    ∷ []
+
+abbrev pub type_words : List (Text × TypeWord)
+type_words = (codes "clip", y.Clip) ∷ (codes "int", y.Int) ∷ (codes "string", y.String) ∷ (codes "bool", y.Bool) ∷ (codes "val", y.Val) ∷ []
+
+-- what the first row of this word means
+abbrev pub meaning_in : {A : Type 0} → List (Text × A) → Text → Option A
+meaning_in [] word = None
+meaning_in (row ∷ rows) word = if str_eq_ignore_ascii_case word row.0 then Some row.1 else meaning_in rows word
+
+-- the word of the first row of this meaning
+abbrev pub word_in : {A : Type 0} → List (Text × A) → (A → Bool) → Text
+word_in [] is = []
+word_in (row ∷ rows) is = if is row.1 then row.0 else word_in rows is
+
+unfoldable pub keyword_of : Text → Option Keyword
+keyword_of = meaning_in keywords
+
+unfoldable pub type_word_of : Text → Option TypeWord
+type_word_of = meaning_in type_words
+
+-- how a keyword and a type are written
+abbrev pub word_of_keyword : Keyword → Text
+word_of_keyword k = word_in keywords (λ other. sameb keyword.the_type other k)
+
+abbrev pub word_of_type : TypeWord → Text
+word_of_type y = word_in type_words (λ other. sameb type_word.the_type other y)
+
+-- ==== What the grammar sees of a token: its symbol, what it says, and its line.
 
 abbrev pub Lexeme : Type 0
 Lexeme = Symbol × Text × ℕ
@@ -107,3 +161,32 @@ spells_name x = begins_name (slice_index x 0) && list_all continues_name x
 -- a name, and no reserved word
 unfoldable pub is_name : Text → Bool
 is_name x = spells_name x && is_none (keyword_of x)
+
+-- ==== The next token, as the machine asks for it: the symbols are those of the grammar of avs_tree.
+
+abbrev pub peek : Lexemes → Option Symbol
+peek [] = None
+peek (t ∷ ts) = Some t.0
+
+abbrev pub content_at : Lexemes → Text
+content_at [] = []
+content_at (t ∷ ts) = t.1
+
+abbrev pub tail : Lexemes → Lexemes
+tail [] = []
+tail (t ∷ ts) = ts
+
+abbrev pub punctuation_by : Punctuation → Option Symbol → Bool
+punctuation_by punctuation (Some (s.Punctuation next)) = sameb the_type next punctuation
+punctuation_by punctuation _ = false
+
+unfoldable pub is_punctuation : Punctuation → Lexemes → Bool
+is_punctuation punctuation ts = punctuation_by punctuation (peek ts)
+
+abbrev pub operator_by : ℕ → Option Symbol → Option Operator
+operator_by r (Some (s.Operator op)) = if nat_eq (precedence_of op) r then Some op else None
+operator_by r _ = None
+
+-- the operator that comes next, if it has the precedence
+unfoldable pub operator_at : ℕ → Lexemes → Option Operator
+operator_at r ts = operator_by r (peek ts)

@@ -1,14 +1,8 @@
-pub mod Words
-pub mod Lexeme
-pub mod Tree
 pub mod View
 pub mod Grammar
-pub mod Script
-pub mod Loaded
-pub mod Next
-pub mod ExprMachine
+pub mod Tree
+pub mod Lexeme
 pub mod Machine
-pub mod Nesting
 pub mod Place
 pub mod Laws
 pub mod Examples

@@ -5,9 +5,8 @@ use Rattle.avs_tree.specs.declared.symbol.Symbol.TheVariants as s
 use Rattle.avs_tree.specs.declared.words.Keyword.TheVariants as w
 use Rattle.avs_tree.specs.Lexeme.{Lexeme, Lexemes}
 use Rattle.avs_tree.specs.Tree.{Script}
-use Rattle.avs_tree.specs.Script.{IsScript, script_nesting, nesting_limit}
-use Rattle.avs_tree.specs.Nesting.{level_of}
-use Rattle.avs_tree.specs.Machine.{State, start, Step, stuck, goes, whole, advance}
+use Rattle.avs_tree.specs.Grammar.{IsScript, script_nesting, nesting_limit}
+use Rattle.avs_tree.specs.Machine.{level_of, State, start, Step, stuck, goes, whole, advance}
 
 -- ---- the machine over tokens
 

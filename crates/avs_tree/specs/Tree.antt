@@ -1,8 +1,11 @@
--- The trees of scripts. Each list is a type of its own.
+-- The trees of scripts, and what a text is as a script.
 use Rattle.std.specs.Prelude.{ℕ, ℤ, Bool, true, false, List, Option}
-use Rattle.avs_lex.specs.Characters.{Text}
+use Rattle.avs_lex.specs.Spelling.{Text}
+use Rattle.avs_lex.specs.declared.fault.LexKind.{LexKind}
 use Rattle.avs_tree.specs.declared.tree.Operator.{Operator}
 use Rattle.avs_tree.specs.declared.tree.Parameter.{Parameter}
+
+-- ==== The trees of scripts. Each list is a type of its own.
 
 -- A number is the line of a name, an operator or a `?`.
 mutual
@@ -74,3 +77,17 @@ pub record Function : Type 0 where
 pub record Script : Type 0 where
   pub functions : List Function
   pub statements : Block
+
+-- ==== What a text is as a script: its tree, or why there is none.
+
+-- a tree, and the line of the end of its script
+pub record Loaded : Type 0 where
+  pub tree : Script
+  pub last_line : ℕ
+
+-- Why a text has no tree: its first lexical fault, or the token at which no script goes on or the nesting becomes too deep.
+-- Each with the line.
+pub data NoTree : Type 0 where
+  lexical : LexKind → ℕ → NoTree
+  syntax : ℕ → NoTree
+  nests : ℕ → NoTree

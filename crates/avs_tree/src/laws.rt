@@ -1,5 +1,5 @@
 // Laws on the place of a fault, each the contract of a function with an empty body.
-ghost use Rattle.avs_tree.specs.Script.{OneTree};
+ghost use Rattle.avs_tree.specs.Grammar.{OneTree};
 ghost use Rattle.avs_tree.specs.Laws.{Exact, Accepted, OneStop, OneDeep, NeverBoth, EndIsTold, OneToken};
 ghost use Rattle.avs_tree.specs.Examples.{Examples};
 

@@ -1,9 +1,8 @@
 // What the grammar sees of a token.
 ghost use Rattle.std.specs.Prelude.{◌≡◌};
 ghost use Rattle.std.specs.List.{list_all};
-ghost use Rattle.avs_lex.specs.Characters.{continues_name};
-ghost use Rattle.avs_lex.specs.Spelling.{IsQuoted, quotes_of};
-ghost use Rattle.avs_lex.specs.TokenList.{IsTokenOf};
+ghost use Rattle.avs_lex.specs.Spelling.{continues_name, IsQuoted, quotes_of};
+ghost use Rattle.avs_lex.specs.Tokens.{IsTokenOf};
 ghost use Rattle.avs_tree.specs.Lexeme.{unquoted, content_of, symbol_of, spells_name, is_name};
 
 use crate::tree::Operator;

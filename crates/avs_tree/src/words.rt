@@ -1,7 +1,7 @@
 // The words of the language: the reserved words, and the words for the types of parameters.
 ghost use Rattle.std.specs.Prelude.{◌≡◌, map};
 ghost use Rattle.std.specs.Str.{str_eq_ignore_ascii_case};
-ghost use Rattle.avs_tree.specs.Words.{meaning_in, keyword_of, type_word_of, word_of_keyword, word_of_type};
+ghost use Rattle.avs_tree.specs.Lexeme.{meaning_in, keyword_of, type_word_of, word_of_keyword, word_of_type};
 
 /// A reserved word.
 #[derive(Clone, Copy, Debug, PartialEq, Eq)]
@@ -73,7 +73,7 @@ pub fn meaning<A: Copy>(mut table: &[(&str, A)], word: &str) -> Option<A>
 }
 
 /// The reserved word that this is.
-#[tactic(auto, unfolding(crate::specs::Words::keyword_of))]
+#[tactic(auto, unfolding(crate::specs::Lexeme::keyword_of))]
 pub fn reserved_word(word: &str) -> Option<Keyword>
     ensures { result ≡ keyword_of word.now }
 {
@@ -81,7 +81,7 @@ pub fn reserved_word(word: &str) -> Option<Keyword>
 }
 
 /// The type that a word names.
-#[tactic(auto, unfolding(crate::specs::Words::type_word_of))]
+#[tactic(auto, unfolding(crate::specs::Lexeme::type_word_of))]
 pub fn type_word(word: &str) -> Option<TypeWord>
     ensures { result ≡ type_word_of word.now }
 {

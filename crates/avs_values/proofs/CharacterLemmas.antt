@@ -5,7 +5,7 @@ use Rattle.std.specs.Str.{chars, encode_utf8_all, IsCharBoundary}
 use Rattle.std.proofs.Math.ListN.{drop_of_length-le}
 use Rattle.std.proofs.lemmas.List.{reverse-append, reverse-reverse, take_at, append-nil}
 use Rattle.std.proofs.lemmas.Str.{chars_from_encodes, cons_from_encodes, encodes-append, encodes-chars, length-le-encodes, IsCharBoundary-at_seam}
-use Rattle.avs_values.specs.Texts.{first, after}
+use Rattle.avs_values.specs.Functions.{first, after}
 use Rattle.avs_values.specs.Values.{Text}
 
 -- ---- a text in two parts

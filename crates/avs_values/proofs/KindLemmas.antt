@@ -6,13 +6,10 @@ use Rattle.std.specs.List.{list_all}
 use Rattle.std.specs.Str.{chars}
 use Rattle.std.specs.Str.Parse.{digits_value, signed_digits_value}
 use Rattle.avs_values.specs.Binding.{Bound, Suits, all_suit, rest_suits}
-use Rattle.avs_values.specs.Functions.{plain, signature, required, optional, chosen, select, defined, default, assertion, is_of_kind}
+use Rattle.avs_values.specs.Functions.{plain, signature, required, optional, chosen, select, defined, default, assertion, is_of_kind, absolute, sign, folded, least, greatest, bit_and, bit_or, bit_xor, bit_not, is_decimal, value, is_hexadecimal, hex_value, hex, str_len, u_case, l_case, rev_str, first, after, at_most, left_str, right_str, cut, mid_str, position_from, find_str, chr, number_of, ord}
 use Rattle.avs_values.specs.Laws.{BoundArgumentsHaveTheirKinds}
-use Rattle.avs_values.specs.Numbers.{absolute, sign, folded, least, greatest, bit_and, bit_or, bit_xor, bit_not, is_decimal, value, is_hexadecimal, hex_value, hex}
-use Rattle.avs_values.specs.Outcome.{Outcome, number, is_number}
-use Rattle.avs_values.specs.Texts.{str_len, u_case, l_case, rev_str, first, after, at_most, left_str, right_str, cut, mid_str, position_from, find_str, chr, number_of, ord}
-use Rattle.avs_values.specs.Values.{Text, has_kind}
-use Rattle.avs_values.specs.Refusals as f
+use Rattle.avs_values.specs.Values.{Outcome, number, is_number, Text, has_kind}
+use Rattle.avs_values.specs.Values as f
 use Rattle.avs_values.specs.declared.plain_fn.PlainFn.{PlainFn}
 use Rattle.avs_values.specs.declared.plain_fn.PlainFn.TheVariants as p
 use Rattle.avs_values.specs.declared.value.Kind.{Kind}

@@ -8,10 +8,9 @@ use Rattle.std.specs.Str.Parse.{AllDigits, IsNumeral, digits_value, signed_digit
 use Rattle.std.proofs.Math.Nat.{pow-le-pow_right}
 use Rattle.std.proofs.lemmas.Bool.Decides.{nat_tests}
 use Rattle.std.proofs.lemmas.Int.Digits.{digits_value-lt}
-use Rattle.avs_values.specs.Numbers.{is_decimal, is_hexadecimal}
-use Rattle.avs_values.specs.Outcome.{number, is_number}
-use Rattle.avs_values.specs.Values.{Text}
-use Rattle.avs_values.specs.Refusals as f
+use Rattle.avs_values.specs.Functions.{is_decimal, is_hexadecimal}
+use Rattle.avs_values.specs.Values.{number, is_number, Text}
+use Rattle.avs_values.specs.Values as f
 
 left : (a b : Bool) → (a && b) ≡ true → a ≡ true
 left a b x = grind arith

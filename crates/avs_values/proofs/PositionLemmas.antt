@@ -8,7 +8,7 @@ use Rattle.std.proofs.lemmas.List.{take-append-le, drop_at}
 use Rattle.std.proofs.lemmas.Slice.Eq.{starts_is}
 use Rattle.std.proofs.lemmas.Str.{chars-append, encodes-append, encodes-chars, length-le-encodes, IsUtf8-take}
 use Rattle.avs_values.proofs.CharacterLemmas.{parts}
-use Rattle.avs_values.specs.Texts.{first, after, position_from}
+use Rattle.avs_values.specs.Functions.{first, after, position_from}
 use Rattle.avs_values.specs.Values.{Text}
 
 begins : (cs ws : List ℕ) → (starts_with nat_eq cs ws ≡ true → cs ≡ ws ++ drop (length ws) cs) × ((rest : List ℕ) → cs ≡ ws ++ rest → starts_with nat_eq cs ws ≡ true)

@@ -2,7 +2,7 @@
 use Rattle.std.specs.Prelude.{◌≢◌, Err}
 use Rattle.avs_values.specs.Binding.{Bound, Suits}
 use Rattle.avs_values.specs.Functions.{plain, signature}
-use Rattle.avs_values.specs.Refusals.{TypeFault}
+use Rattle.avs_values.specs.Values.{TypeFault}
 use Rattle.avs_values.specs.declared.plain_fn.PlainFn.{PlainFn}
 use Rattle.avs_values.specs.declared.plain_fn.PlainFn.TheVariants.{String}
 

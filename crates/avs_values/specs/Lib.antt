@@ -1,10 +1,6 @@
-pub mod Values
 pub mod Binding
 pub mod Views
-pub mod Refusals
-pub mod Outcome
+pub mod Values
 pub mod Operators
-pub mod Numbers
-pub mod Texts
 pub mod Functions
 pub mod Laws

@@ -2,9 +2,8 @@
 use Rattle.std.specs.Prelude.{ℤ, pos, negsuc, ◌+ℤ◌, ◌-ℤ◌, ◌*ℤ◌, int_le, int_lt, ◌++◌, Bool, true, false, not, ◌==◌, Ok, Err, if◌then◌else◌}
 use Rattle.std.specs.Ordering.{int_eq}
 use Rattle.std.specs.Int.RustNames.{int_div, int_rem}
-use Rattle.avs_values.specs.Outcome.{Outcome, number, text}
-use Rattle.avs_values.specs.Values.{Text, same}
-use Rattle.avs_values.specs.Refusals as f
+use Rattle.avs_values.specs.Values.{Outcome, number, text, Text, same}
+use Rattle.avs_values.specs.Values as f
 use Rattle.avs_values.specs.declared.operators.BinaryOp.{BinaryOp}
 use Rattle.avs_values.specs.declared.operators.BinaryOp.TheVariants as o
 use Rattle.avs_values.specs.declared.operators.UnaryOp.{UnaryOp}

@@ -1,6 +1,6 @@
 // Functions on values of any kind: `Select`, `Defined`, `Default`, `Assert` and the tests of kinds.
 ghost use Rattle.avs_values.specs.Functions as s;
-ghost use Rattle.avs_values.specs.Outcome.{Gives, AlwaysGives};
+ghost use Rattle.avs_values.specs.Values.{Gives, AlwaysGives};
 
 use crate::{Kind, Value, ValueFault};
 use fv_io::Text;

@@ -1,7 +1,7 @@
 // Calls of the functions that need no state.
 ghost use Rattle.std.specs.Prelude.{◌≡◌};
 ghost use Rattle.avs_values.specs.Functions.{plain};
-ghost use Rattle.avs_values.specs.Outcome.{Gives};
+ghost use Rattle.avs_values.specs.Values.{Gives};
 ghost use Rattle.avs_values.specs.Views.{bound_view};
 
 use crate::{Bound, Kind, PlainFn, Value, ValueFault, any, numbers, texts};

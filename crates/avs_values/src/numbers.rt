@@ -3,8 +3,8 @@ ghost use Rattle.std.specs.Prelude.{◌≡◌};
 ghost use Rattle.std.specs.Char.{is_ascii_digit, is_ascii_hexdigit};
 ghost use Rattle.std.specs.Int.{int_min, int_max};
 ghost use Rattle.std.specs.List.{list_all};
-ghost use Rattle.avs_values.specs.Numbers as s;
-ghost use Rattle.avs_values.specs.Outcome.{Gives, AlwaysGives};
+ghost use Rattle.avs_values.specs.Functions as s;
+ghost use Rattle.avs_values.specs.Values.{Gives, AlwaysGives};
 
 use crate::texts::copied;
 use crate::{Value, ValueFault};

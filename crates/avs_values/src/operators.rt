@@ -1,6 +1,6 @@
 // Operators on values that are no clips.
 ghost use Rattle.avs_values.specs.Operators as s;
-ghost use Rattle.avs_values.specs.Outcome.{Gives, AlwaysGives};
+ghost use Rattle.avs_values.specs.Values.{Gives, AlwaysGives};
 ghost use Rattle.avs_values.specs.declared.operators.BinaryOp.TheVariants as o;
 
 use crate::{Value, ValueFault};

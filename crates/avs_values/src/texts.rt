@@ -1,9 +1,9 @@
 // Functions on texts: lengths, cases, parts, searches and the reversed text.
 ghost use Rattle.std.specs.Prelude.{◌≡◌, ◌+◌, ◌≤◌, ◌++◌, length, pos, reverse, Ok, IfOk, string_bytes};
 ghost use Rattle.std.specs.Str.{chars, encode_utf8_all};
-ghost use Rattle.avs_values.specs.Outcome as o;
-ghost use Rattle.avs_values.specs.Outcome.{Gives, AlwaysGives};
-ghost use Rattle.avs_values.specs.Texts as s;
+ghost use Rattle.avs_values.specs.Values as o;
+ghost use Rattle.avs_values.specs.Values.{Gives, AlwaysGives};
+ghost use Rattle.avs_values.specs.Functions as s;
 ghost use Rattle.avs_values.specs.declared.value.Value.TheVariants as v;
 
 use crate::{Value, ValueFault};

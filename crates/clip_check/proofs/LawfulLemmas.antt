@@ -5,8 +5,7 @@ use Rattle.fv_plane.specs.Format.{has_depth}
 use Rattle.fv_plane.specs.Info.{IsLawful, IsPar}
 use Rattle.clip_term.specs.declared.fault.FilterFault.{FilterFault}
 use Rattle.clip_term.specs.Blank.{check_plain}
-use Rattle.clip_term.specs.ClipTerm.{Act, ClipTerm, plain}
-use Rattle.clip_term.specs.Terms.{check, info_of, IsSound, IsSoundTerm, AreLawful}
+use Rattle.clip_term.specs.Terms.{Act, ClipTerm, plain, check, info_of, IsSound, IsSoundTerm, AreLawful}
 use Rattle.clip_term.proofs.LawfulLemmas.{checks_lawful}
 use Rattle.clip_term.proofs.SoundLemmas.{sound_lawful}
 

@@ -1,7 +1,7 @@
 -- A rate with a part of 0.
 use Rattle.std.proofs.Common.{◌≡◌, ℕ, ◌/◌, ap, arith, refl, ◌⊎◌}
 use Rattle.std.specs.Prelude.{min}
-use Rattle.fv_plane.specs.Rate.{Rate, common_divisor, gcd, lowest}
+use Rattle.fv_plane.specs.Info.{Rate, common_divisor, gcd, lowest}
 
 abbrev pub rate : ℕ → ℕ → Rate
 rate num den = record { num = num; den = den }

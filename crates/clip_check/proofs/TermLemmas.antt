@@ -6,8 +6,7 @@ use Rattle.clip_term.specs.declared.fault.FilterFault.{FilterFault}
 use Rattle.clip_term.specs.declared.term.Term.{Term, out-Term}
 use Rattle.clip_term.specs.declared.term.Term.TheFolds.{fold_out-Term}
 use Rattle.clip_term.specs.Refusals.{no_info}
-use Rattle.clip_term.specs.ClipTerm.{ClipTerm, applied, act_of, term_of, term_step, clips}
-use Rattle.clip_term.specs.Terms.{check, info_of, infos_of, with_first, then_check, ok_or}
+use Rattle.clip_term.specs.Terms.{ClipTerm, applied, act_of, term_of, term_step, clips, check, info_of, infos_of, with_first, then_check, ok_or}
 
 -- the infos, or the first refusal
 abbrev pub gathered : List Term → Result (List Info) FilterFault

@@ -1,6 +1,6 @@
 -- Sides and rates as shapes and rates, also where they are too large for them.
 use Rattle.fv_plane.specs.declared.format.Shape.{Shape}
-use Rattle.fv_plane.specs.Rate.{Rate}
+use Rattle.fv_plane.specs.Info.{Rate}
 use Rattle.clip_check.specs.declared.limits.Sides.{Sides}
 use Rattle.clip_check.specs.declared.limits.FrameRate.{FrameRate}
 

@@ -3,9 +3,8 @@ ghost use Rattle.std.specs.Prelude.{◌≡◌, List, length, IfOk};
 ghost use Rattle.fv_plane.specs.declared.format.Info.{Info};
 ghost use Rattle.fv_plane.specs.Info.{IsLawful};
 ghost use Rattle.fv_plane.specs.Refusals.{first_fault};
-ghost use Rattle.clip_term.specs.Field as f;
-ghost use Rattle.clip_term.specs.ClipTerm.{fields};
-ghost use Rattle.clip_term.specs.Terms.{IsSound, AreLawful};
+ghost use Rattle.clip_term.specs.Time as f;
+ghost use Rattle.clip_term.specs.Terms.{fields, IsSound, AreLawful};
 ghost use Rattle.clip_check.specs.Numbers.{rate_in, shape_in};
 ghost use Rattle.clip_check.specs.Summaries.{TellsAll};
 

@@ -6,8 +6,7 @@ ghost use Rattle.fv_plane.specs.Refusals.{first_fault};
 ghost use Rattle.std.specs.Option.{unwrap_or};
 ghost use Rattle.fv_plane.specs.declared.format.PixelType.TheVariants.{Y8};
 ghost use Rattle.clip_term.specs.Join.{has_sizes, kind_of, chroma_refusals, join_refusals, join_length, join_shape, check_join};
-ghost use Rattle.clip_term.specs.ClipTerm.{joined};
-ghost use Rattle.clip_term.specs.Terms.{IsSound, AreLawful};
+ghost use Rattle.clip_term.specs.Terms.{joined, IsSound, AreLawful};
 ghost use Rattle.clip_check.specs.Numbers.{shape_in};
 ghost use Rattle.clip_check.specs.Summaries.{Tells, TellsAll};
 

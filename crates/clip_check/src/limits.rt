@@ -1,6 +1,6 @@
 // The limits that every clip keeps.
 ghost use Rattle.std.specs.Prelude.{◌≡◌};
-ghost use Rattle.fv_plane.specs.Rate.{lowest};
+ghost use Rattle.fv_plane.specs.Info.{lowest};
 ghost use Rattle.clip_term.specs.Refusals.{limits, rate_of};
 ghost use Rattle.clip_check.specs.Numbers.{rate_in, shape_in};
 

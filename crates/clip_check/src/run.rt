@@ -3,8 +3,7 @@ ghost use Rattle.std.specs.Prelude.{◌≡◌, List, length, IfOk};
 ghost use Rattle.fv_plane.specs.declared.format.Info.{Info};
 ghost use Rattle.fv_plane.specs.Info.{IsLawful};
 ghost use Rattle.clip_term.specs.Choice as c;
-ghost use Rattle.clip_term.specs.ClipTerm.{choice};
-ghost use Rattle.clip_term.specs.Terms.{IsSound, AreLawful};
+ghost use Rattle.clip_term.specs.Terms.{choice, IsSound, AreLawful};
 ghost use Rattle.clip_check.specs.Summaries.{TellsAll};
 
 use crate::limits::{limits, rate_of, sides_of};

@@ -4,8 +4,7 @@ ghost use Rattle.fv_plane.specs.declared.format.Info.{Info};
 ghost use Rattle.fv_plane.specs.Info.{IsLawful};
 ghost use Rattle.fv_plane.specs.Refusals.{first_fault};
 ghost use Rattle.clip_term.specs.Soft.{soft_refusals, check_soft};
-ghost use Rattle.clip_term.specs.ClipTerm.{soft};
-ghost use Rattle.clip_term.specs.Terms.{IsSound, AreLawful};
+ghost use Rattle.clip_term.specs.Terms.{soft, IsSound, AreLawful};
 ghost use Rattle.clip_check.specs.Summaries.{TellsAll};
 
 use crate::limits::{limits, rate_of, sides_of};

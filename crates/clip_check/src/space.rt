@@ -9,8 +9,7 @@ ghost use Rattle.clip_term.specs.declared.fault.FilterFault.TheVariants.{BadRang
 ghost use Rattle.clip_term.specs.declared.op.SpaceOp.TheVariants as op;
 ghost use Rattle.clip_term.specs.Refusals.{beyond, is_whole, are_whole, same_kind, sized};
 ghost use Rattle.clip_term.specs.Space.{size_from, cut_refusals, bad_bounds, is_no_part, is_outside, cover_more, bad_borders, names_depth, luma_of, space_refusals, space_shape, check_space};
-ghost use Rattle.clip_term.specs.ClipTerm.{space};
-ghost use Rattle.clip_term.specs.Terms.{IsSound, AreLawful};
+ghost use Rattle.clip_term.specs.Terms.{space, IsSound, AreLawful};
 ghost use Rattle.clip_check.specs.Numbers.{shape_in};
 ghost use Rattle.clip_check.specs.Summaries.{TellsAll};
 

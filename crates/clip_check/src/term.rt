@@ -2,8 +2,7 @@
 ghost use Rattle.std.specs.Prelude.{◌≡◌, List, length, IfOk};
 ghost use Rattle.fv_plane.specs.declared.format.Info.{Info};
 ghost use Rattle.fv_plane.specs.Info.{IsLawful};
-ghost use Rattle.clip_term.specs.ClipTerm.{act_of, term_of};
-ghost use Rattle.clip_term.specs.Terms.{check, info_of, IsSound, IsSoundTerm, AreLawful};
+ghost use Rattle.clip_term.specs.Terms.{act_of, term_of, check, info_of, IsSound, IsSoundTerm, AreLawful};
 ghost use Rattle.clip_check.specs.Summaries.{TellsAll};
 
 use crate::blank::check_blank_info;

@@ -4,8 +4,7 @@ ghost use Rattle.fv_plane.specs.declared.format.Info.{Info};
 ghost use Rattle.fv_plane.specs.Info.{IsLawful};
 ghost use Rattle.fv_plane.specs.Refusals.{first_fault};
 ghost use Rattle.clip_term.specs.Time.{time_refusals, time_length, time_rate, check_time};
-ghost use Rattle.clip_term.specs.ClipTerm.{time};
-ghost use Rattle.clip_term.specs.Terms.{IsSound, AreLawful};
+ghost use Rattle.clip_term.specs.Terms.{time, IsSound, AreLawful};
 ghost use Rattle.clip_check.specs.Numbers.{rate_in};
 ghost use Rattle.clip_check.specs.Summaries.{Tells, TellsAll};
 

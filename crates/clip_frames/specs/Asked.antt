@@ -5,8 +5,7 @@ use Rattle.fv_plane.specs.declared.format.Info.{Info}
 use Rattle.fv_plane.specs.declared.key.Key.{Key}
 use Rattle.clip_term.specs.declared.op.Origin.{Origin}
 use Rattle.clip_term.specs.Time.{from_input, in_range}
-use Rattle.clip_term.specs.ClipTerm.{Act}
-use Rattle.clip_term.specs.Terms.{AreLawful, IsSound, check}
+use Rattle.clip_term.specs.Terms.{Act, AreLawful, IsSound, check}
 use Rattle.clip_graph.specs.Plan.{Application, infos_among}
 
 -- a frame of one of these places

@@ -1,12 +1,10 @@
 // The frames that a frame of a node is made of, one by one.
 ghost use Rattle.std.specs.Prelude.{◌≡◌, ◌<◌, ◌≤◌, ◌+◌, ◌-◌, ◌*◌, [], ◌∷◌, length, map};
 ghost use Rattle.std.specs.List.{All, range_with_len, slice_get};
-ghost use Rattle.clip_term.specs.ClipTerm.{act_of, time};
+ghost use Rattle.clip_term.specs.Terms.{act_of, time, asked};
 ghost use Rattle.clip_term.specs.Refusals.{info_at};
-ghost use Rattle.clip_term.specs.Time.{from_input, source_number, spliced};
+ghost use Rattle.clip_term.specs.Time.{from_input, source_number, spliced, field_asked};
 ghost use Rattle.clip_term.specs.Soft.{soft_asked};
-ghost use Rattle.clip_term.specs.Field.{field_asked};
-ghost use Rattle.clip_term.specs.Terms.{asked};
 ghost use Rattle.clip_graph.specs.Plan.{infos_among};
 ghost use Rattle.clip_graph.specs.Unfolding.{IsKeyBelow, input_keys};
 ghost use Rattle.clip_frames.specs.Asked.{IsShown, key_among, key_in_range};

@@ -5,7 +5,7 @@ use Rattle.std.proofs.lemmas.List.{length_push, get_or_append_left, get_or_push,
 use Rattle.std.proofs.lemmas.List.Sums.{sum_by-append}
 use Rattle.std.proofs.lemmas.Bool.{cases_eq}
 use Rattle.fv_plane.specs.declared.format.Info.{Info}
-use Rattle.clip_term.specs.ClipTerm.{ClipTerm, applied, no_terms, and_term}
+use Rattle.clip_term.specs.Terms.{ClipTerm, applied, no_terms, and_term}
 use Rattle.clip_graph.specs.declared.node.Node.{Node}
 use Rattle.clip_graph.specs.declared.graph.TheConstants.Graph.{MAX_NODES}
 use Rattle.clip_graph.specs.Nodes.{application_of, plan_of}

@@ -7,9 +7,8 @@ use Rattle.std.proofs.lemmas.List.Elements.{All-nil, All-cons, All-head, All-tai
 use Rattle.fv_plane.specs.Info.{IsLawful}
 use Rattle.fv_plane.specs.Picture.{Picture}
 use Rattle.clip_term.specs.declared.op.Origin.{Origin}
-use Rattle.clip_term.specs.ClipTerm.{Act, ClipTerm, applied, and_term}
+use Rattle.clip_term.specs.Terms.{Act, ClipTerm, applied, and_term, asked, term_picture, info_of, infos_of, inputs_of, term_pictures, asked_picture, no_picture, IsSound, IsSoundTerm, AreSoundTerms, AreLawful, IsAsked}
 use Rattle.clip_term.specs.Refusals.{info_at}
-use Rattle.clip_term.specs.Terms.{asked, term_picture, info_of, infos_of, inputs_of, term_pictures, asked_picture, no_picture, IsSound, IsSoundTerm, AreSoundTerms, AreLawful, IsAsked}
 use Rattle.clip_term.proofs.PictureLemmas.{makes_pictures}
 use Rattle.clip_term.proofs.SoundLemmas.{sound_lawful}
 use Rattle.clip_term.proofs.AskedLemmas.{asks_in_range}

@@ -1,6 +1,6 @@
 -- The plan that the nodes of a graph are.
 use Rattle.std.specs.Prelude.{List, map}
-use Rattle.clip_term.specs.ClipTerm.{act_of}
+use Rattle.clip_term.specs.Terms.{act_of}
 use Rattle.clip_graph.specs.declared.node.Node.{Node}
 use Rattle.clip_graph.specs.Plan.{Application}
 

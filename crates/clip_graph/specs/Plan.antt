@@ -2,11 +2,9 @@
 use Rattle.std.specs.Prelude.{◌≡◌, ℕ, ◌+◌, ◌<◌, ◌≤◌, max, Bool, List, [], ◌∷◌, length, map, take, Ok, slice_index_or, is_some, IfSome}
 use Rattle.std.specs.List.{count_by}
 use Rattle.fv_plane.specs.declared.format.Info.{Info}
-use Rattle.clip_term.specs.ClipTerm.{Act, plain}
+use Rattle.clip_term.specs.Terms.{Act, plain, SourcePart, source_part, check, IsSound}
 use Rattle.clip_term.specs.Filters.{IsMode}
-use Rattle.clip_term.specs.Ops.{SourcePart, source_part}
 use Rattle.clip_term.specs.Refusals.{no_info}
-use Rattle.clip_term.specs.Terms.{check, IsSound}
 use Rattle.clip_graph.specs.declared.graph.TheConstants.Graph.{MAX_NODES, MAX_DEPTH}
 
 -- what is done, the places of its inputs, the clip that it gives, and how many filters stand one on another up to here

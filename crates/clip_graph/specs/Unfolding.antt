@@ -5,8 +5,7 @@ use Rattle.fv_plane.specs.declared.key.Key.{Key}
 use Rattle.fv_plane.specs.Info.{IsLawful}
 use Rattle.fv_plane.specs.Picture.{Picture}
 use Rattle.clip_term.specs.declared.op.Origin.{Origin}
-use Rattle.clip_term.specs.ClipTerm.{ClipTerm, applied, ClipTerms, no_terms, and_term}
-use Rattle.clip_term.specs.Terms.{asked, info_of, make, term_picture, IsSoundTerm}
+use Rattle.clip_term.specs.Terms.{ClipTerm, applied, ClipTerms, no_terms, and_term, asked, info_of, make, term_picture, IsSoundTerm}
 use Rattle.clip_graph.specs.Plan.{Application, application_at, infos_at, IsPlan}
 
 abbrev pub terms_by : (ℕ → ClipTerm) → List ℕ → ClipTerms

@@ -1,8 +1,7 @@
 // A list of nodes, each over earlier ones.
 ghost use Rattle.std.specs.Prelude.{◌≡◌, ◌+◌, ◌<◌, if◌then◌else◌, length, [], Ok};
 ghost use Rattle.std.specs.List.{All};
-ghost use Rattle.clip_term.specs.ClipTerm.{act_of};
-ghost use Rattle.clip_term.specs.Terms.{check, IsSound};
+ghost use Rattle.clip_term.specs.Terms.{act_of, check, IsSound};
 ghost use Rattle.clip_term.specs.Filters.{IsMode};
 ghost use Rattle.clip_graph.specs.Plan.{IsPlan, IsCounted, application_at, deepest, infos_among, is_source, sources_in};
 ghost use Rattle.clip_graph.specs.Added.{Added};

@@ -10,9 +10,8 @@ use Rattle.clip_term.specs.declared.fault.FilterFault.{FilterFault}
 use Rattle.clip_term.specs.declared.op.Origin.{Origin}
 use Rattle.clip_term.specs.declared.term.Term.{Term, out-Term}
 use Rattle.clip_term.specs.Choice.{RunAct, run_inputs}
-use Rattle.clip_term.specs.ClipTerm.{Act, act_of, choice, term_of, clips}
+use Rattle.clip_term.specs.Terms.{Act, act_of, choice, term_of, clips, asked, asked_picture, check, make, term_picture, term_pictures, IsSoundTerm}
 use Rattle.clip_term.specs.Refusals.{info_at}
-use Rattle.clip_term.specs.Terms.{asked, asked_picture, check, make, term_picture, term_pictures, IsSoundTerm}
 use Rattle.flt_choice.specs.Shown.{picture_shown}
 use Rattle.flt_choice.proofs.CallerLemmas.{HaveShapes, asked_shapes, run_ready, run_made}
 use Rattle.clip_reference.proofs.RangeLemmas.{ShowsInputs, shows_inputs}

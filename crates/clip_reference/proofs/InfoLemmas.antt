@@ -6,8 +6,7 @@ use Rattle.std.proofs.lemmas.Bool.{false≢true}
 use Rattle.fv_plane.specs.declared.format.Info.{Info}
 use Rattle.clip_term.specs.declared.fault.FilterFault.{FilterFault}
 use Rattle.clip_term.specs.declared.term.Term.{Term}
-use Rattle.clip_term.specs.ClipTerm.{term_of, clips}
-use Rattle.clip_term.specs.Terms.{info_of, infos_of, with_first}
+use Rattle.clip_term.specs.Terms.{term_of, clips, info_of, infos_of, with_first}
 
 -- the infos of some terms, or the first refusal
 abbrev pub told : List Term → Result (List Info) FilterFault

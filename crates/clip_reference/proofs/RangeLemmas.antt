@@ -6,17 +6,14 @@ use Rattle.std.proofs.lemmas.List.Elements.{All-nil, All-cons, All-head, All-tai
 use Rattle.fv_plane.specs.declared.format.Info.{Info}
 use Rattle.fv_plane.specs.declared.format.Shape.{Shape}
 use Rattle.fv_plane.specs.Format.{largest_sample}
-use Rattle.fv_plane.specs.Picture.{Picture, IsPicture}
-use Rattle.fv_plane.specs.Look.{Look, look_at, look_in, picture_from}
+use Rattle.fv_plane.specs.Picture.{Picture, IsPicture, Look, look_at, look_in, picture_from}
 use Rattle.clip_term.specs.declared.op.Origin.{Origin}
 use Rattle.clip_term.specs.Refusals.{info_at, no_info, rate_of, limits}
-use Rattle.clip_term.specs.Time.{source_number, from_input, in_range, time_refusals, time_length, time_rate}
+use Rattle.clip_term.specs.Time.{source_number, from_input, in_range, time_refusals, time_length, time_rate, field_refusals, field_length, field_rate, field_shape, field_order, field_at}
 use Rattle.clip_term.specs.Space.{space_refusals, space_shape, space_at}
 use Rattle.clip_term.specs.Join.{join_refusals, join_length, join_shape}
 use Rattle.clip_term.specs.Soft.{soft_refusals, soft_at}
-use Rattle.clip_term.specs.Field.{field_refusals, field_length, field_rate, field_shape, field_order, field_at}
-use Rattle.clip_term.specs.ClipTerm.{Act, source, plain, time, space, joined, soft, fields, choice, ClipTerms, no_terms, and_term}
-use Rattle.clip_term.specs.Terms.{IsSound, AreLawful, IsAsked, check, asked, info_of, infos_of, ok_or, term_pictures, asked_picture, no_picture}
+use Rattle.clip_term.specs.Terms.{Act, source, plain, time, space, joined, soft, fields, choice, ClipTerms, no_terms, and_term, IsSound, AreLawful, IsAsked, check, asked, info_of, infos_of, ok_or, term_pictures, asked_picture, no_picture}
 use Rattle.clip_term.proofs.AskedLemmas.{asks_in_range}
 use Rattle.clip_term.proofs.BoundLemmas as bounds
 use Rattle.clip_term.proofs.TimeFacts.{time_facts}

@@ -5,8 +5,7 @@ use Rattle.std.proofs.lemmas.List.FromFn.{length-map-range_with_len}
 use Rattle.std.proofs.lemmas.Bool.Decides.{nat_tests}
 use Rattle.fv_plane.specs.declared.format.Info.{Info}
 use Rattle.fv_plane.specs.declared.format.Colour.{Colour}
-use Rattle.fv_plane.specs.Picture.{Picture}
-use Rattle.fv_plane.specs.Look.{look_in, picture_from}
+use Rattle.fv_plane.specs.Picture.{Picture, look_in, picture_from}
 use Rattle.clip_term.specs.declared.fault.FilterFault.{FilterFault}
 use Rattle.fv_io.specs.declared.text.Text.{Text}
 use Rattle.clip_term.specs.declared.op.Op.{Op}
@@ -17,8 +16,7 @@ use Rattle.fv_plane.specs.Refusals.{first_fault}
 use Rattle.clip_term.specs.Refusals.{info_at, rate_of, nat_of, unless, limits}
 use Rattle.clip_term.specs.Time.{from_input, in_range}
 use Rattle.clip_term.specs.Space.{space_refusals, space_shape}
-use Rattle.clip_term.specs.ClipTerm.{Act, source, plain, time, space, joined, soft, fields, choice, act_of}
-use Rattle.clip_term.specs.Terms.{sample, make, check, asked, IsSound, AreLawful}
+use Rattle.clip_term.specs.Terms.{Act, source, plain, time, space, joined, soft, fields, choice, act_of, sample, make, check, asked, IsSound, AreLawful}
 use Rattle.clip_term.proofs.PassedLemmas.{both}
 use Rattle.clip_reference.specs.Ready.{IsReady, IsFilter, IsMade}
 

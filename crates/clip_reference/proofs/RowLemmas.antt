@@ -4,8 +4,7 @@ use Rattle.std.specs.List.{range_with_len}
 use Rattle.fv_plane.specs.declared.format.Shape.{Shape}
 use Rattle.std.proofs.Math.Pow.{pow_mono}
 use Rattle.fv_plane.specs.Format.{IsLegal, largest_sample}
-use Rattle.fv_plane.specs.Bytes.{bytes_of_row, row_of_bytes, FitsRow, FitBytes}
-use Rattle.fv_plane.specs.Look.{Look, row_from}
+use Rattle.fv_plane.specs.Picture.{bytes_of_row, row_of_bytes, FitsRow, FitBytes, Look, row_from}
 use Rattle.fv_plane.proofs.CallerLemmas.{fit_row, row_again}
 use Rattle.fv_plane.proofs.PictureLemmas.{five_depths}
 

@@ -6,8 +6,7 @@ use Rattle.std.proofs.lemmas.Bool.{true≢false}
 use Rattle.std.proofs.lemmas.Bool.Decides.{nat_tests}
 use Rattle.fv_plane.specs.declared.format.Info.{Info}
 use Rattle.fv_plane.specs.Format.{plane_width, plane_height}
-use Rattle.fv_plane.specs.Picture.{Picture}
-use Rattle.fv_plane.specs.Look.{look_in}
+use Rattle.fv_plane.specs.Picture.{Picture, look_in}
 use Rattle.clip_term.specs.Join.{beside, beneath}
 
 later : (t : Bool) (u v w : ℕ) → t ≡ false → (if t then u else v) ≡ w → v ≡ w

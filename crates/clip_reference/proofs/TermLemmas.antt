@@ -7,20 +7,16 @@ use Rattle.std.proofs.lemmas.List.{get_or_past}
 use Rattle.std.proofs.lemmas.List.Elements.{All-get_or}
 use Rattle.fv_plane.specs.declared.format.Info.{Info}
 use Rattle.fv_plane.specs.declared.format.Shape.{Shape}
-use Rattle.fv_plane.specs.Clip.{IsPictureOf}
+use Rattle.fv_plane.specs.Picture.{IsPictureOf, Picture, blank, look_in, picture_from}
 use Rattle.fv_plane.specs.declared.format.Colour.{Colour}
 use Rattle.fv_plane.specs.Format.{IsLegal}
-use Rattle.fv_plane.specs.Picture.{Picture, blank}
-use Rattle.fv_plane.specs.Look.{look_in, picture_from}
 use Rattle.clip_term.specs.declared.fault.FilterFault.{FilterFault}
 use Rattle.clip_term.specs.declared.op.Origin.{Origin}
 use Rattle.clip_term.specs.declared.term.Term.{Term, out-Term}
 use Rattle.clip_term.specs.declared.term.Term.TheFolds.{fold_out-Term}
 use Rattle.clip_term.specs.Refusals.{info_at, rate_of, limits}
 use Rattle.clip_term.specs.Blank.{colour_at, plain_refusals}
-use Rattle.clip_term.specs.ClipTerm.{Act, source, plain, act_of, ClipTerm, applied, term_of, term_step, clips}
-use Rattle.clip_term.specs.Terms.{check, then_check, asked, info_of, infos_of, inputs_of, term_sample, term_picture, term_pictures, asked_picture, no_picture, frame_in, make}
-use Rattle.clip_term.specs.Terms.{IsSound, IsSoundTerm, AreSoundTerms, AreLawful, IsAsked}
+use Rattle.clip_term.specs.Terms.{Act, source, plain, act_of, ClipTerm, applied, term_of, term_step, clips, check, then_check, asked, info_of, infos_of, inputs_of, term_sample, term_picture, term_pictures, asked_picture, no_picture, frame_in, make, IsSound, IsSoundTerm, AreSoundTerms, AreLawful, IsAsked}
 use Rattle.clip_term.proofs.PictureLemmas.{makes_pictures}
 use Rattle.clip_term.proofs.AskedLemmas.{asks_in_range}
 use Rattle.clip_term.proofs.PassedLemmas.{both_ok, passed, limits_shape}

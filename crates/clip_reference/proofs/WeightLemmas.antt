@@ -4,7 +4,7 @@ use Rattle.std.specs.Prelude.{ℤ, pos, ◌+ℤ◌, ◌*ℤ◌, ◌/◌, ◌%◌
 use Rattle.std.proofs.lemmas.List.{drop_more}
 use Rattle.fv_plane.specs.declared.format.Shape.{Shape}
 use Rattle.fv_plane.specs.Format.{plane_width, plane_height}
-use Rattle.fv_plane.specs.Look.{Look}
+use Rattle.fv_plane.specs.Picture.{Look}
 use Rattle.clip_term.specs.Soft.{place, total, weighed}
 
 pub total_more : (entries : List ℤ) (i : ℕ) (d : ℤ) → i < length entries → total (drop i entries) ≡ get_or entries i d +ℤ total (drop (i + 1) entries)

@@ -3,15 +3,13 @@ use Rattle.std.specs.Prelude.{◌≡◌, ℕ, ◌+◌, ◌*◌, ◌<◌, ◌≤�
 use Rattle.fv_plane.specs.declared.format.Info.{Info}
 use Rattle.fv_plane.specs.declared.format.Shape.{Shape}
 use Rattle.fv_plane.specs.Format.{IsLegal, largest_sample}
-use Rattle.fv_plane.specs.Look.{look_in}
-use Rattle.fv_plane.specs.Picture.{Picture}
+use Rattle.fv_plane.specs.Picture.{look_in, Picture}
 use Rattle.fv_plane.specs.Refusals.{first_fault}
 use Rattle.clip_term.specs.declared.op.SoftOp.{SoftOp}
 use Rattle.clip_term.specs.declared.op.SoftOp.TheVariants as op
 use Rattle.clip_term.specs.Refusals.{nat_of, info_at}
 use Rattle.clip_term.specs.Space.{space_refusals}
-use Rattle.clip_term.specs.ClipTerm.{Act, source, plain, time, space, joined, soft, fields, choice}
-use Rattle.clip_term.specs.Terms.{sample}
+use Rattle.clip_term.specs.Terms.{Act, source, plain, time, space, joined, soft, fields, choice, sample}
 
 -- as many frames as the op asks, and a matrix of at most 25 entries
 abbrev pub HasNeighbours : SoftOp → ℕ → Type 0

@@ -1,8 +1,7 @@
 -- A book that has the frames of a clip's sources.
 use Rattle.std.specs.Prelude.{List, [], slice_index_or}
-use Rattle.fv_plane.specs.Picture.{Picture}
-use Rattle.fv_plane.specs.Clip.{IsClip}
-use Rattle.clip_term.specs.ClipTerm.{Act, source, ClipTerm, applied, ClipTerms, no_terms, and_term}
+use Rattle.fv_plane.specs.Picture.{Picture, IsClip}
+use Rattle.clip_term.specs.Terms.{Act, source, ClipTerm, applied, ClipTerms, no_terms, and_term}
 
 -- where the op is a source, its frames are as many as its info says, and pictures of its shape
 abbrev pub HasSource : List (List Picture) → Act → Type 0

@@ -2,11 +2,9 @@
 ghost use Rattle.std.specs.Prelude.{◌≡◌, ◌<◌, ◌+◌, ◌-◌, ◌*◌, [], ◌∷◌, length, map, IfOk, IsOkAnd};
 ghost use Rattle.std.specs.List.{range_with_len};
 ghost use Rattle.fv_plane.specs.declared.format.Info.{Info};
-ghost use Rattle.clip_term.specs.ClipTerm.{act_of};
-ghost use Rattle.clip_term.specs.Time.{from_input, in_range};
+ghost use Rattle.clip_term.specs.Terms.{act_of, AreLawful, IsSound, asked, check};
+ghost use Rattle.clip_term.specs.Time.{from_input, in_range, field_asked};
 ghost use Rattle.clip_term.specs.Soft.{soft_asked};
-ghost use Rattle.clip_term.specs.Field.{field_asked};
-ghost use Rattle.clip_term.specs.Terms.{AreLawful, IsSound, asked, check};
 
 use clip_term::{FieldOp, Op, Origin, SoftOp};
 use flt_time::source_number;

@@ -1,8 +1,8 @@
 // The samples of what becomes of fields.
 ghost use Rattle.std.specs.Prelude.{◌≡◌, ◌<◌, ◌+◌, ◌*◌, map, if◌then◌else◌};
 ghost use Rattle.fv_plane.specs.declared.format.Info.{Info};
-ghost use Rattle.fv_plane.specs.Look.{look_in};
-ghost use Rattle.clip_term.specs.Field as f;
+ghost use Rattle.fv_plane.specs.Picture.{look_in};
+ghost use Rattle.clip_term.specs.Time as f;
 
 use crate::place::look_at;
 use clip_term::FieldOp;

@@ -1,6 +1,6 @@
 // The samples of what becomes of the frames of one number.
 ghost use Rattle.std.specs.Prelude.{◌≡◌, ◌+◌, ◌/◌, length, map, if◌then◌else◌, ◌==◌};
-ghost use Rattle.fv_plane.specs.Look.{look_in, look_at};
+ghost use Rattle.fv_plane.specs.Picture.{look_in, look_at};
 ghost use Rattle.clip_term.specs.Join.{join_at, beside, beneath};
 
 use crate::place::{height, look, look_at, width};

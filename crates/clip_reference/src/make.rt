@@ -1,11 +1,8 @@
 // The frame of a term by its definition, sample by sample.
 ghost use Rattle.std.specs.Prelude.{◌≡◌, ℕ, ◌*◌, ◌<◌, ◌≤◌, ◌^◌, List, [], length, map, IfOk};
 ghost use Rattle.fv_plane.specs.Format.{IsLegal, sample_bytes};
-ghost use Rattle.fv_plane.specs.Bytes.{bytes_of_row, AreBytes, FitsRow};
-ghost use Rattle.fv_plane.specs.Picture.{Picture};
-ghost use Rattle.fv_plane.specs.Look.{look_in, row_from};
-ghost use Rattle.clip_term.specs.ClipTerm.{act_of};
-ghost use Rattle.clip_term.specs.Terms.{sample, make};
+ghost use Rattle.fv_plane.specs.Picture.{bytes_of_row, AreBytes, FitsRow, Picture, look_in, row_from};
+ghost use Rattle.clip_term.specs.Terms.{act_of, sample, make};
 ghost use Rattle.clip_reference.specs.Ready.{IsReady, IsInRange};
 
 use crate::field::field_sample;

@@ -1,7 +1,7 @@
 // Samples by their places, and offsets on a plane.
 ghost use Rattle.std.specs.Prelude.{◌≡◌, map};
 ghost use Rattle.fv_plane.specs.Format.{plane_width, plane_height};
-ghost use Rattle.fv_plane.specs.Look.{look_in, look_at, across, down};
+ghost use Rattle.fv_plane.specs.Picture.{look_in, look_at, across, down};
 
 use fv_plane::{Frame, Shape};
 

@@ -1,8 +1,7 @@
 // The frame of a term, by recursion.
 ghost use Rattle.std.specs.Prelude.{◌≡◌, ◌<◌, map, Ok, IfOk, IsOk, IsOkAnd};
 ghost use Rattle.fv_plane.specs.declared.format.Info.{Info};
-ghost use Rattle.clip_term.specs.ClipTerm.{term_of, clips};
-ghost use Rattle.clip_term.specs.Terms.{IsSoundTerm, info_of, infos_of, term_picture};
+ghost use Rattle.clip_term.specs.Terms.{term_of, clips, IsSoundTerm, info_of, infos_of, term_picture};
 ghost use Rattle.clip_reference.specs.Sources.{HasSources};
 
 use crate::Book;

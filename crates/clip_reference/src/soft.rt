@@ -2,7 +2,7 @@
 ghost use Rattle.std.specs.Prelude.{◌≡◌, ◌≢◌, int_div, ◌+◌, ◌-◌, ◌*◌, ◌/◌, ◌≤◌, ◌<◌, ℤ, pos, ◌≤ℤ◌, ◌*ℤ◌, neg_ℤ, ◌^◌, length, map};
 ghost use Rattle.std.specs.List.{sum};
 ghost use Rattle.fv_plane.specs.Format.{IsLegal, scale, largest_sample};
-ghost use Rattle.fv_plane.specs.Look.{look_in, look_at};
+ghost use Rattle.fv_plane.specs.Picture.{look_in, look_at};
 ghost use Rattle.clip_term.specs.Refusals.{nat_of};
 ghost use Rattle.clip_term.specs.Soft.{soft_at, softened, near, samples_at, side_of, place, weighed, total, divisor_of, sample_from, convolved};
 ghost use Rattle.clip_reference.specs.Ready.{HasNeighbours};

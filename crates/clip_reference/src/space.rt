@@ -1,7 +1,7 @@
 // The samples of what a frame becomes.
 ghost use Rattle.std.specs.Prelude.{◌≡◌, ◌+◌, ◌-◌, ◌*◌, ◌≤◌, ◌&&◌, None, pos, if◌then◌else◌, ◌==◌};
 ghost use Rattle.fv_plane.specs.Format.{IsLegal, largest_sample, scale, plane_width, plane_height};
-ghost use Rattle.fv_plane.specs.Look.{look_in, across, down};
+ghost use Rattle.fv_plane.specs.Picture.{look_in, across, down};
 ghost use Rattle.fv_plane.specs.Refusals.{first_fault};
 ghost use Rattle.clip_term.specs.Refusals.{nat_of, paint};
 ghost use Rattle.clip_term.specs.Space.{space_at, space_refusals, is_within, is_among, limited, swapped, converted};

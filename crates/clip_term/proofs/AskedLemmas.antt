@@ -2,10 +2,8 @@
 use Rattle.std.proofs.Common.{length, arith}
 use Rattle.std.proofs.lemmas.List.Elements.{All-nil}
 use Rattle.clip_term.specs.Refusals.{info_at}
-use Rattle.clip_term.specs.Time.{time_inputs, time_lists, frame_at, from_input}
-use Rattle.clip_term.specs.Field.{field_numbers}
-use Rattle.clip_term.specs.ClipTerm.{source, plain, time, space, joined, soft, fields, choice}
-use Rattle.clip_term.specs.Terms.{IsAsked, AsksInRange}
+use Rattle.clip_term.specs.Time.{time_inputs, time_lists, frame_at, from_input, field_numbers}
+use Rattle.clip_term.specs.Terms.{source, plain, time, space, joined, soft, fields, choice, IsAsked, AsksInRange}
 use Rattle.clip_term.proofs.PassedLemmas.{both}
 use Rattle.clip_term.proofs.SeenLemmas.{one_asked, all_asked, each_number}
 use Rattle.clip_term.proofs.TimeFacts.{time_facts}

@@ -2,7 +2,7 @@
 use Rattle.std.proofs.Common.{◌≡◌, List, length}
 use Rattle.fv_plane.specs.declared.format.Shape.{Shape}
 use Rattle.fv_plane.specs.Format.{IsLegal}
-use Rattle.fv_plane.specs.Look.{Look}
+use Rattle.fv_plane.specs.Picture.{Look}
 use Rattle.clip_term.specs.declared.op.SoftOp.{SoftOp}
 use Rattle.clip_term.specs.declared.op.SpaceOp.{SpaceOp}
 use Rattle.clip_term.specs.Soft.{soft_row, soft_at}

@@ -6,7 +6,7 @@ use Rattle.fv_plane.specs.declared.format.Info.{Info}
 use Rattle.fv_plane.specs.declared.format.Shape.{Shape}
 use Rattle.fv_plane.specs.Format.{largest_sample, planes, plane_width, plane_height}
 use Rattle.fv_plane.specs.Info.{IsLawful}
-use Rattle.fv_plane.specs.Look.{Look, look_at, row_from}
+use Rattle.fv_plane.specs.Picture.{Look, look_at, row_from}
 use Rattle.fv_plane.proofs.LookLemmas.{Agree, map_same}
 use Rattle.clip_term.specs.Refusals.{info_at, same_format, same_size}
 use Rattle.clip_term.specs.Terms.{AreLawful}
@@ -14,8 +14,7 @@ use Rattle.clip_term.proofs.PassedLemmas.{below_of, first_of_many, Passed, agree
 use Rattle.clip_term.proofs.SeenLemmas.{EachSeen, each_at, each_like, agree_at}
 use Rattle.clip_term.specs.declared.run.PlaneStat.{PlaneStat}
 use Rattle.clip_term.specs.declared.run.RunCompare.{RunCompare}
-use Rattle.clip_term.specs.Words.{tree_of}
-use Rattle.clip_term.specs.Values.{stat_in, stat_of, samples_from, value}
+use Rattle.clip_term.specs.Expression.{tree_of, stat_in, stat_of, samples_from, value}
 use Rattle.clip_term.specs.Choice.{RunAct, choose, decide, holds, source_of, side_of, differences, RunRow, run_row}
 
 -- What a row owes: the info that stays is lawful; the choice needs the test only inside its picture; and what is shown agrees on

@@ -6,14 +6,13 @@ use Rattle.fv_plane.specs.declared.format.Info.{Info}
 use Rattle.fv_plane.specs.declared.format.Shape.{Shape}
 use Rattle.fv_plane.specs.Format.{sub_h}
 use Rattle.fv_plane.specs.Info.{IsLawful}
-use Rattle.fv_plane.specs.Look.{Look, look_at}
+use Rattle.fv_plane.specs.Picture.{Look, look_at}
 use Rattle.fv_plane.proofs.LookLemmas.{Agree}
 use Rattle.clip_term.specs.declared.field.FieldOp.{FieldOp}
 use Rattle.clip_term.specs.declared.field.FieldOp.TheVariants as op
 use Rattle.clip_term.specs.declared.filter.Filter.{Filter}
-use Rattle.clip_term.specs.Field.{FieldRow, field_row, has_fields, is_even, is_upper, woven_from, other_row, is_top_first, same_bool}
+use Rattle.clip_term.specs.Time.{FieldRow, field_row, has_fields, is_even, is_upper, woven_from, other_row, is_top_first, same_bool, from_input, in_range}
 use Rattle.clip_term.specs.Refusals.{info_at, rate_of}
-use Rattle.clip_term.specs.Time.{from_input, in_range}
 use Rattle.clip_term.proofs.BoundLemmas.{IsBounded, AllBounded, bounded_at}
 use Rattle.clip_term.proofs.LimitLemmas.{IsSized, IsSome, own, halved}
 use Rattle.clip_term.proofs.PartLemmas.{IsRatio, same, down_ratio}

@@ -8,7 +8,7 @@ use Rattle.fv_plane.specs.declared.format.Shape.{Shape}
 use Rattle.fv_plane.specs.declared.format.PixelType.{PixelType}
 use Rattle.fv_plane.specs.declared.format.PixelType.TheVariants.{Y8, YV12, YV16, YV24, YV411}
 use Rattle.fv_plane.specs.Format.{has_depth, planes, sub_w, sub_h, largest_sample, plane_width, plane_height}
-use Rattle.fv_plane.specs.Look.{Look, look_at}
+use Rattle.fv_plane.specs.Picture.{Look, look_at}
 use Rattle.fv_plane.proofs.LookLemmas.{Agree}
 use Rattle.clip_term.specs.declared.filter.Filter.{Filter}
 use Rattle.clip_term.specs.declared.op.JoinOp.{JoinOp}

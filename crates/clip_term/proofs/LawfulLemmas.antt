@@ -4,20 +4,17 @@ use Rattle.std.specs.Prelude.{◌||◌, ◌==◌}
 use Rattle.fv_plane.specs.declared.format.Info.{Info}
 use Rattle.fv_plane.specs.declared.format.Shape.{Shape}
 use Rattle.fv_plane.specs.Format.{has_depth}
-use Rattle.fv_plane.specs.Info.{IsLawful, IsPar}
-use Rattle.fv_plane.specs.Rate.{Rate}
+use Rattle.fv_plane.specs.Info.{IsLawful, IsPar, Rate}
 use Rattle.fv_plane.specs.Refusals.{Refusals, first_fault}
 use Rattle.clip_term.specs.declared.fault.FilterFault.{FilterFault}
 use Rattle.clip_term.specs.Blank.{plain_refusals}
 use Rattle.clip_term.specs.Choice.{run_base, run_refusals}
-use Rattle.clip_term.specs.ClipTerm.{source, plain, time, space, joined, soft, fields, choice}
-use Rattle.clip_term.specs.Field.{field_length, field_order, field_rate, field_refusals, field_shape}
+use Rattle.clip_term.specs.Terms.{source, plain, time, space, joined, soft, fields, choice, ChecksLawful}
+use Rattle.clip_term.specs.Time.{field_length, field_order, field_rate, field_refusals, field_shape, time_inputs, time_length, time_lists, time_rate, time_refusals}
 use Rattle.clip_term.specs.Join.{join_length, join_refusals, join_shape}
 use Rattle.clip_term.specs.Refusals.{info_at, is_whole, limits, rate_of, unless}
 use Rattle.clip_term.specs.Soft.{soft_refusals}
 use Rattle.clip_term.specs.Space.{space_refusals, space_shape}
-use Rattle.clip_term.specs.Terms.{ChecksLawful}
-use Rattle.clip_term.specs.Time.{time_inputs, time_length, time_lists, time_rate, time_refusals}
 use Rattle.clip_term.proofs.ChoiceFacts.{run_facts}
 use Rattle.clip_term.proofs.FieldFacts.{field_facts}
 use Rattle.clip_term.proofs.JoinFacts.{join_facts}

@@ -9,8 +9,7 @@ use Rattle.fv_plane.specs.declared.format.TheConstants.Shape.{MAX_SIDE, MAX_BYTE
 use Rattle.fv_plane.specs.declared.format.Info.{Info}
 use Rattle.fv_plane.specs.declared.format.Shape.{Shape}
 use Rattle.fv_plane.specs.Format.{has_depth, sub_w, sub_h, frame_bytes, IsLegal}
-use Rattle.fv_plane.specs.Info.{IsLawful, IsPar}
-use Rattle.fv_plane.specs.Rate.{Rate, gcd, lowest}
+use Rattle.fv_plane.specs.Info.{IsLawful, IsPar, Rate, gcd, lowest}
 use Rattle.fv_plane.proofs.GcdLemmas.{gcd_found, lowest_terms}
 use Rattle.clip_term.specs.Refusals.{rate_of, nat_of, below, limit_refusals, limits, is_whole}
 use Rattle.clip_term.proofs.PassedLemmas.{passed, or_false, both, same_number}

@@ -8,9 +8,8 @@ use Rattle.fv_plane.specs.declared.format.Colour.{Colour}
 use Rattle.fv_plane.specs.declared.format.PixelType.{PixelType}
 use Rattle.fv_plane.specs.declared.format.PixelType.TheVariants.{Y8}
 use Rattle.fv_plane.specs.declared.format.Shape.{Shape}
-use Rattle.fv_plane.specs.Picture.{Picture, IsPicture, row_of, blank, plain_plane}
+use Rattle.fv_plane.specs.Picture.{Picture, IsPicture, row_of, blank, plain_plane, look_in, picture_from, plane_from, row_from}
 use Rattle.clip_term.specs.Blank.{colour_at}
-use Rattle.fv_plane.specs.Look.{look_in, picture_from, plane_from, row_from}
 
 -- a picture is the listing of what stands in it
 pub listed : (picture : Picture) → IsPicture picture → picture_from picture.shape (look_in picture) ≡ picture

@@ -5,7 +5,7 @@ use Rattle.std.specs.List.{filter, filter_map, list_all, slice_split, cons_optio
 use Rattle.std.proofs.lemmas.Bool.Decides.{nat_tests}
 use Rattle.std.proofs.lemmas.List.Elements.{filter-append, filter_map-append}
 use Rattle.std.proofs.lemmas.List.Folds.{list_all-append}
-use Rattle.clip_term.specs.Texts.{entry_of, is_gap, matrix_named}
+use Rattle.clip_term.specs.Filters.{entry_of, is_gap, matrix_named}
 use Rattle.clip_term.proofs.PassedLemmas.{all_at}
 
 -- the words among the parts between gaps

@@ -12,7 +12,7 @@ use Rattle.fv_plane.specs.declared.format.PixelType.TheVariants.{Y8, YV12, YV16,
 use Rattle.clip_term.specs.declared.fault.FilterFault.{FilterFault}
 use Rattle.clip_term.specs.Terms.{with_first}
 use Rattle.fv_plane.specs.Refusals.{Refusals, first_fault}
-use Rattle.fv_plane.specs.Rate.{Rate, lowest}
+use Rattle.fv_plane.specs.Info.{Rate, lowest}
 use Rattle.clip_term.specs.Refusals.{limit_refusals, unless, limits, disagreements, info_at, no_info, same_kind, same_format, same_size}
 
 -- no test is true

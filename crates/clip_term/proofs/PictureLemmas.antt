@@ -3,24 +3,21 @@ use Rattle.std.proofs.Common.{length, ◌≡◌, ℕ, zero, suc, List, [], ◌�
 use Rattle.std.specs.Prelude.{slice_index_or}
 use Rattle.fv_plane.specs.declared.format.Info.{Info}
 use Rattle.fv_plane.specs.declared.format.Shape.{Shape}
-use Rattle.fv_plane.specs.Picture.{Picture}
+use Rattle.fv_plane.specs.Picture.{Picture, Look, nothing, look_at, look_in}
 use Rattle.clip_term.specs.declared.fault.FilterFault.{FilterFault}
 use Rattle.clip_term.specs.declared.op.Origin.{Origin}
-use Rattle.fv_plane.specs.Rate.{Rate}
+use Rattle.fv_plane.specs.Info.{Rate}
 use Rattle.fv_plane.specs.Refusals.{Refusals, first_fault}
-use Rattle.fv_plane.specs.Look.{Look, nothing, look_at, look_in}
 use Rattle.clip_term.specs.Refusals.{info_at, rate_of, limits, unless}
-use Rattle.clip_term.specs.Time.{time_refusals, time_length, time_rate}
+use Rattle.clip_term.specs.Time.{time_refusals, time_length, time_rate, field_refusals, field_length, field_rate, field_shape, field_order, field_at}
 use Rattle.clip_term.specs.Space.{space_refusals, space_shape, space_at}
 use Rattle.clip_term.specs.Join.{join_refusals, join_length, join_shape, join_at}
 use Rattle.clip_term.specs.Soft.{soft_refusals, soft_at}
-use Rattle.clip_term.specs.Field.{field_refusals, field_length, field_rate, field_shape, field_order, field_at}
 use Rattle.clip_term.specs.Choice.{run_refusals, run_base, run_at}
 use Rattle.clip_term.proofs.ChoiceFacts.{run_facts}
 use Rattle.clip_term.proofs.FieldFacts.{field_facts}
 use Rattle.clip_term.proofs.SoundLemmas.{counted, sounds_lawful}
-use Rattle.clip_term.specs.ClipTerm.{Act, source, plain, time, space, joined, soft, fields, choice, ClipTerm, applied, ClipTerms, no_terms, and_term}
-use Rattle.clip_term.specs.Terms.{IsSound, IsSoundTerm, AreSoundTerms, inputs_of, AreLawful, check, asked, sample, then_check, info_of, infos_of, term_sample, term_samples, looks_of, term_picture, term_pictures, asked_picture, no_picture, MakesPictures}
+use Rattle.clip_term.specs.Terms.{Act, source, plain, time, space, joined, soft, fields, choice, ClipTerm, applied, ClipTerms, no_terms, and_term, IsSound, IsSoundTerm, AreSoundTerms, inputs_of, AreLawful, check, asked, sample, then_check, info_of, infos_of, term_sample, term_samples, looks_of, term_picture, term_pictures, asked_picture, no_picture, MakesPictures}
 use Rattle.fv_plane.proofs.LookLemmas.{Agree, picture_same, agree_look}
 use Rattle.clip_term.proofs.PassedLemmas.{Passed, passed, limits_shape, both_ok}
 use Rattle.clip_term.proofs.SeenLemmas.{Alike, Seen, none_seen, one_seen, first_seen, seen_each, each_at}

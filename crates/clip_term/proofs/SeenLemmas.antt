@@ -5,7 +5,7 @@ use Rattle.std.proofs.lemmas.List.Elements.{All-nil, All-cons}
 use Rattle.fv_plane.specs.declared.format.Info.{Info}
 use Rattle.fv_plane.specs.declared.format.Shape.{Shape}
 use Rattle.clip_term.specs.declared.op.Origin.{Origin}
-use Rattle.fv_plane.specs.Look.{Look, look_at}
+use Rattle.fv_plane.specs.Picture.{Look, look_at}
 use Rattle.clip_term.specs.Refusals.{info_at}
 use Rattle.clip_term.specs.Time.{from_input, in_range}
 use Rattle.clip_term.specs.Terms.{AreLawful, IsAsked}

@@ -7,7 +7,7 @@ use Rattle.std.proofs.lemmas.List.FromFn.{length-map-range_with_len}
 use Rattle.fv_plane.specs.declared.format.Info.{Info}
 use Rattle.fv_plane.specs.declared.format.Shape.{Shape}
 use Rattle.fv_plane.specs.Format.{largest_sample, scale, plane_width, plane_height}
-use Rattle.fv_plane.specs.Look.{Look, look_at}
+use Rattle.fv_plane.specs.Picture.{Look, look_at}
 use Rattle.fv_plane.proofs.LookLemmas.{Inside, Agree}
 use Rattle.clip_term.specs.declared.op.SoftOp.{SoftOp}
 use Rattle.clip_term.specs.declared.op.SoftOp.TheVariants as op

@@ -3,8 +3,7 @@ use Rattle.std.proofs.Common.{◌≡◌, ℕ, zero, suc, List, [], ◌∷◌, le
 use Rattle.fv_plane.specs.declared.format.Info.{Info}
 use Rattle.fv_plane.specs.Info.{IsLawful}
 use Rattle.clip_term.specs.declared.fault.FilterFault.{FilterFault}
-use Rattle.clip_term.specs.ClipTerm.{Act, applied, ClipTerms, no_terms, and_term}
-use Rattle.clip_term.specs.Terms.{then_check, info_of, infos_of, inputs_of, IsSound, IsSoundTerm, AreSoundTerms, AreLawful, SoundLawful}
+use Rattle.clip_term.specs.Terms.{Act, applied, ClipTerms, no_terms, and_term, then_check, info_of, infos_of, inputs_of, IsSound, IsSoundTerm, AreSoundTerms, AreLawful, SoundLawful}
 use Rattle.clip_term.proofs.PassedLemmas.{both_ok}
 use Rattle.clip_term.proofs.LawfulLemmas.{checks_lawful}
 

@@ -8,7 +8,7 @@ use Rattle.fv_plane.specs.declared.format.Shape.{Shape}
 use Rattle.fv_plane.specs.declared.format.PixelType.{PixelType}
 use Rattle.fv_plane.specs.declared.format.PixelType.TheVariants.{Y8, YV12, YV16, YV24, YV411}
 use Rattle.fv_plane.specs.Format.{IsLegal, planes, has_depth, sub_w, sub_h, largest_sample, scale, plane_width, plane_height}
-use Rattle.fv_plane.specs.Look.{Look, across, down}
+use Rattle.fv_plane.specs.Picture.{Look, across, down}
 use Rattle.fv_plane.proofs.LookLemmas.{Inside, Agree}
 use Rattle.fv_plane.specs.Refusals.{Refusals}
 use Rattle.clip_term.specs.declared.fault.FilterFault.{FilterFault}

@@ -4,8 +4,7 @@ use Rattle.std.specs.Prelude.{ℤ, ◌==◌, nat_lt, nat_le, if◌then◌else◌
 use Rattle.std.specs.List.{list_any}
 use Rattle.std.proofs.lemmas.Bool.Decides.{nat_tests}
 use Rattle.fv_plane.specs.declared.format.Info.{Info}
-use Rattle.fv_plane.specs.Info.{IsLawful}
-use Rattle.fv_plane.specs.Rate.{Rate}
+use Rattle.fv_plane.specs.Info.{IsLawful, Rate}
 use Rattle.fv_plane.specs.Refusals.{Refusals}
 use Rattle.clip_term.specs.declared.fault.FilterFault.{FilterFault}
 use Rattle.clip_term.specs.declared.filter.Filter.{Filter}

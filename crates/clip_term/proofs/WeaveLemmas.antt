@@ -9,9 +9,8 @@ use Rattle.std.proofs.lemmas.Bool.Decides.{nat_tests}
 use Rattle.fv_plane.specs.declared.format.Info.{Info}
 use Rattle.fv_plane.specs.declared.format.Shape.{Shape}
 use Rattle.fv_plane.specs.Format.{sub_h}
-use Rattle.fv_plane.specs.Info.{IsLawful}
-use Rattle.fv_plane.specs.Look.{Look}
-use Rattle.fv_plane.specs.Rate.{Rate, lowest}
+use Rattle.fv_plane.specs.Info.{IsLawful, Rate, lowest}
+use Rattle.fv_plane.specs.Picture.{Look}
 use Rattle.fv_plane.specs.Refusals.{first_fault}
 use Rattle.fv_plane.proofs.GcdLemmas.{gcd_found}
 use Rattle.clip_term.specs.Refusals.{rate_of, limits, limit_refusals, unless}
@@ -19,7 +18,7 @@ use Rattle.clip_term.proofs.LimitLemmas.{lawful_passes}
 use Rattle.clip_term.proofs.PartLemmas.{IsRatio, same, down_ratio}
 use Rattle.clip_term.proofs.PassedLemmas.{Passed, limits_told, product, passed, not_false, same_number}
 use Rattle.clip_term.specs.declared.field.FieldOp.TheVariants as op
-use Rattle.clip_term.specs.Field.{is_even, is_top_first, is_upper, same_bool, has_fields, field_refusals, field_rate, field_shape, check_field, field_frames, WeavesAgain}
+use Rattle.clip_term.specs.Time.{is_even, is_top_first, is_upper, same_bool, has_fields, field_refusals, field_rate, field_shape, check_field, field_frames, WeavesAgain}
 
 -- RATES: doubled and halved again
 
@@ -134,7 +133,7 @@ upper_is : (top first : Bool) (n : ℕ) → same_bool (is_even (if first then 2 
 upper_is top true n = ap (λ b. same_bool b top) (even_twice n)
 upper_is top false n = ap (λ b. same_bool b top) (odd_more n)
 
-two_frames : (first : Bool) (frames : ℕ → Look) (a b p x y : ℕ) → Rattle.fv_plane.specs.Look.look_at (frames a ∷ frames b ∷ []) (if first then 0 else 1) p x y ≡ frames (if first then a else b) p x y
+two_frames : (first : Bool) (frames : ℕ → Look) (a b p x y : ℕ) → Rattle.fv_plane.specs.Picture.look_at (frames a ∷ frames b ∷ []) (if first then 0 else 1) p x y ≡ frames (if first then a else b) p x y
 two_frames true frames a b p x y = refl
 two_frames false frames a b p x y = refl
 

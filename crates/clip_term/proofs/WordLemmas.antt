@@ -1,7 +1,6 @@
 -- The words of an expression are read as that expression.
 use Rattle.std.proofs.Common.{◌≡◌, List, [], ◌∷◌, get_or, refl, ap, ◌∙◌, pos}
-use Rattle.clip_term.specs.Expression.{Expr, int, bool, current_frame, of_plane, abs_, min_, max_, minus, not_, chain, compare, group, Exprs, no_exprs, and_expr, Steps, no_steps, and_step}
-use Rattle.clip_term.specs.Words.{Word, abs_word, min_word, max_word, minus_word, not_word, chain_word, compare_word, group_word, more_word, step_word, words, all_words, step_words, read, tree_of}
+use Rattle.clip_term.specs.Expression.{Expr, int, bool, current_frame, of_plane, abs_, min_, max_, minus, not_, chain, compare, group, Exprs, no_exprs, and_expr, Steps, no_steps, and_step, Word, abs_word, min_word, max_word, minus_word, not_word, chain_word, compare_word, group_word, more_word, step_word, words, all_words, step_words, read, tree_of}
 
 mutual
   read_words : (e : Expr) (ws : List Word) (es : List Expr) (ls : List Exprs) (ss : List Steps) → read (words e ws) es ls ss ≡ read ws (e ∷ es) ls ss

@@ -7,13 +7,12 @@ use Rattle.fv_plane.specs.declared.format.Colour.{Colour}
 use Rattle.fv_plane.specs.declared.format.PixelType.TheVariants.{YV12}
 use Rattle.fv_plane.specs.declared.format.Field.TheVariants.{Progressive}
 use Rattle.fv_plane.specs.declared.format.Tag.TheVariants.{Jpeg}
-use Rattle.fv_plane.specs.Format.{scale}
-use Rattle.fv_plane.specs.FormatNames.{format_named, format_of}
+use Rattle.fv_plane.specs.Format.{scale, format_named, format_of}
 use Rattle.fv_plane.specs.declared.format_names.Format.{Format}
 use Rattle.clip_term.specs.declared.arguments.TheConstants.{BLACK}
 use Rattle.clip_term.specs.declared.fault.FilterFault.{FilterFault}
 use Rattle.clip_term.specs.declared.fault.FilterFault.TheVariants.{BadRange, BadText, NotWholeChroma}
-use Rattle.fv_plane.specs.Look.{Look}
+use Rattle.fv_plane.specs.Picture.{Look}
 use Rattle.fv_plane.specs.Refusals.{Refusals, first_fault}
 use Rattle.clip_term.specs.Refusals.{rate_of, nat_of, below, is_whole, is_colour, part_of, unless, limits}
 

@@ -6,7 +6,7 @@ use Rattle.std.specs.Ordering.{int_eq}
 use Rattle.fv_plane.specs.declared.format.Info.{Info}
 use Rattle.fv_plane.specs.declared.format.Shape.{Shape}
 use Rattle.fv_plane.specs.Format.{planes}
-use Rattle.fv_plane.specs.Look.{Look, look_at}
+use Rattle.fv_plane.specs.Picture.{Look, look_at}
 use Rattle.fv_plane.specs.Refusals.{Refusals, first_fault}
 use Rattle.clip_term.specs.declared.fault.FilterFault.{FilterFault}
 use Rattle.clip_term.specs.declared.fault.FilterFault.TheVariants.{FormatDiffers, SizeDiffers}
@@ -19,9 +19,7 @@ use Rattle.clip_term.specs.declared.run.RunCompare.{RunCompare}
 use Rattle.clip_term.specs.declared.run.RunCompare.TheVariants.{Equals, Greater, Less}
 use Rattle.clip_term.specs.declared.run.RunOp.{RunOp}
 use Rattle.clip_term.specs.declared.run.RunOp.TheVariants as op
-use Rattle.clip_term.specs.Expression.{expr_view, is_number}
-use Rattle.clip_term.specs.Words.{Word, words, tree_of}
-use Rattle.clip_term.specs.Values.{value, stat_of}
+use Rattle.clip_term.specs.Expression.{expr_view, is_number, Word, words, tree_of, value, stat_of}
 
 -- what is done: the op, with words in place of boxes and buffers
 pub data RunAct : Type 0 where

@@ -13,9 +13,8 @@ use Rattle.clip_term.specs.declared.fault.FilterFault.{FilterFault}
 use Rattle.clip_term.specs.declared.op.Channels.{Channels}
 use Rattle.clip_term.specs.declared.op.SoftOp.TheVariants.{GeneralConvolution}
 use Rattle.clip_term.specs.Blank.{BlankArgs, blank_info, colour_of, colour_given, default_clip}
-use Rattle.clip_term.specs.Texts.{matrix_named}
-use Rattle.clip_term.specs.ClipTerm.{Act, ClipTerm, applied, no_terms, and_term, source, plain, soft}
-use Rattle.clip_term.specs.Terms.{info_of, term_picture}
+use Rattle.clip_term.specs.Filters.{matrix_named}
+use Rattle.clip_term.specs.Terms.{Act, ClipTerm, applied, no_terms, and_term, source, plain, soft, info_of, term_picture}
 
 abbrev pub m4_told : Info
 m4_told = record { shape = record { kind = Y8; bits = 8; width = 1; height = 1 }; frames = 4; num = 25; den = 1; field = Progressive; par = record { num = 1; den = 1 }; tag = Jpeg }

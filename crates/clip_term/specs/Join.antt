@@ -14,7 +14,7 @@ use Rattle.clip_term.specs.declared.filter.Filter.{Filter}
 use Rattle.clip_term.specs.declared.filter.Filter.TheVariants as filters
 use Rattle.clip_term.specs.declared.op.JoinOp.{JoinOp}
 use Rattle.clip_term.specs.declared.op.JoinOp.TheVariants as op
-use Rattle.fv_plane.specs.Look.{Look, look_at}
+use Rattle.fv_plane.specs.Picture.{Look, look_at}
 use Rattle.fv_plane.specs.Refusals.{Refusals, first_fault}
 use Rattle.clip_term.specs.Refusals.{rate_of, info_at, sized, same_format, same_size, disagreements, unless, limits}
 

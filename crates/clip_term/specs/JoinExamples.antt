@@ -7,7 +7,7 @@ use Rattle.clip_term.specs.declared.fault.FilterFault.TheVariants.{FormatDiffers
 use Rattle.clip_term.specs.declared.op.TimeOp.TheVariants as t
 use Rattle.clip_term.specs.declared.op.SpaceOp.TheVariants as s
 use Rattle.clip_term.specs.declared.op.JoinOp.TheVariants as j
-use Rattle.clip_term.specs.ClipTerm.{applied, no_terms, and_term, time, space, joined}
+use Rattle.clip_term.specs.Terms.{applied, no_terms, and_term, time, space, joined}
 use Rattle.clip_term.specs.ExampleClips.{rendered, a12, a16, a24, a8, all_channels, b12, b8, c12, m4, one, q8, two}
 
 pub record JoinRows : Type 0 where

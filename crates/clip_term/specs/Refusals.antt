@@ -1,19 +1,40 @@
--- The limits that every clip keeps, and refusals and tests that many filters share.
-use Rattle.std.specs.Prelude.{ℕ, ◌*◌, ◌/◌, ◌%◌, Bool, true, false, not, ◌&&◌, ◌||◌, if◌then◌else◌, ◌==◌, nat_lt, ℤ, pos, int_lt, unsigned_abs, List, [], ◌∷◌, slice_index_or, Option, Some, None, Result, Ok, Err}
+-- Why a filter refuses its input or its arguments.
 use Rattle.std.specs.List.{list_all}
+use Rattle.std.specs.Prelude.{Bool, not, ◌&&◌, ◌||◌, ◌==◌, ℤ, neg_ℤ, int_lt, List, length, ℕ, ◌*◌, ◌/◌, ◌%◌, true, false, if◌then◌else◌, nat_lt, pos, unsigned_abs, [], ◌∷◌, slice_index_or, Option, Some, None, Result, Ok, Err, codes}
+use Rattle.fv_plane.specs.Format.{sub_w, sub_h, scale, frame_bytes}
+use Rattle.fv_plane.specs.Info.{Rate, lowest}
+use Rattle.fv_plane.specs.Refusals.{Refusals, first_fault}
+use Rattle.fv_plane.specs.declared.format.Field.TheVariants.{Progressive}
 use Rattle.fv_plane.specs.declared.format.Info.{Info}
-use Rattle.fv_plane.specs.declared.format.Shape.{Shape}
-use Rattle.fv_plane.specs.declared.format.TheConstants.Info.{MAX_FRAMES, MAX_RATE}
-use Rattle.fv_plane.specs.declared.format.TheConstants.Shape.{MAX_SIDE, MAX_BYTES}
 use Rattle.fv_plane.specs.declared.format.PixelType.{PixelType}
 use Rattle.fv_plane.specs.declared.format.PixelType.TheVariants.{Y8, YV12, YV16, YV24, YV411}
-use Rattle.fv_plane.specs.declared.format.Field.TheVariants.{Progressive}
+use Rattle.fv_plane.specs.declared.format.Shape.{Shape}
 use Rattle.fv_plane.specs.declared.format.Tag.TheVariants.{Jpeg}
-use Rattle.fv_plane.specs.Format.{sub_w, sub_h, scale, frame_bytes}
-use Rattle.fv_plane.specs.Rate.{Rate, lowest}
-use Rattle.fv_plane.specs.Refusals.{Refusals, first_fault}
+use Rattle.fv_plane.specs.declared.format.TheConstants.Info.{MAX_FRAMES, MAX_RATE}
+use Rattle.fv_plane.specs.declared.format.TheConstants.Shape.{MAX_SIDE, MAX_BYTES}
+use Rattle.clip_term.specs.declared.arguments.TheConstants.{MAX_BIAS, MAX_WEIGHT}
 use Rattle.clip_term.specs.declared.fault.FilterFault.{FilterFault}
-use Rattle.clip_term.specs.declared.fault.FilterFault.TheVariants.{EmptyClip, FormatDiffers, SizeDiffers, LengthLimit, RateLimit, TooLarge}
+use Rattle.clip_term.specs.declared.fault.FilterFault.TheVariants.{EmptyClip, FormatDiffers, SizeDiffers, LengthLimit, RateLimit, TooLarge, BadRange, BadText, NotWholeChroma, OutOfPicture, TurnFormat, NeedsChroma, DepthRefused}
+
+-- ==== What arguments may be, where several crates ask it.
+
+-- the size of a number is over this
+abbrev pub is_over : ℤ → ℤ → Bool
+is_over most z = int_lt z (neg_ℤ most) || int_lt most z
+
+-- a weight of GeneralConvolution
+abbrev pub is_weight : ℤ → Bool
+is_weight z = not (is_over MAX_WEIGHT z)
+
+-- 9 or 25 of these
+abbrev pub is_matrix : List ℤ → Bool
+is_matrix entries = (length entries == 9 || length entries == 25) && list_all is_weight entries
+
+-- a bias of GeneralConvolution
+abbrev pub is_bias : ℤ → Bool
+is_bias bias = not (is_over MAX_BIAS bias)
+
+-- ==== The limits that every clip keeps, and refusals and tests that many filters share.
 
 -- Numbers of arguments.
 
@@ -117,3 +138,20 @@ limits c frames rate shape =
     let made = lowest rate in
     unless (first_fault (limit_refusals frames made shape))
     (Ok (record c { frames = frames; num = made.num; den = made.den; shape = shape }))
+
+-- ==== The printed names of the refusals of filters.
+
+abbrev pub filter_fault_name : FilterFault → List ℕ
+filter_fault_name BadRange = codes "BadRange"
+filter_fault_name BadText = codes "BadText"
+filter_fault_name EmptyClip = codes "EmptyClip"
+filter_fault_name FormatDiffers = codes "FormatDiffers"
+filter_fault_name SizeDiffers = codes "SizeDiffers"
+filter_fault_name LengthLimit = codes "LengthLimit"
+filter_fault_name RateLimit = codes "RateLimit"
+filter_fault_name NotWholeChroma = codes "NotWholeChroma"
+filter_fault_name OutOfPicture = codes "OutOfPicture"
+filter_fault_name TurnFormat = codes "TurnFormat"
+filter_fault_name NeedsChroma = codes "NeedsChroma"
+filter_fault_name TooLarge = codes "TooLarge"
+filter_fault_name DepthRefused = codes "DepthRefused"

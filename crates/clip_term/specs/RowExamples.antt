@@ -7,13 +7,11 @@ use Rattle.clip_term.specs.declared.op.TimeOp.TheVariants as t
 use Rattle.clip_term.specs.declared.op.JoinOp.TheVariants as j
 use Rattle.clip_term.specs.declared.op.SoftOp.TheVariants as f
 use Rattle.clip_term.specs.declared.filter.Filter.TheVariants as filter
-use Rattle.clip_term.specs.ClipTerm.{time, joined, soft}
+use Rattle.clip_term.specs.Terms.{time, joined, soft, info_of, term_sample, term_picture, make, asked}
 use Rattle.clip_term.specs.Blank.{check_blank, default_clip}
-use Rattle.fv_plane.specs.FormatNames.{format_named}
-use Rattle.clip_term.specs.Texts.{channels_named, matrix_named}
-use Rattle.clip_term.specs.Filters.{declared_mode}
+use Rattle.fv_plane.specs.Format.{format_named}
+use Rattle.clip_term.specs.Filters.{channels_named, matrix_named, declared_mode}
 use Rattle.clip_term.specs.Time.{from_input}
-use Rattle.clip_term.specs.Terms.{info_of, term_sample, term_picture, make, asked}
 use Rattle.clip_term.specs.ExampleClips.{samples, blank_clip, none_given, one, m4, m4_told, book}
 
 pub record OtherRows : Type 0 where

@@ -12,10 +12,9 @@ use Rattle.clip_term.specs.declared.filter.Filter.TheVariants as filters
 use Rattle.clip_term.specs.declared.op.Origin.{Origin}
 use Rattle.clip_term.specs.declared.op.SoftOp.{SoftOp}
 use Rattle.clip_term.specs.declared.op.SoftOp.TheVariants as op
-use Rattle.fv_plane.specs.Look.{Look, look_at}
+use Rattle.fv_plane.specs.Picture.{Look, look_at}
 use Rattle.fv_plane.specs.Refusals.{Refusals, first_fault}
-use Rattle.clip_term.specs.Arguments.{is_bias, is_matrix}
-use Rattle.clip_term.specs.Refusals.{rate_of, nat_of, below, beyond, info_at, unless, limits}
+use Rattle.clip_term.specs.Refusals.{is_bias, is_matrix, rate_of, nat_of, below, beyond, info_at, unless, limits}
 use Rattle.clip_term.specs.Time.{from_input, in_range}
 
 -- TemporalSoften: a sample that differs by more than the threshold counts as the middle one

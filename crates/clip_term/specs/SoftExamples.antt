@@ -7,7 +7,7 @@ use Rattle.fv_plane.specs.declared.format.Tag.TheVariants.{Jpeg, Mpeg2}
 use Rattle.clip_term.specs.declared.fault.FilterFault.TheVariants.{BadRange}
 use Rattle.clip_term.specs.declared.op.SpaceOp.TheVariants as s
 use Rattle.clip_term.specs.declared.op.SoftOp.TheVariants as f
-use Rattle.clip_term.specs.ClipTerm.{space, soft}
+use Rattle.clip_term.specs.Terms.{space, soft}
 use Rattle.clip_term.specs.ExampleClips.{rendered, a12, a16, a24, a8, b8, blank_clip, convolution, m4, none_given, one, q8}
 
 pub record SoftRows : Type 0 where

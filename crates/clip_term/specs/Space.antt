@@ -12,8 +12,7 @@ use Rattle.clip_term.specs.declared.filter.Filter.TheVariants as filters
 use Rattle.clip_term.specs.declared.op.Channels.{Channels}
 use Rattle.clip_term.specs.declared.op.SpaceOp.{SpaceOp}
 use Rattle.clip_term.specs.declared.op.SpaceOp.TheVariants as op
-use Rattle.fv_plane.specs.Picture.{Picture}
-use Rattle.fv_plane.specs.Look.{Look, look_in, picture_from, across, down}
+use Rattle.fv_plane.specs.Picture.{Picture, Look, look_in, picture_from, across, down}
 use Rattle.fv_plane.specs.Refusals.{Refusals, first_fault}
 use Rattle.clip_term.specs.Refusals.{rate_of, nat_of, below, above, beyond, info_at, sized, same_kind, are_whole, is_colour, paint, unless, limits}
 

@@ -6,7 +6,7 @@ use Rattle.fv_plane.specs.declared.format.Field.TheVariants.{Progressive, Top}
 use Rattle.fv_plane.specs.declared.format.Tag.TheVariants.{Jpeg, Mpeg2}
 use Rattle.clip_term.specs.declared.fault.FilterFault.TheVariants.{BadRange, DepthRefused, NeedsChroma, NotWholeChroma, OutOfPicture, TooLarge, TurnFormat}
 use Rattle.clip_term.specs.declared.op.SpaceOp.TheVariants as s
-use Rattle.clip_term.specs.ClipTerm.{space}
+use Rattle.clip_term.specs.Terms.{space}
 use Rattle.clip_term.specs.ExampleClips.{rendered, all_channels, d10, d10_told, a11, a12, a16, a24, a8, b8, blank_clip, c12, none_given, one, p, q8}
 
 pub record SpaceRows : Type 0 where

@@ -1,27 +1,115 @@
--- A clip's info, each of its samples, and its pictures.
-use Rattle.std.specs.Prelude.{◌≡◌, ℕ, ◌+◌, ◌<◌, true, ◌&&◌, List, [], ◌∷◌, length, map, IsTrue, Result, Ok, Err, slice_index_or}
+-- A clip as a tree of filters: what an op is, the clip's info, each of its samples, and its pictures.
 use Rattle.std.specs.List.{All, range_with_len}
-use Rattle.fv_plane.specs.declared.format.Info.{Info}
-use Rattle.fv_plane.specs.declared.format.Shape.{Shape}
+use Rattle.std.specs.Option.{option_map}
+use Rattle.std.specs.Prelude.{ℕ, List, [], ◌∷◌, Option, Some, None, ◌≡◌, ◌+◌, ◌<◌, true, ◌&&◌, length, map, IsTrue, Result, Ok, Err, slice_index_or}
 use Rattle.fv_plane.specs.Format.{has_depth}
 use Rattle.fv_plane.specs.Info.{IsLawful, IsPar}
-use Rattle.fv_plane.specs.Picture.{Picture}
-use Rattle.clip_term.specs.declared.fault.FilterFault.{FilterFault}
-use Rattle.clip_term.specs.declared.op.Origin.{Origin}
-use Rattle.fv_plane.specs.Look.{Look, nothing, look_at, look_in, picture_from}
-pub use Rattle.clip_term.specs.Arguments.{is_matrix}
-use Rattle.clip_term.specs.Refusals.{info_at, no_info}
-pub use Rattle.clip_term.specs.Time.{time_inputs, time_lists}
-use Rattle.clip_term.specs.Time.{check_time, source_number, from_input, in_range}
-use Rattle.clip_term.specs.Space.{check_space, space_at}
-pub use Rattle.clip_term.specs.Join.{join_inputs}
-use Rattle.clip_term.specs.Join.{check_join, join_at}
-pub use Rattle.clip_term.specs.Soft.{soft_lists}
-use Rattle.clip_term.specs.Soft.{check_soft, soft_asked, soft_at}
-use Rattle.clip_term.specs.Field.{check_field, field_asked, field_at}
-use Rattle.clip_term.specs.Choice.{check_run, run_asked, run_at, run_inputs}
+use Rattle.fv_plane.specs.Picture.{Picture, Look, nothing, look_at, look_in, picture_from}
+use Rattle.fv_plane.specs.declared.format.Colour.{Colour}
+use Rattle.fv_plane.specs.declared.format.Info.{Info}
+use Rattle.fv_plane.specs.declared.format.Shape.{Shape}
 use Rattle.clip_term.specs.Blank.{check_plain, colour_at}
-use Rattle.clip_term.specs.ClipTerm.{Act, source, plain, time, space, joined, soft, fields, choice, ClipTerm, applied, ClipTerms, no_terms, and_term}
+use Rattle.clip_term.specs.Choice.{RunAct, run_act, run_filter, check_run, run_asked, run_at, run_inputs}
+use Rattle.clip_term.specs.Join.{join_filter, check_join, join_at}
+pub use Rattle.clip_term.specs.Join.{join_inputs}
+pub use Rattle.clip_term.specs.Refusals.{is_matrix}
+use Rattle.clip_term.specs.Refusals.{info_at, no_info}
+use Rattle.clip_term.specs.Soft.{soft_filter, check_soft, soft_asked, soft_at}
+pub use Rattle.clip_term.specs.Soft.{soft_lists}
+use Rattle.clip_term.specs.Space.{space_filter, check_space, space_at}
+use Rattle.clip_term.specs.Time.{time_filter, field_filter, check_time, source_number, from_input, in_range, check_field, field_asked, field_at}
+pub use Rattle.clip_term.specs.Time.{time_inputs, time_lists}
+use Rattle.clip_term.specs.declared.fault.FilterFault.{FilterFault}
+use Rattle.clip_term.specs.declared.field.FieldOp.{FieldOp}
+use Rattle.clip_term.specs.declared.filter.Filter.{Filter}
+use Rattle.clip_term.specs.declared.filter.Filter.TheVariants as filter
+use Rattle.clip_term.specs.declared.op.JoinOp.{JoinOp}
+use Rattle.clip_term.specs.declared.op.Op.{Op}
+use Rattle.clip_term.specs.declared.op.Op.TheVariants as op
+use Rattle.clip_term.specs.declared.op.Origin.{Origin}
+use Rattle.clip_term.specs.declared.op.SoftOp.{SoftOp}
+use Rattle.clip_term.specs.declared.op.SpaceOp.{SpaceOp}
+use Rattle.clip_term.specs.declared.op.TimeOp.{TimeOp}
+use Rattle.clip_term.specs.declared.term.Term.{Term}
+use Rattle.clip_term.specs.declared.term.Term.TheFolds.{fold-Term}
+use Rattle.clip_term.specs.declared.term.Term.TheOpen.{Term-F}
+
+-- ==== A clip as a tree of filters, in the definitions' own data, and what the values of the code stand for.
+
+-- what is done: the op, with lists in place of buffers
+pub data Act : Type 0 where
+  source : List ℕ → ℕ → Info → Act
+  plain : Info → Colour → Act
+  time : TimeOp → Act
+  space : SpaceOp → Act
+  joined : JoinOp → Act
+  soft : SoftOp → Act
+  fields : FieldOp → Act
+  choice : RunAct → Act
+
+abbrev pub act_of : Op → Act
+act_of (op.Source name number info) = source name number info
+act_of (op.Blank info colour) = plain info colour
+act_of (op.Time inner) = time inner
+act_of (op.Space inner) = space inner
+act_of (op.Join inner) = joined inner
+act_of (op.Soft inner) = soft inner
+act_of (op.Field inner) = fields inner
+act_of (op.Run inner) = choice (run_act inner)
+
+mutual
+  pub data ClipTerm : Type 0 where
+    applied : Act → ClipTerms → ClipTerm
+
+  pub data ClipTerms : Type 0 where
+    no_terms : ClipTerms
+    and_term : ClipTerm → ClipTerms → ClipTerms
+
+abbrev pub clips : List ClipTerm → ClipTerms
+clips [] = no_terms
+clips (c ∷ cs) = and_term c (clips cs)
+
+-- one layer, with the inputs' clips in the terms' place
+abbrev pub term_step : Term-F ClipTerm → ClipTerm
+term_step term = applied (act_of term.op) (clips term.inputs.items)
+
+unfoldable pub term_of : Term → ClipTerm
+term_of = fold-Term ClipTerm term_step
+
+-- ==== What an op is: the filter that it applies, and the source that it reads.
+
+abbrev pub filter_of : Act → Filter
+filter_of (source name number info) = filter.Y4MSource
+filter_of (plain info colour) = filter.BlankClip
+filter_of (time op) = time_filter op
+filter_of (space op) = space_filter op
+filter_of (joined op) = join_filter op
+filter_of (soft op) = soft_filter op
+filter_of (fields op) = field_filter op
+filter_of (choice op) = run_filter op
+
+-- a source: the name of its file, how many sources were opened before, and what is known of its clip
+pub record SourcePart : Type 0 where
+  pub name : List ℕ
+  pub number : ℕ
+  pub info : Info
+
+-- the source that an op is
+abbrev pub source_part : Act → Option SourcePart
+source_part (source name number info) = Some (record { name = name; number = number; info = info })
+source_part (plain info colour) = None
+source_part (time op) = None
+source_part (space op) = None
+source_part (joined op) = None
+source_part (soft op) = None
+source_part (fields op) = None
+source_part (choice op) = None
+
+-- what is known of the clip of a source
+abbrev pub source_info : Act → Option Info
+source_info act = option_map (λ (part : SourcePart). part.info) (source_part act)
+
+-- ==== A clip's info, each of its samples, and its pictures.
 
 -- One op over its inputs.
 

@@ -8,7 +8,7 @@ use Rattle.clip_term.specs.declared.fault.FilterFault.TheVariants.{BadRange, Emp
 use Rattle.clip_term.specs.declared.op.TrimBound.TheVariants.{Last, Length, End}
 use Rattle.clip_term.specs.declared.op.TimeOp.TheVariants as t
 use Rattle.clip_term.specs.declared.op.SpaceOp.TheVariants as s
-use Rattle.clip_term.specs.ClipTerm.{applied, no_terms, and_term, time, space}
+use Rattle.clip_term.specs.Terms.{applied, no_terms, and_term, time, space}
 use Rattle.clip_term.specs.ExampleClips.{rendered, a8, all_channels, b8, blank_clip, m3, m4, none_given, one, p, q8, two}
 
 pub record TimeRows : Type 0 where

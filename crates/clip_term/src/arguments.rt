@@ -2,11 +2,11 @@
 ghost use Rattle.std.specs.Prelude.{◌≡◌, ◌≤ℤ◌, pos, true};
 ghost use Rattle.std.specs.List.{list_all, list_any};
 ghost use Rattle.std.specs.Char.{to_ascii_uppercase};
-ghost use Rattle.clip_term.specs.Arguments as a;
+ghost use Rattle.clip_term.specs.Refusals as a;
 ghost use Rattle.clip_term.specs.Blank as b;
 ghost use Rattle.clip_term.specs.Refusals as r;
 ghost use Rattle.clip_term.specs.Space as s;
-ghost use Rattle.clip_term.specs.Texts as t;
+ghost use Rattle.clip_term.specs.Filters as t;
 
 use crate::{Channels, FilterFault};
 use fv_io::Text;
@@ -123,7 +123,7 @@ fn has_letter(letter: u8, letters: &[u8]) -> bool
 
 impl Channels {
     ghost use Rattle.std.specs.Prelude.{◌≡◌};
-    ghost use Rattle.clip_term.specs.Texts as t;
+    ghost use Rattle.clip_term.specs.Filters as t;
 
     /// The planes that the letters Y, U and V name, in any case. Another letter is `BadText`.
     pub fn named(letters: &str) -> Result<Channels, FilterFault>

@@ -47,7 +47,7 @@ pub enum FilterFault {
 
 impl FilterFault {
     ghost use Rattle.std.specs.Prelude.{◌≡◌};
-    ghost use Rattle.clip_term.specs.FaultNames.{filter_fault_name};
+    ghost use Rattle.clip_term.specs.Refusals.{filter_fault_name};
 
     /// The name of the refusal as it is printed.
     pub fn name(self) -> &'static str

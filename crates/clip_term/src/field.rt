@@ -14,7 +14,7 @@ pub enum FieldOp {
 
 impl FieldOp {
     ghost use Rattle.std.specs.Prelude.{◌≡◌};
-    ghost use Rattle.clip_term.specs.Field.{field_filter};
+    ghost use Rattle.clip_term.specs.Time.{field_filter};
 
     /// The filter that it is.
     pub(crate) fn filter(&self) -> Filter

@@ -1,6 +1,6 @@
 // Laws of the definitions, each the contract of a function with an empty body.
 ghost use Rattle.clip_term.specs.BlankExamples.{BlankRows};
-ghost use Rattle.clip_term.specs.Field.{WeavesAgain};
+ghost use Rattle.clip_term.specs.Time.{WeavesAgain};
 ghost use Rattle.clip_term.specs.Filters.{FiltersAreListed};
 ghost use Rattle.clip_term.specs.JoinExamples.{JoinRows};
 ghost use Rattle.clip_term.specs.RowExamples.{OtherRows};
@@ -43,7 +43,7 @@ pub fn filters_are_listed()
 {}
 
 /// Worked rows of the filters, each computed.
-#[tactic(auto, unfolding(crate::specs::Terms::info_of, crate::specs::Terms::infos_of, crate::specs::Terms::term_sample, crate::specs::Terms::term_samples, fv_plane::specs::Look::picture_from, fv_plane::specs::Rate::gcd))]
+#[tactic(auto, unfolding(crate::specs::Terms::info_of, crate::specs::Terms::infos_of, crate::specs::Terms::term_sample, crate::specs::Terms::term_samples, fv_plane::specs::Picture::picture_from, fv_plane::specs::Info::gcd))]
 pub fn examples()
     ensures time { TimeRows }
     ensures space { SpaceRows }

@@ -2,8 +2,8 @@
 ghost use Rattle.std.specs.Prelude.{◌≡◌, ◌≤◌, IsTrue, IfSome, ◌&&◌, ◌||◌, ◌==◌, min, None, Some, Err, IfOk};
 ghost use Rattle.std.specs.Char.{is_ascii_digit};
 ghost use Rattle.std.specs.List.{list_all};
-ghost use Rattle.clip_term.specs.Texts.{digits_of, entry_of, is_gap, matrix_named, weight_of};
-ghost use Rattle.clip_term.specs.Arguments.{is_matrix, is_weight};
+ghost use Rattle.clip_term.specs.Filters.{digits_of, entry_of, is_gap, matrix_named, weight_of};
+ghost use Rattle.clip_term.specs.Refusals.{is_matrix, is_weight};
 ghost use Rattle.clip_term.specs.declared.matrix.MatrixFault.TheVariants.{BadText};
 
 use crate::arguments::is_weight;

@@ -236,8 +236,7 @@ pub struct SourcePart<'o> {
 
 impl Op {
     ghost use Rattle.std.specs.Prelude.{◌≡◌, option_map};
-    ghost use Rattle.clip_term.specs.ClipTerm.{act_of};
-    ghost use Rattle.clip_term.specs.Ops.{filter_of, source_part};
+    ghost use Rattle.clip_term.specs.Terms.{act_of, filter_of, source_part};
 
     /// The filter that the op applies.
     pub fn filter(&self) -> Filter

@@ -1,7 +1,7 @@
 // A clip of three frames, and a graph of its source.
 ghost use Rattle.std.specs.Prelude.{◌≡◌, ◌∷◌, ℕ, List, [], IfOk};
 ghost use Rattle.fv_plane.specs.Info.{IsLawful};
-ghost use Rattle.clip_term.specs.ClipTerm.{source};
+ghost use Rattle.clip_term.specs.Terms.{source};
 
 use clip_graph::Graph;
 use clip_term::Op;

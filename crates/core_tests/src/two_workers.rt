@@ -1,6 +1,6 @@
 // Two workers on a core over one source.
 ghost use Rattle.std.specs.Prelude.{◌≡◌, ◌∷◌, ℕ, List, [], None, Some, true, IfOk};
-ghost use Rattle.clip_term.specs.ClipTerm.{source};
+ghost use Rattle.clip_term.specs.Terms.{source};
 ghost use Rattle.inst_table.specs.declared.place.Slot.TheVariants.{Free};
 ghost use Rattle.inst_table.specs.Places.{place_at};
 ghost use Rattle.serve_core.specs.Calls.{made};

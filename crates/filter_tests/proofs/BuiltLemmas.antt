@@ -4,8 +4,7 @@ use Rattle.fv_plane.specs.Picture.{Picture}
 use Rattle.clip_term.specs.declared.term.Term.{Term, roll-Term}
 use Rattle.clip_term.specs.declared.term.Term.TheOpen.{Term-F}
 use Rattle.clip_term.specs.declared.term.Term.TheFolds.{fold-roll-Term}
-use Rattle.clip_term.specs.ClipTerm.{Act, source, plain, time, space, joined, soft, fields, choice, ClipTerm, applied, act_of, term_of, term_step, clips}
-use Rattle.clip_term.specs.Terms.{IsSound, IsSoundTerm, AreSoundTerms}
+use Rattle.clip_term.specs.Terms.{Act, source, plain, time, space, joined, soft, fields, choice, ClipTerm, applied, act_of, term_of, term_step, clips, IsSound, IsSoundTerm, AreSoundTerms}
 use Rattle.clip_reference.specs.Ready.{IsFilter}
 use Rattle.clip_reference.specs.Sources.{HasSource, HasSources, HaveSources}
 use Rattle.clip_reference.proofs.TermLemmas.{inputs_counted}

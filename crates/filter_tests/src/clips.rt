@@ -1,8 +1,7 @@
 // Two clips of one shape, whose samples look random: as the sources of a graph, and as a book.
 ghost use Rattle.std.specs.Prelude.{◌≡◌, [], slice_index_or, IfOk};
-ghost use Rattle.fv_plane.specs.Clip.{IsClip};
+ghost use Rattle.fv_plane.specs.Picture.{IsClip, IsPicture};
 ghost use Rattle.fv_plane.specs.Info.{IsLawful};
-ghost use Rattle.fv_plane.specs.Picture.{IsPicture};
 
 use clip_reference::Book;
 use fv_plane::{Field, Frame, Info, Par, PixelType, Shape, Tag};

@@ -4,8 +4,7 @@ ghost use Rattle.fv_plane.specs.Format.{IsLegal};
 ghost use Rattle.fv_plane.specs.Info.{IsLawful};
 ghost use Rattle.clip_graph.specs.Plan.{application_at};
 ghost use Rattle.clip_graph.specs.Unfolding.{IsKeyBelow};
-ghost use Rattle.clip_term.specs.ClipTerm.{term_of};
-ghost use Rattle.clip_term.specs.Terms.{IsSoundTerm};
+ghost use Rattle.clip_term.specs.Terms.{term_of, IsSoundTerm};
 ghost use Rattle.clip_reference.specs.Sources.{HasSources};
 
 use crate::clips::{book_of, info_of, picture};

@@ -1,7 +1,6 @@
 // The ops that are compared: in each row one of each group.
 ghost use Rattle.std.specs.Prelude.{◌≡◌, IfOk};
-ghost use Rattle.clip_term.specs.ClipTerm.{act_of};
-ghost use Rattle.clip_term.specs.Terms.{IsSound};
+ghost use Rattle.clip_term.specs.Terms.{act_of, IsSound};
 ghost use Rattle.clip_reference.specs.Ready.{IsFilter};
 
 use clip_term::{

@@ -3,8 +3,7 @@ ghost use Rattle.std.specs.Prelude.{◌≡◌, ◌<◌, length, IfOk};
 ghost use Rattle.std.specs.List.{All};
 ghost use Rattle.fv_plane.specs.Info.{IsLawful};
 ghost use Rattle.clip_graph.specs.Plan.{infos_among};
-ghost use Rattle.clip_term.specs.ClipTerm.{act_of};
-ghost use Rattle.clip_term.specs.Terms.{IsSound};
+ghost use Rattle.clip_term.specs.Terms.{act_of, IsSound};
 ghost use Rattle.clip_reference.specs.Ready.{IsFilter};
 
 use crate::ops::{pair_op, soft_op, space_op, time_op};

@@ -1,8 +1,7 @@
 // Terms over the clips of a book.
 ghost use Rattle.std.specs.Prelude.{[], slice_index_or, IfOk};
-ghost use Rattle.fv_plane.specs.Clip.{IsClip};
-ghost use Rattle.clip_term.specs.ClipTerm.{act_of, term_of};
-ghost use Rattle.clip_term.specs.Terms.{IsSound, IsSoundTerm};
+ghost use Rattle.fv_plane.specs.Picture.{IsClip};
+ghost use Rattle.clip_term.specs.Terms.{act_of, term_of, IsSound, IsSoundTerm};
 ghost use Rattle.clip_reference.specs.Ready.{IsFilter};
 ghost use Rattle.clip_reference.specs.Sources.{HasSources};
 

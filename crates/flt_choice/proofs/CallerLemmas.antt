@@ -9,17 +9,14 @@ use Rattle.std.proofs.lemmas.List.FromFn.{fill_by_all}
 use Rattle.std.proofs.lemmas.Simd.{map-map}
 use Rattle.fv_plane.specs.declared.format.Info.{Info}
 use Rattle.fv_plane.specs.declared.format.Shape.{Shape}
-use Rattle.fv_plane.specs.Look.{Look, look_at, look_in, picture_from}
-use Rattle.fv_plane.specs.Picture.{Picture, IsPicture}
+use Rattle.fv_plane.specs.Picture.{Look, look_at, look_in, picture_from, Picture, IsPicture}
 use Rattle.clip_term.specs.declared.op.Origin.{Origin}
 use Rattle.clip_term.specs.declared.run.RunCompare.{RunCompare}
 use Rattle.clip_term.specs.Choice.{RunAct, choose, decide, holds, source_of, side_of, chosen, differences, run_refusals, run_base, run_inputs, check_run}
-use Rattle.clip_term.specs.ClipTerm.{choice}
+use Rattle.clip_term.specs.Terms.{choice, make, no_picture}
 use Rattle.clip_term.specs.Refusals.{info_at, no_info, rate_of, limits, same_format, same_size}
-use Rattle.clip_term.specs.Terms.{make, no_picture}
 use Rattle.clip_term.specs.Time.{from_input, in_range}
-use Rattle.clip_term.specs.Values.{value, stat_of}
-use Rattle.clip_term.specs.Words.{tree_of}
+use Rattle.clip_term.specs.Expression.{value, stat_of, tree_of}
 use Rattle.clip_term.proofs.ListedLemmas.{listed}
 use Rattle.clip_term.proofs.PassedLemmas.{Passed, passed, limits_shape, agreed, both, not_false, same_format_is, same_number, same_shape}
 use Rattle.flt_choice.specs.Shown.{infos_of, number_shown, picture_shown}

@@ -8,7 +8,7 @@ use Rattle.std.proofs.lemmas.Bool.Decides.{nat_tests}
 use Rattle.std.proofs.lemmas.List.{get_or-set_same, get_or-set_other, length-set, take_more, append_assoc}
 use Rattle.std.proofs.lemmas.List.FromFn.{get_or-map-range_with_len, length-map-range_with_len}
 use Rattle.std.proofs.lemmas.List.Sums.{sum_by-cons, sum_by-append, sum_by_more, count_by-le-length}
-use Rattle.clip_term.specs.Values.{is_half}
+use Rattle.clip_term.specs.Expression.{is_half}
 use Rattle.flt_choice.specs.Counts.{times_in, counted, HasRoom, AddsCounts, AreCounts, AreNone}
 
 -- each of these is how many of the samples have that value

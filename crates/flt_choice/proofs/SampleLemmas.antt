@@ -11,12 +11,11 @@ use Rattle.std.proofs.lemmas.Nat.{mul-le}
 use Rattle.std.proofs.lemmas.List.Sums.{fold_more, fold-append}
 use Rattle.fv_rows.specs.Rows.{flat_rows}
 use Rattle.fv_plane.specs.declared.format.Shape.{Shape}
-use Rattle.fv_plane.specs.Bytes.{wide_samples, row_of_bytes, bytes_of_rows}
+use Rattle.fv_plane.specs.Picture.{wide_samples, row_of_bytes, bytes_of_rows, Picture, IsPicture}
 use Rattle.fv_plane.specs.declared.format.PixelType.{PixelType}
 use Rattle.fv_plane.specs.declared.format.PixelType.TheVariants.{Y8, YV12, YV16, YV24, YV411}
 use Rattle.fv_plane.specs.Format.{IsLegal, planes, sub_w, sub_h, frame_samples, largest_sample, plane_width, plane_height, sample_bytes}
 use Rattle.fv_rows.proofs.RowLemmas.{length-flat_rows, length-front}
-use Rattle.fv_plane.specs.Picture.{Picture, IsPicture}
 use Rattle.fv_plane.proofs.BytesLemmas.{bytes_of_rows-flat, length-bytes_of_row}
 use Rattle.fv_plane.proofs.CallerLemmas.{depth_cases, length-plane, row_again}
 use Rattle.fv_plane.proofs.WideLemmas.{length-wide_samples, wide_samples-at}

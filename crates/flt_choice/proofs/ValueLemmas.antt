@@ -9,18 +9,15 @@ use Rattle.std.proofs.lemmas.Bool.Decides.{nat_tests}
 use Rattle.std.proofs.lemmas.List.FromFn.{fill_by_all}
 use Rattle.fv_rows.specs.Rows.{flat_rows}
 use Rattle.fv_plane.specs.Format.{largest_sample, planes, plane_width, plane_height}
-use Rattle.fv_plane.specs.Look.{look_in, plane_from, row_from}
-use Rattle.fv_plane.specs.Picture.{Picture, IsPicture, row_of}
+use Rattle.fv_plane.specs.Picture.{look_in, plane_from, row_from, Picture, IsPicture, row_of}
 use Rattle.clip_term.specs.declared.run.PlaneStat.{PlaneStat}
 use Rattle.clip_term.specs.declared.run.PlaneStat.TheVariants.{Least, Greatest, Median}
-use Rattle.clip_term.specs.Expression.{Expr, int, bool, current_frame, of_plane, abs_, min_, max_, minus, not_, chain, compare, group, Exprs, no_exprs, and_expr, Steps, no_steps, and_step, asks, any_asks, steps_ask, same_stat}
-use Rattle.clip_term.specs.Values.{value, of_all, picked_from, along, one_of, both_of, absolute, negative, picked, by_oper, stat_in, samples_from}
+use Rattle.clip_term.specs.Expression.{Expr, int, bool, current_frame, of_plane, abs_, min_, max_, minus, not_, chain, compare, group, Exprs, no_exprs, and_expr, Steps, no_steps, and_step, asks, any_asks, steps_ask, same_stat, value, of_all, picked_from, along, one_of, both_of, absolute, negative, picked, by_oper, stat_in, samples_from, words, tree_of}
 use Rattle.fv_plane.specs.declared.format.PixelType.{PixelType}
 use Rattle.fv_plane.specs.declared.format.PixelType.TheVariants.{Y8, YV12, YV16, YV24, YV411}
 use Rattle.clip_term.specs.declared.run.RunCompare.{RunCompare}
 use Rattle.clip_term.specs.Choice.{choose, decide, side_of, source_of}
 use Rattle.clip_term.specs.Refusals.{no_info}
-use Rattle.clip_term.specs.Words.{words, tree_of}
 use Rattle.clip_term.proofs.WordLemmas.{tree_again}
 use Rattle.flt_choice.specs.Shown.{number_shown}
 use Rattle.flt_choice.specs.Table.{plane_samples, stats_in, stat_number, stats_of}

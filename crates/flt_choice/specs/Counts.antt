@@ -4,7 +4,7 @@ use Rattle.std.specs.List.{count_by, find, range_with_len}
 use Rattle.std.specs.Option.{unwrap_or}
 use Rattle.fv_plane.specs.declared.format.Shape.{Shape}
 use Rattle.fv_plane.specs.Format.{largest_sample}
-use Rattle.clip_term.specs.Values.{is_half}
+use Rattle.clip_term.specs.Expression.{is_half}
 
 abbrev pub times_in : List ℕ → ℕ → ℕ
 times_in samples v = count_by (λ s. s == v) samples

@@ -2,12 +2,10 @@
 use Rattle.std.specs.Prelude.{◌≡◌, ℕ, ◌+◌, ◌*◌, ◌||◌, true, List, [], slice_get, slice_index_or}
 use Rattle.std.specs.Option.{unwrap_or}
 use Rattle.fv_rows.specs.Rows.{flat_rows}
-use Rattle.fv_plane.specs.Look.{look_in}
-use Rattle.fv_plane.specs.Picture.{Picture}
+use Rattle.fv_plane.specs.Picture.{look_in, Picture}
 use Rattle.clip_term.specs.declared.run.PlaneStat.{PlaneStat}
 use Rattle.clip_term.specs.declared.run.PlaneStat.TheVariants.{Least, Greatest, Median}
-use Rattle.clip_term.specs.Expression.{Expr, asks}
-use Rattle.clip_term.specs.Values.{stat_of}
+use Rattle.clip_term.specs.Expression.{Expr, asks, stat_of}
 
 abbrev pub stat_number : PlaneStat → ℕ
 stat_number Least = 0

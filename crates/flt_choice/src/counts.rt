@@ -3,7 +3,7 @@
 // The samples are counted in four tables in turn. Neighbours are often equal, and a processor has to wait before it can
 // add to a count that it has just written.
 ghost use Rattle.std.specs.Prelude.{◌≡◌, ℕ, ◌+◌, ◌*◌, ◌/◌, ◌%◌, ◌^◌, ◌<◌, ◌≤◌, List, [], ◌∷◌, length, slice_index};
-ghost use Rattle.fv_plane.specs.Bytes.{row_of_bytes, wide_samples, FitsRow};
+ghost use Rattle.fv_plane.specs.Picture.{row_of_bytes, wide_samples, FitsRow};
 ghost use Rattle.fv_plane.specs.Format.{largest_sample, sample_bytes, IsLegal};
 ghost use Rattle.flt_choice.specs.Counts.{counted, AreCounts, AreTables, HasRoom, AddsCounts, middle_of};
 

@@ -3,7 +3,7 @@ ghost use Rattle.std.specs.Prelude.{◌≡◌, map};
 ghost use Rattle.std.specs.Int.{int_min, int_max};
 ghost use Rattle.clip_term.specs.Expression as e;
 ghost use Rattle.clip_term.specs.Expression.{expr_view, step_view, exprs_of, steps_of};
-ghost use Rattle.clip_term.specs.Values as v;
+ghost use Rattle.clip_term.specs.Expression as v;
 ghost use Rattle.flt_choice.specs.Table.{stats_in, stat_number};
 
 use clip_term::{PlaneStat, RunExpr, RunOper, RunStep};

@@ -2,7 +2,7 @@
 ghost use Rattle.std.specs.Prelude.{◌≡◌, ◌<◌, min, max, IfOk};
 ghost use Rattle.std.specs.List.{fold};
 ghost use Rattle.fv_plane.specs.Format.{planes, largest_sample};
-ghost use Rattle.clip_term.specs.Values.{stat_in};
+ghost use Rattle.clip_term.specs.Expression.{stat_in};
 ghost use Rattle.flt_choice.specs.Table.{plane_samples};
 ghost use Rattle.flt_choice.specs.Counts.{AreNone, AreTables, AddsCounts};
 

@@ -1,7 +1,6 @@
 // The value of an expression for a frame.
 ghost use Rattle.std.specs.Prelude.{◌≡◌, ◌<◌, ◌||◌, true, IfOk};
-ghost use Rattle.clip_term.specs.Expression.{asks, expr_view};
-ghost use Rattle.clip_term.specs.Values.{value};
+ghost use Rattle.clip_term.specs.Expression.{asks, expr_view, value};
 ghost use Rattle.flt_choice.specs.Table.{stat_number, stats_of, HasNamed};
 
 use crate::evaluate::{asks, evaluate, stat_number};

@@ -7,19 +7,16 @@ use Rattle.std.proofs.lemmas.List.Elements.{All-nil, All-cons}
 use Rattle.fv_plane.specs.declared.format.Info.{Info}
 use Rattle.fv_plane.specs.declared.format.Shape.{Shape}
 use Rattle.fv_plane.specs.Format.{IsLegal}
-use Rattle.fv_plane.specs.Look.{Look, look_in, picture_from}
-use Rattle.fv_plane.specs.Picture.{Picture}
+use Rattle.fv_plane.specs.Picture.{Look, look_in, picture_from, Picture}
 use Rattle.fv_plane.specs.Refusals.{first_fault}
 use Rattle.fv_plane.proofs.LookLemmas.{picture_same}
 use Rattle.clip_term.specs.declared.fault.FilterFault.{FilterFault}
 use Rattle.clip_term.specs.declared.field.FieldOp.{FieldOp}
 use Rattle.clip_term.specs.declared.field.FieldOp.TheVariants as op
 use Rattle.clip_term.specs.declared.op.Origin.{Origin}
-use Rattle.clip_term.specs.Field.{check_field, field_asked, field_at, field_length, field_numbers, field_order, field_rate, field_refusals, field_shape}
-use Rattle.clip_term.specs.ClipTerm.{fields}
+use Rattle.clip_term.specs.Time.{check_field, field_asked, field_at, field_length, field_numbers, field_order, field_rate, field_refusals, field_shape, from_input, in_range}
+use Rattle.clip_term.specs.Terms.{fields, make, no_picture}
 use Rattle.clip_term.specs.Refusals.{info_at, limits, no_info, unless}
-use Rattle.clip_term.specs.Terms.{make, no_picture}
-use Rattle.clip_term.specs.Time.{from_input, in_range}
 use Rattle.clip_term.proofs.PassedLemmas.{passed, limits_shape}
 use Rattle.flt_field.specs.Made.{CanMake, field_picture, shape_of, shape_made}
 use Rattle.flt_field.proofs.RowLemmas.{some_asked}

@@ -6,9 +6,7 @@ use Rattle.std.proofs.lemmas.List.{get_or_read}
 use Rattle.fv_plane.specs.declared.format.Field.{Field}
 use Rattle.fv_plane.specs.declared.format.Shape.{Shape}
 use Rattle.fv_plane.specs.Format.{HasFields, IsLegal, planes, plane_width, plane_height, sub_h}
-use Rattle.fv_plane.specs.Look.{Look, look_at, look_in, picture_from, row_from}
-use Rattle.fv_plane.specs.Picture.{Picture, IsPicture, row_of, with_row}
-use Rattle.fv_plane.specs.Bytes.{bytes_of_row, row_of_bytes, FitBytes}
+use Rattle.fv_plane.specs.Picture.{Look, look_at, look_in, picture_from, row_from, Picture, IsPicture, row_of, with_row, bytes_of_row, row_of_bytes, FitBytes}
 use Rattle.fv_plane.specs.Refusals.{first_fault}
 use Rattle.fv_plane.proofs.BytesLemmas.{bytes_of_row-same}
 use Rattle.fv_plane.proofs.CallerLemmas.{fit_row, length-row, row_again}
@@ -17,7 +15,7 @@ use Rattle.fv_plane.proofs.LookLemmas.{picture_same}
 use Rattle.clip_term.specs.declared.fault.FilterFault.TheVariants.{NotWholeChroma}
 use Rattle.clip_term.specs.declared.field.FieldOp.{FieldOp}
 use Rattle.clip_term.specs.declared.field.FieldOp.TheVariants as op
-use Rattle.clip_term.specs.Field.{field_at, field_numbers, field_refusals, field_shape, has_fields, is_even, is_top_first, same_bool, woven_from}
+use Rattle.clip_term.specs.Time.{field_at, field_numbers, field_refusals, field_shape, has_fields, is_even, is_top_first, same_bool, woven_from}
 use Rattle.clip_term.specs.Refusals.{no_info}
 use Rattle.clip_term.specs.Terms.{no_picture}
 use Rattle.clip_term.proofs.FieldFacts.{half_line, other_line}

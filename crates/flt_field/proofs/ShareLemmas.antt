@@ -2,8 +2,7 @@
 use Rattle.std.proofs.Common.{◌≡◌, ℕ, List, map, get_or, sym, ap, ◌∙◌, ◌⊎◌, inl, inr, Result, Ok, Err}
 use Rattle.std.specs.Prelude.{IfOk}
 use Rattle.fv_plane.specs.declared.format.Field.{Field}
-use Rattle.fv_plane.specs.Look.{look_at, look_in, picture_from}
-use Rattle.fv_plane.specs.Picture.{Picture, IsPicture}
+use Rattle.fv_plane.specs.Picture.{look_at, look_in, picture_from, Picture, IsPicture}
 use Rattle.clip_term.specs.declared.field.FieldOp.{FieldOp}
 use Rattle.clip_term.specs.declared.field.FieldOp.TheVariants as op
 use Rattle.clip_term.proofs.ListedLemmas.{listed}

@@ -4,12 +4,11 @@ use Rattle.std.specs.List.{All}
 use Rattle.fv_plane.specs.declared.format.Field.{Field}
 use Rattle.fv_plane.specs.declared.format.Shape.{Shape}
 use Rattle.fv_plane.specs.Format.{IsLegal}
-use Rattle.fv_plane.specs.Look.{look_in, picture_from}
-use Rattle.fv_plane.specs.Picture.{Picture}
+use Rattle.fv_plane.specs.Picture.{look_in, picture_from, Picture}
 use Rattle.fv_plane.specs.Refusals.{first_fault}
 use Rattle.clip_term.specs.declared.field.FieldOp.{FieldOp}
 use Rattle.clip_term.specs.declared.field.FieldOp.TheVariants as op
-use Rattle.clip_term.specs.Field.{field_at, field_numbers, field_refusals, field_shape, other_row, woven_from}
+use Rattle.clip_term.specs.Time.{field_at, field_numbers, field_refusals, field_shape, other_row, woven_from}
 use Rattle.clip_term.specs.Refusals.{no_info}
 use Rattle.clip_term.specs.Terms.{no_picture}
 

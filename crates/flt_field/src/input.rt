@@ -1,6 +1,6 @@
 // The frames that a frame is made of.
 ghost use Rattle.std.specs.Prelude.{◌≡◌, ◌<◌, slice_get};
-ghost use Rattle.clip_term.specs.Field.{field_numbers};
+ghost use Rattle.clip_term.specs.Time.{field_numbers};
 
 use clip_term::FieldOp;
 

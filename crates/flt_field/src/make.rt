@@ -1,6 +1,6 @@
 // The maker of the filters on fields.
 ghost use Rattle.std.specs.Prelude.{◌≡◌, IfOk};
-ghost use Rattle.fv_plane.specs.Look.{look_in, picture_from};
+ghost use Rattle.fv_plane.specs.Picture.{look_in, picture_from};
 ghost use Rattle.flt_field.specs.Made.{CanMake, field_picture, takes_memory};
 
 use crate::rows::{by_rows, which_field};

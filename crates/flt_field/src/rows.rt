@@ -2,7 +2,7 @@
 ghost use Rattle.std.specs.Prelude.{◌≡◌, ◌<◌, ℕ, IfOk, true};
 ghost use Rattle.fv_plane.specs.Format.{IsLegal, planes, plane_height};
 ghost use Rattle.fv_plane.specs.Picture.{IsPicture, row_of, with_row};
-ghost use Rattle.clip_term.specs.Field as f;
+ghost use Rattle.clip_term.specs.Time as f;
 ghost use Rattle.flt_field.specs.Made.{CanMake, field_picture, shape_made, shape_of, takes_memory};
 ghost use Rattle.flt_field.specs.Made.{picture_for, row_for};
 

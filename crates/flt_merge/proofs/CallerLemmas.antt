@@ -8,8 +8,7 @@ use Rattle.fv_plane.specs.declared.format.Info.{Info}
 use Rattle.fv_plane.specs.declared.format.Shape.{Shape}
 use Rattle.fv_plane.specs.declared.format.PixelType.TheVariants.{Y8}
 use Rattle.fv_plane.specs.Format.{IsLegal, plane_width, plane_height}
-use Rattle.fv_plane.specs.Picture.{Picture}
-use Rattle.fv_plane.specs.Look.{Look, look_in, picture_from}
+use Rattle.fv_plane.specs.Picture.{Picture, Look, look_in, picture_from}
 use Rattle.fv_plane.specs.Refusals.{Refusals, first_fault}
 use Rattle.fv_plane.proofs.LookLemmas.{picture_same}
 use Rattle.clip_term.specs.declared.fault.FilterFault.{FilterFault}
@@ -18,8 +17,7 @@ use Rattle.clip_term.specs.declared.op.JoinOp.{JoinOp}
 use Rattle.clip_term.specs.declared.op.JoinOp.TheVariants as op
 use Rattle.clip_term.specs.Refusals.{info_at, no_info, rate_of, sized, same_format, same_size, unless, limits}
 use Rattle.clip_term.specs.Join.{beside, beneath, kind_of, join_refusals, join_length, join_shape, join_at, check_join, chroma_refusals}
-use Rattle.clip_term.specs.ClipTerm.{joined}
-use Rattle.clip_term.specs.Terms.{make, join_inputs}
+use Rattle.clip_term.specs.Terms.{joined, make, join_inputs}
 use Rattle.clip_term.proofs.PassedLemmas.{passed, limits_shape}
 use Rattle.flt_merge.specs.Joined.{infos_in, shape_joined, join_picture, CanJoin}
 

@@ -7,8 +7,7 @@ use Rattle.fv_plane.specs.declared.format.PixelType.{PixelType}
 use Rattle.fv_plane.specs.declared.format.PixelType.TheVariants.{Y8, YV12, YV16, YV24, YV411}
 use Rattle.fv_plane.specs.declared.format.Shape.{Shape}
 use Rattle.fv_plane.specs.Format.{HasSamePlane, sub_w, sub_h}
-use Rattle.fv_plane.specs.Picture.{Picture}
-use Rattle.fv_plane.specs.Look.{Look, look_in, look_at, picture_from}
+use Rattle.fv_plane.specs.Picture.{Picture, Look, look_in, look_at, picture_from}
 use Rattle.fv_plane.specs.Refusals.{Refusals, first_fault}
 use Rattle.fv_plane.proofs.LookLemmas.{picture_same}
 use Rattle.clip_term.specs.declared.fault.FilterFault.{FilterFault}

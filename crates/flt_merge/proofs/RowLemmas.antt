@@ -6,10 +6,9 @@ use Rattle.std.proofs.lemmas.Simd.{length-zip2, get_or-zip2}
 use Rattle.fv_plane.specs.declared.format.PixelType.{PixelType}
 use Rattle.fv_plane.specs.declared.format.PixelType.TheVariants.{Y8, YV12, YV16, YV24, YV411}
 use Rattle.fv_plane.specs.declared.format.Shape.{Shape}
-use Rattle.fv_plane.specs.Bytes.{wide_samples, bytes_of_row, row_of_bytes}
+use Rattle.fv_plane.specs.Picture.{wide_samples, bytes_of_row, row_of_bytes, Picture, IsPicture, row_of}
 use Rattle.fv_plane.specs.Format.{HasSamePlane, planes, sub_w, sub_h, plane_width, plane_height}
 use Rattle.fv_plane.specs.Made.{bytes_made}
-use Rattle.fv_plane.specs.Picture.{Picture, IsPicture, row_of}
 use Rattle.fv_plane.proofs.FillLemmas.{Lists, row_listed}
 use Rattle.fv_plane.proofs.CallerLemmas.{length-row, row_again}
 use Rattle.fv_plane.proofs.WideLemmas.{pair, length-wide_samples, wide_samples-at}

@@ -11,11 +11,9 @@ use Rattle.fv_plane.specs.declared.format.PixelType.{PixelType}
 use Rattle.fv_plane.specs.declared.format.PixelType.TheVariants.{Y8, YV12, YV16, YV24, YV411}
 use Rattle.fv_plane.specs.declared.format.Shape.{Shape}
 use Rattle.fv_plane.specs.Format.{planes, sub_w, sub_h, plane_width, plane_height, largest_sample}
-use Rattle.fv_plane.specs.Picture.{Picture, IsPicture, row_of}
-use Rattle.fv_plane.specs.Look.{look_in}
+use Rattle.fv_plane.specs.Picture.{Picture, IsPicture, row_of, look_in, bytes_of_row, bytes_of_rows, FitsRow, FitBytes}
 use Rattle.fv_plane.specs.Made.{FitsLook}
 use Rattle.fv_rows.specs.Rows.{flat_rows}
-use Rattle.fv_plane.specs.Bytes.{bytes_of_row, bytes_of_rows, FitsRow, FitBytes}
 use Rattle.fv_plane.proofs.CallerLemmas.{fit_row, length-plane, length-row}
 use Rattle.fv_plane.proofs.BytesLemmas.{bytes_of_row-nil, bytes_of_row-same, bytes_of_row-append, bytes_of_rows-flat}
 use Rattle.fv_plane.proofs.FillLemmas.{Lists, row_listed}

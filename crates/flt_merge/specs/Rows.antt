@@ -3,9 +3,7 @@ use Rattle.std.specs.Prelude.{◌≡◌, ℕ, ◌+◌, ◌/◌, List, [], if◌t
 use Rattle.std.specs.List.{All, flat_map, sum_by}
 use Rattle.std.specs.Simd.Lanes.{zip2}
 use Rattle.fv_plane.specs.declared.format.Shape.{Shape}
-use Rattle.fv_plane.specs.Bytes.{bytes_of_row}
-use Rattle.fv_plane.specs.Picture.{Picture, row_of}
-use Rattle.fv_plane.specs.Look.{Look, look_in}
+use Rattle.fv_plane.specs.Picture.{bytes_of_row, Picture, row_of, Look, look_in}
 
 -- luma of one picture and chroma of another
 abbrev pub one_of_two : Picture → Picture → ℕ → Picture

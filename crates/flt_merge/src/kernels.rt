@@ -1,7 +1,7 @@
 // Rows of samples: vectors of 32 samples, and plain loops, which the compiler turns into vector instructions.
 ghost use Rattle.std.specs.Prelude.{◌≡◌, ◌*◌, length};
 ghost use Rattle.std.specs.Simd.Lanes.{zip2};
-ghost use Rattle.fv_plane.specs.Bytes.{wide_samples};
+ghost use Rattle.fv_plane.specs.Picture.{wide_samples};
 ghost use Rattle.flt_merge.specs.Rows.{mean};
 
 use fv_plane::wide_sample;

@@ -1,9 +1,8 @@
 // `Merge`: the mean of two pictures, sample by sample.
 ghost use Rattle.std.specs.Prelude.{◌≡◌, IfOk, false, length};
 ghost use Rattle.std.specs.Simd.Lanes.{zip2};
-ghost use Rattle.fv_plane.specs.Bytes.{bytes_of_row, row_of_bytes};
+ghost use Rattle.fv_plane.specs.Picture.{bytes_of_row, row_of_bytes, picture_from};
 ghost use Rattle.fv_plane.specs.Format.{plane_width, row_bytes};
-ghost use Rattle.fv_plane.specs.Look.{picture_from};
 ghost use Rattle.flt_merge.specs.Rows.{mean, look_of_means};
 
 use crate::kernels::{merge_row, merge_wide_row};

@@ -1,7 +1,7 @@
 // Pictures whose planes are planes of others.
 ghost use Rattle.std.specs.Prelude.{◌≡◌, IfOk};
 ghost use Rattle.fv_plane.specs.Format.{IsLegal, HasSamePlane};
-ghost use Rattle.fv_plane.specs.Look.{picture_from};
+ghost use Rattle.fv_plane.specs.Picture.{picture_from};
 ghost use Rattle.flt_merge.specs.Rows.{one_of_two, one_of_three, look_of_two, look_of_luma};
 
 use fv_plane::{Frame, FrameBuilder, Shape};

@@ -2,8 +2,7 @@
 ghost use Rattle.std.specs.Prelude.{◌≡◌, ◌<◌, ◌≤◌, IfOk, false, length, map};
 ghost use Rattle.std.specs.List.{All};
 ghost use Rattle.fv_plane.specs.Format.{IsLegal, planes, plane_height};
-ghost use Rattle.fv_plane.specs.Look.{look_in};
-ghost use Rattle.fv_plane.specs.Picture.{IsPicture};
+ghost use Rattle.fv_plane.specs.Picture.{look_in, IsPicture};
 ghost use Rattle.clip_term.specs.declared.op.JoinOp.TheVariants.{StackHorizontal, StackVertical};
 ghost use Rattle.clip_term.specs.Join.{join_at};
 ghost use Rattle.flt_merge.specs.Joined.{AreBeside, infos_in, shape_joined, join_picture};

@@ -6,7 +6,7 @@ use Rattle.std.proofs.lemmas.List.{drop_more}
 use Rattle.std.proofs.lemmas.List.Sums.{sum_by-cons}
 use Rattle.fv_plane.specs.declared.format.Shape.{Shape}
 use Rattle.fv_plane.specs.Format.{plane_width, plane_height}
-use Rattle.fv_plane.specs.Look.{Look}
+use Rattle.fv_plane.specs.Picture.{Look}
 use Rattle.clip_term.specs.Soft.{place, total, divisor_of, weighed}
 use Rattle.flt_rows.specs.declared.narrow.Square.{Square}
 use Rattle.flt_rows.specs.declared.narrow.Weights.{Weights}

@@ -9,8 +9,8 @@ use Rattle.std.proofs.lemmas.Int.{ints, unsigned_abs-mul}
 use Rattle.std.proofs.lemmas.Nat.{mul-le}
 use Rattle.fv_plane.specs.declared.format.Shape.{Shape}
 use Rattle.fv_plane.specs.Format.{plane_width, plane_height}
-use Rattle.fv_plane.specs.Look.{Look}
-use Rattle.clip_term.specs.Arguments.{is_weight}
+use Rattle.fv_plane.specs.Picture.{Look}
+use Rattle.clip_term.specs.Refusals.{is_weight}
 use Rattle.clip_term.specs.Soft.{place, weighed, total}
 use Rattle.clip_term.specs.Terms.{is_matrix}
 use Rattle.clip_term.proofs.PassedLemmas.{all_at}

@@ -1,7 +1,7 @@
 // What is done to rows of samples of two bytes. Plain loops over slices, which the compiler turns into vector
 // instructions.
 ghost use Rattle.std.specs.Prelude.{◌≡◌, ◌+◌, ◌*◌, ◌/◌, ◌<◌, ◌≤◌, ℕ, EachIndex, length, slice_index, [], ◌∷◌};
-ghost use Rattle.fv_plane.specs.Bytes.{wide_samples};
+ghost use Rattle.fv_plane.specs.Picture.{wide_samples};
 ghost use Rattle.clip_term.specs.Soft.{near, softened};
 
 use fv_plane::wide_sample;

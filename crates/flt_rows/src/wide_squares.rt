@@ -1,7 +1,7 @@
 // Squares of nine weights, and of samples of two bytes, that are so small that 16 bits hold each sum. What `narrow` has
 // for any samples is used here too.
 ghost use Rattle.std.specs.Prelude.{◌≡◌, ◌+◌, ◌*◌, ◌^◌, ◌<◌, ◌≤◌, pos, ◌*ℤ◌, EachIndex, length, slice_index, unsigned_abs};
-ghost use Rattle.fv_plane.specs.Bytes.{wide_samples};
+ghost use Rattle.fv_plane.specs.Picture.{wide_samples};
 ghost use Rattle.flt_rows.specs.Squares.{size_of, size_of_square, weighed_at, weighed_square, weighed_around, shown, AreAtMost, IsEnding};
 
 use crate::narrow::{Ending, Square, Weights, add, show};

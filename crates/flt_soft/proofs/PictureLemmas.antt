@@ -7,8 +7,7 @@ use Rattle.fv_plane.specs.declared.format.PixelType.{PixelType}
 use Rattle.fv_plane.specs.declared.format.PixelType.TheVariants.{Y8, YV12, YV16, YV24, YV411}
 use Rattle.fv_plane.specs.declared.format.Shape.{Shape}
 use Rattle.fv_plane.specs.Format.{IsLegal, largest_sample, planes, plane_width, plane_height, row_bytes, scale, sub_w}
-use Rattle.fv_plane.specs.Picture.{Picture, IsPicture, row_of}
-use Rattle.fv_plane.specs.Look.{Look, look_in, look_at, row_from}
+use Rattle.fv_plane.specs.Picture.{Picture, IsPicture, row_of, Look, look_in, look_at, row_from}
 use Rattle.fv_plane.specs.Made.{IsPlaneOf}
 use Rattle.fv_plane.proofs.CallerLemmas.{bytes_of_narrow}
 use Rattle.fv_plane.proofs.PictureLemmas.{five_depths}

@@ -9,8 +9,7 @@ use Rattle.std.proofs.lemmas.Int.{ints}
 use Rattle.std.proofs.lemmas.List.Sums.{sum_by_more}
 use Rattle.fv_plane.specs.declared.format.Shape.{Shape}
 use Rattle.fv_plane.specs.Format.{plane_width, scale}
-use Rattle.fv_plane.specs.Picture.{Picture}
-use Rattle.fv_plane.specs.Look.{Look, look_in, look_at, nothing}
+use Rattle.fv_plane.specs.Picture.{Picture, Look, look_in, look_at, nothing}
 use Rattle.fv_plane.proofs.FillLemmas.{row_listed}
 use Rattle.clip_term.specs.declared.op.SoftOp.TheVariants.{TemporalSoften}
 use Rattle.fv_plane.specs.Refusals.{first_fault}

@@ -2,10 +2,8 @@
 use Rattle.std.specs.Prelude.{◌≡◌, ℕ, ◌+◌, ◌*◌, ◌/◌, ◌<◌, ◌≤◌, ◌⊎◌, ℤ, Bool, List, map, length, slice_index_or, IsTrue, None}
 use Rattle.std.specs.List.{All}
 use Rattle.fv_plane.specs.declared.format.Shape.{Shape}
-use Rattle.fv_plane.specs.Picture.{Picture, row_of}
-use Rattle.fv_plane.specs.Bytes.{bytes_of_row}
+use Rattle.fv_plane.specs.Picture.{Picture, row_of, bytes_of_row, Look, look_at, look_in, picture_from, row_from}
 use Rattle.fv_plane.specs.Format.{planes, plane_width, plane_height, sample_bytes}
-use Rattle.fv_plane.specs.Look.{Look, look_at, look_in, picture_from, row_from}
 use Rattle.fv_plane.specs.Refusals.{first_fault}
 use Rattle.clip_term.specs.declared.op.SoftOp.{SoftOp}
 use Rattle.clip_term.specs.Soft.{soft_row, samples_at, soft_refusals, soft_at, softened}

@@ -1,7 +1,7 @@
 // Sums of the samples around a place.
 ghost use Rattle.std.specs.Prelude.{◌≡◌, ◌<◌, ◌≤◌, ◌+◌, ◌^◌, ◌⊎◌, ℕ, pos, negsuc, ◌-ℤ◌, ◌≤ℤ◌, length, EachIndex, slice_index, slice_index_or, unsigned_abs, vec_len};
 ghost use Rattle.fv_plane.specs.Format.{planes, plane_width, plane_height, row_bytes};
-ghost use Rattle.fv_plane.specs.Look.{look_in};
+ghost use Rattle.fv_plane.specs.Picture.{look_in};
 ghost use Rattle.clip_term.specs.declared.op.SoftOp.TheVariants.{GeneralConvolution};
 ghost use Rattle.clip_term.specs.Soft.{place, side_of, weighed, total, divisor_of, convolved};
 ghost use Rattle.flt_soft.specs.Pictures.{CanSoften, bytes_made, shape_of};

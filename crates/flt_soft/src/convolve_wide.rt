@@ -1,9 +1,7 @@
 // Sums of the samples around a place, where a sample has two bytes.
 ghost use Rattle.std.specs.Prelude.{◌≡◌, ◌<◌, ◌≤◌, ◌+◌, ◌*◌, ◌^◌, ◌⊎◌, ℕ, pos, ◌*ℤ◌, length, EachIndex, slice_index, slice_index_or, vec_len};
-ghost use Rattle.fv_plane.specs.Bytes.{wide_bytes};
+ghost use Rattle.fv_plane.specs.Picture.{wide_bytes, look_in, row_from, row_of};
 ghost use Rattle.fv_plane.specs.Format.{IsLegal, largest_sample, planes, plane_width, plane_height, sample_bytes, scale};
-ghost use Rattle.fv_plane.specs.Look.{look_in, row_from};
-ghost use Rattle.fv_plane.specs.Picture.{row_of};
 ghost use Rattle.clip_term.specs.Soft.{side_of, weighed, convolved};
 ghost use Rattle.flt_rows.specs.Rows.{extended, AreWeights, IsBias, IsWithin, AreWithin};
 ghost use Rattle.flt_rows.specs.Squares.{size_of_all};

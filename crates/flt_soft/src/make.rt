@@ -2,8 +2,7 @@
 ghost use Rattle.std.specs.Prelude.{◌≡◌, ◌<◌, ◌≤◌, max, not, false, IfOk, OnErr, length, map};
 ghost use Rattle.std.specs.List.{All};
 ghost use Rattle.fv_plane.specs.Format.{planes, plane_height, plane_width, row_bytes};
-ghost use Rattle.fv_plane.specs.Look.{look_in};
-ghost use Rattle.fv_plane.specs.Picture.{IsPicture};
+ghost use Rattle.fv_plane.specs.Picture.{look_in, IsPicture};
 ghost use Rattle.clip_term.specs.Soft.{soft_at};
 ghost use Rattle.flt_soft.specs.Pictures.{CanSoften, CanFill, bytes_made, keeps_plane, shape_of, soft_picture};
 

@@ -1,8 +1,7 @@
 // Rows of the inputs.
 ghost use Rattle.std.specs.Prelude.{◌≡◌, ◌<◌, ◌*◌, length};
-ghost use Rattle.fv_plane.specs.Bytes.{wide_samples};
+ghost use Rattle.fv_plane.specs.Picture.{wide_samples, row_of};
 ghost use Rattle.fv_plane.specs.Format.{planes, plane_width, plane_height, sample_bytes};
-ghost use Rattle.fv_plane.specs.Picture.{row_of};
 ghost use Rattle.flt_soft.specs.Pictures.{HaveShape, row_in, shape_of};
 
 use fv_plane::Frame;

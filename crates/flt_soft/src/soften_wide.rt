@@ -1,6 +1,6 @@
 // Means of frames that follow each other, where a sample has two bytes.
 ghost use Rattle.std.specs.Prelude.{◌≡◌, ◌<◌, ◌≤◌, ◌*◌, ◌/◌, length, EachIndex, slice_index, vec_len};
-ghost use Rattle.fv_plane.specs.Bytes.{wide_bytes};
+ghost use Rattle.fv_plane.specs.Picture.{wide_bytes};
 ghost use Rattle.fv_plane.specs.Format.{IsLegal, plane_width, sample_bytes, scale};
 ghost use Rattle.flt_soft.specs.Pictures.{AreAround, means_at, row_of_means, shape_of};
 

@@ -7,8 +7,7 @@ use Rattle.fv_plane.specs.declared.format.PixelType.{PixelType}
 use Rattle.fv_plane.specs.declared.format.PixelType.TheVariants.{Y8, YV12, YV16, YV24, YV411}
 use Rattle.fv_plane.specs.declared.format.Shape.{Shape}
 use Rattle.fv_plane.specs.Format.{sub_w, plane_width, plane_height}
-use Rattle.fv_plane.specs.Look.{across, down, look_in, row_from}
-use Rattle.fv_plane.specs.Picture.{Picture, row_of}
+use Rattle.fv_plane.specs.Picture.{across, down, look_in, row_from, Picture, row_of}
 use Rattle.fv_plane.proofs.FillLemmas.{row_listed}
 use Rattle.fv_plane.specs.Refusals.{first_fault}
 use Rattle.clip_term.specs.declared.fault.FilterFault.{FilterFault}

@@ -6,10 +6,8 @@ use Rattle.std.proofs.lemmas.Bool.Decides.{nat_tests}
 use Rattle.std.proofs.lemmas.List.{get_or-map, get_or_past, length-map}
 use Rattle.std.proofs.Math.Pow.{pow_mono}
 use Rattle.fv_plane.specs.declared.format.Shape.{Shape}
-use Rattle.fv_plane.specs.Bytes.{FitsRow}
+use Rattle.fv_plane.specs.Picture.{FitsRow, Look, look_in, picture_from, row_from, Picture, IsPicture, row_of}
 use Rattle.fv_plane.specs.Format.{IsLegal, planes, plane_width, plane_height}
-use Rattle.fv_plane.specs.Look.{Look, look_in, picture_from, row_from}
-use Rattle.fv_plane.specs.Picture.{Picture, IsPicture, row_of}
 use Rattle.fv_plane.proofs.CallerLemmas.{length-row}
 use Rattle.fv_plane.proofs.FillLemmas.{Filled, filled_done, row_listed}
 use Rattle.fv_plane.proofs.PictureLemmas.{five_depths}

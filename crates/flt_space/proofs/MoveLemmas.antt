@@ -2,10 +2,8 @@
 use Rattle.std.proofs.Common.{◌≡◌, ◌∙◌, ℕ, zero, suc, refl, ◌+◌, ◌-◌, ◌*◌, ◌<◌, ◌≤◌, List, ◌∷◌, ◌++◌, length, take, drop, replicate, ap, sym, arith, true, false}
 use Rattle.std.specs.Prelude.{ℤ}
 use Rattle.std.proofs.lemmas.List.{take_all, length-take-le, length-drop}
-use Rattle.fv_plane.specs.Bytes.{wide_bytes}
+use Rattle.fv_plane.specs.Picture.{wide_bytes, across, down, look_in, row_from, Picture, IsPicture, row_of}
 use Rattle.fv_plane.specs.Format.{planes, plane_width, plane_height}
-use Rattle.fv_plane.specs.Look.{across, down, look_in, row_from}
-use Rattle.fv_plane.specs.Picture.{Picture, IsPicture, row_of}
 use Rattle.fv_plane.proofs.CallerLemmas.{length-row}
 use Rattle.fv_plane.proofs.WideLemmas.{wide_bytes-append, wide_bytes-drop, wide_bytes-take}
 use Rattle.clip_term.specs.Refusals.{nat_of, paint}

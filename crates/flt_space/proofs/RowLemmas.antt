@@ -2,9 +2,8 @@
 use Rattle.std.proofs.Common.{◌≡◌, ℕ, ◌*◌, ◌<◌, ◌==◌, ◌∙◌, List, None, true, false, length, get_or, ap, arith, ne_eqb}
 use Rattle.fv_plane.specs.declared.format.Shape.{Shape}
 use Rattle.fv_plane.specs.Format.{planes, plane_width, plane_height, row_bytes}
-use Rattle.fv_plane.specs.Look.{look_in}
+use Rattle.fv_plane.specs.Picture.{look_in, Picture, IsPicture}
 use Rattle.fv_plane.specs.Made.{FitsLook, IsPlaneOf}
-use Rattle.fv_plane.specs.Picture.{Picture, IsPicture}
 use Rattle.fv_plane.specs.Refusals.{first_fault}
 use Rattle.fv_plane.proofs.CallerLemmas.{two_bytes}
 use Rattle.fv_plane.proofs.FillLemmas.{row_listed}

@@ -2,8 +2,7 @@
 use Rattle.std.specs.Prelude.{◌≡◌, ℕ, ◌-◌, ◌<◌, pos, Bool, not, None, false, List, ◌++◌, length, map, replicate}
 use Rattle.fv_plane.specs.declared.format.Shape.{Shape}
 use Rattle.fv_plane.specs.Format.{IsLegal, planes, plane_width, plane_height, row_bytes}
-use Rattle.fv_plane.specs.Look.{look_in, row_from}
-use Rattle.fv_plane.specs.Picture.{Picture, row_of}
+use Rattle.fv_plane.specs.Picture.{look_in, row_from, Picture, row_of}
 use Rattle.fv_plane.specs.Refusals.{first_fault}
 use Rattle.clip_term.specs.declared.op.SpaceOp.{SpaceOp}
 use Rattle.clip_term.specs.declared.op.SpaceOp.TheVariants as op

@@ -1,8 +1,7 @@
 // Pictures inside borders of one colour.
 ghost use Rattle.std.specs.Prelude.{◌≡◌, ◌*◌, ℕ, ℤ, None, IfOk, false, length};
-ghost use Rattle.fv_plane.specs.Bytes.{wide_bytes};
+ghost use Rattle.fv_plane.specs.Picture.{wide_bytes, across, down, look_in};
 ghost use Rattle.fv_plane.specs.Format.{IsLegal, plane_width, sample_bytes};
-ghost use Rattle.fv_plane.specs.Look.{across, down, look_in};
 ghost use Rattle.fv_plane.specs.Refusals.{first_fault};
 ghost use Rattle.clip_term.specs.declared.op.SpaceOp.{SpaceOp};
 ghost use Rattle.clip_term.specs.declared.op.SpaceOp.TheVariants.{AddBorders, LetterBox};

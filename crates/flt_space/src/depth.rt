@@ -1,8 +1,7 @@
 // `ConvertBits`: samples of other bits.
 ghost use Rattle.std.specs.Prelude.{◌≡◌, ◌-◌, ◌*◌, ◌^◌, ◌<◌, ◌≤◌, pos, None, IfOk, false, length};
-ghost use Rattle.fv_plane.specs.Bytes.{FitsRow, bytes_of_row};
+ghost use Rattle.fv_plane.specs.Picture.{FitsRow, bytes_of_row, look_in};
 ghost use Rattle.fv_plane.specs.Format.{IsLegal, planes, plane_width, plane_height, sample_bytes};
-ghost use Rattle.fv_plane.specs.Look.{look_in};
 ghost use Rattle.fv_plane.specs.Refusals.{first_fault};
 ghost use Rattle.clip_term.specs.declared.op.SpaceOp.TheVariants.{ConvertBits};
 ghost use Rattle.clip_term.specs.Space.{space_at, space_picture, space_refusals, space_shape};

@@ -1,8 +1,7 @@
 // Filters that make each row of a picture by itself.
 ghost use Rattle.std.specs.Prelude.{◌≡◌, ◌<◌, IfOk, None, length};
-ghost use Rattle.fv_plane.specs.Bytes.{bytes_of_row};
+ghost use Rattle.fv_plane.specs.Picture.{bytes_of_row, look_in};
 ghost use Rattle.fv_plane.specs.Format.{IsLegal, planes, plane_width, plane_height, sample_bytes};
-ghost use Rattle.fv_plane.specs.Look.{look_in};
 ghost use Rattle.fv_plane.specs.Refusals.{first_fault};
 ghost use Rattle.clip_term.specs.declared.op.SpaceOp.{SpaceOp};
 ghost use Rattle.clip_term.specs.Space.{space_at, space_shape, space_picture, space_refusals};

@@ -2,9 +2,8 @@
 // read the samples of a row's bytes where they use them.
 ghost use Rattle.std.specs.Prelude.{◌≡◌, ◌-◌, ◌+◌, ◌*◌, ◌/◌, ◌^◌, ◌<◌, ◌≤◌, ℕ, min, EachIndex, length, slice_index};
 ghost use Rattle.clip_term.specs.Space.{limited};
-ghost use Rattle.fv_plane.specs.Bytes.{wide_bytes, wide_samples};
+ghost use Rattle.fv_plane.specs.Picture.{wide_bytes, wide_samples, row_of};
 ghost use Rattle.fv_plane.specs.Format.{planes, plane_width, plane_height, sample_bytes};
-ghost use Rattle.fv_plane.specs.Picture.{row_of};
 ghost use Rattle.flt_space.specs.Rows.{padded};
 
 use fv_plane::{Frame, wide_sample, write_samples};

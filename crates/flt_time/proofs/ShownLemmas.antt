@@ -2,14 +2,13 @@
 use Rattle.std.proofs.Common.{◌≡◌, ℕ, ◌<◌, ℤ, List, length, arith, refl, ap, sym, subst, Result, Ok, Err, IsOkAnd}
 use Rattle.fv_plane.specs.declared.format.Info.{Info}
 use Rattle.fv_plane.specs.declared.format.Shape.{Shape}
-use Rattle.fv_plane.specs.Rate.{Rate, lowest}
+use Rattle.fv_plane.specs.Info.{Rate, lowest}
 use Rattle.clip_term.specs.declared.fault.FilterFault.{FilterFault}
 use Rattle.clip_term.specs.declared.op.Origin.{Origin}
 use Rattle.clip_term.specs.declared.op.TimeOp.{TimeOp}
 use Rattle.clip_term.specs.declared.op.TimeOp.TheVariants as time_op
 use Rattle.clip_term.specs.Refusals.{info_at, limits, limit_refusals}
-use Rattle.clip_term.specs.ClipTerm.{time}
-use Rattle.clip_term.specs.Terms.{AreLawful, IsAsked, IsSound}
+use Rattle.clip_term.specs.Terms.{time, AreLawful, IsAsked, IsSound}
 use Rattle.clip_term.specs.Time.{check_time, duplicated, frame_at, from_input, in_range, kept, time_length, time_rate, time_refusals}
 use Rattle.clip_term.proofs.PassedLemmas.{Passed, passed}
 use Rattle.clip_term.proofs.AskedLemmas.{asks_in_range}

@@ -1,9 +1,8 @@
 // Which frame of which input is shown.
 ghost use Rattle.std.specs.Prelude.{◌≡◌, ◌<◌, length, IsOkAnd};
 ghost use Rattle.fv_plane.specs.declared.format.Info.{Info};
-ghost use Rattle.clip_term.specs.ClipTerm.{time};
+ghost use Rattle.clip_term.specs.Terms.{time, AreLawful, IsAsked, IsSound};
 ghost use Rattle.clip_term.specs.Refusals.{info_at};
-ghost use Rattle.clip_term.specs.Terms.{AreLawful, IsAsked, IsSound};
 ghost use Rattle.clip_term.specs.Time.{check_time, frame_at, from_input, source_number};
 
 use crate::named::{duplicated_number, kept_number};

@@ -6,8 +6,7 @@ use Rattle.std.proofs.Math.Nat.{add-mul}
 use borrow.Rule.Slice.PartMut.{put_mid}
 use Rattle.fv_plane.specs.declared.format.Shape.{Shape}
 use Rattle.fv_plane.specs.Format.{plane_width, plane_height, row_bytes, sample_bytes}
-use Rattle.fv_plane.specs.Picture.{Picture, sample_of}
-use Rattle.fv_plane.specs.Bytes.{row_of_bytes, wide_samples}
+use Rattle.fv_plane.specs.Picture.{Picture, sample_of, row_of_bytes, wide_samples}
 use Rattle.fv_plane.proofs.BytesLemmas.{length-row_of_bytes, row_of_bytes-take, row_of_bytes-drop}
 use Rattle.fv_plane.proofs.CallerLemmas.{narrow_of_bytes, wide_of_bytes}
 use Rattle.fv_plane.proofs.WideLemmas.{wide_samples-append}

@@ -8,9 +8,8 @@ use Rattle.std.proofs.lemmas.Bool.{cases_lt}
 use Rattle.fv_plane.specs.declared.format.PixelType.{PixelType}
 use Rattle.fv_plane.specs.declared.format.PixelType.TheVariants.{Y8, YV12, YV16, YV24, YV411}
 use Rattle.fv_plane.specs.Format.{plane_width, plane_height, sample_bytes}
-use Rattle.fv_plane.specs.Bytes.{row_of_bytes, rows_of_bytes, wide_bytes}
+use Rattle.fv_plane.specs.Picture.{row_of_bytes, rows_of_bytes, wide_bytes, Look, row_from}
 use Rattle.fv_plane.specs.declared.format.Shape.{Shape}
-use Rattle.fv_plane.specs.Look.{Look, row_from}
 use Rattle.fv_plane.specs.Refusals.{first_fault}
 use Rattle.fv_rows.specs.Rows.{rows_of}
 use Rattle.fv_plane.proofs.BytesLemmas.{decoded-rows_of, length-row_of_bytes}

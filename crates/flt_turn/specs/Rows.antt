@@ -1,10 +1,8 @@
 -- Rows of a turned plane that lie side by side.
 use Rattle.std.specs.Prelude.{◌≡◌, ℕ, ◌+◌, ◌*◌, ◌<◌, ◌≤◌, List, slice_index}
-use Rattle.fv_plane.specs.Bytes.{bytes_of_row, row_of_bytes}
+use Rattle.fv_plane.specs.Picture.{bytes_of_row, row_of_bytes, Look, look_in, Picture, row_of, sample_of}
 use Rattle.fv_plane.specs.declared.format.Shape.{Shape}
 use Rattle.fv_plane.specs.Format.{planes, plane_width, plane_height, sample_bytes}
-use Rattle.fv_plane.specs.Look.{Look, look_in}
-use Rattle.fv_plane.specs.Picture.{Picture, row_of, sample_of}
 use Rattle.clip_term.specs.declared.op.SpaceOp.{SpaceOp}
 use Rattle.clip_term.specs.Space.{space_at}
 

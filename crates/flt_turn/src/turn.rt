@@ -1,9 +1,7 @@
 // `TurnLeft` and `TurnRight`: pictures turned on their side.
 ghost use Rattle.std.specs.Prelude.{◌≡◌, ◌<◌, ◌≤◌, ◌+◌, ◌*◌, ◌-◌, ◌%◌, ◌^◌, ℕ, None, IfOk, length, slice_index};
-ghost use Rattle.fv_plane.specs.Bytes.{row_of_bytes};
+ghost use Rattle.fv_plane.specs.Picture.{row_of_bytes, look_in, sample_of};
 ghost use Rattle.fv_plane.specs.Format.{IsLegal, planes, plane_width, plane_height, row_bytes, sample_bytes};
-ghost use Rattle.fv_plane.specs.Look.{look_in};
-ghost use Rattle.fv_plane.specs.Picture.{sample_of};
 ghost use Rattle.fv_plane.specs.Refusals.{first_fault};
 ghost use Rattle.clip_term.specs.declared.op.SpaceOp.{SpaceOp};
 ghost use Rattle.clip_term.specs.declared.op.SpaceOp.TheVariants.{TurnLeft, TurnRight};

@@ -7,7 +7,7 @@ use Rattle.std.proofs.lemmas.List.{length-map, map-append, take-map, drop-map, g
 use Rattle.fv_plane.specs.declared.format.Shape.{Shape}
 use Rattle.fv_plane.specs.Format.{sample_bytes, largest_sample, scale}
 use Rattle.fv_rows.specs.Rows.{IsPlane, rows_of, flat_rows, rows_put}
-use Rattle.fv_plane.specs.Bytes.{wide_bytes, wide_samples, bytes_of_row, row_of_bytes, bytes_of_rows, decoded_rows, in_range, FitsRow, FitBytes, AreWhole}
+use Rattle.fv_plane.specs.Picture.{wide_bytes, wide_samples, bytes_of_row, row_of_bytes, bytes_of_rows, decoded_rows, in_range, FitsRow, FitBytes, AreWhole}
 use Rattle.fv_plane.proofs.PictureLemmas.{Bounded, Each, each-put}
 use Rattle.fv_rows.proofs.RowLemmas.{bounded-rows_of, bounded_take, rows_of-take}
 use Rattle.fv_plane.proofs.WideLemmas.{samples-bytes, bytes-samples, length-wide_bytes, length-wide_samples, wide_samples-drop, wide_samples-take, wide_bytes-drop, wide_bytes-take, wide_bytes-append, wide_samples-append, wide_samples-zero, wide_small}

@@ -6,8 +6,7 @@ use Rattle.fv_plane.specs.declared.format.PixelType.{PixelType}
 use Rattle.fv_plane.specs.declared.format.PixelType.TheVariants.{Y8, YV12, YV16, YV24, YV411}
 use Rattle.fv_plane.specs.declared.format.Shape.{Shape}
 use Rattle.fv_plane.specs.Format.{IsLegal, has_depth, has_whole_sides, largest_sample, scale, sample_bytes, planes, plane_width, plane_height, sub_w, sub_h, frame_bytes}
-use Rattle.fv_plane.specs.Picture.{Picture, IsPicture, row_of}
-use Rattle.fv_plane.specs.Bytes.{bytes_of, bytes_of_row, picture_of, row_of_bytes, in_range, wide_bytes, wide_samples, FitsRow, FitBytes}
+use Rattle.fv_plane.specs.Picture.{Picture, IsPicture, row_of, bytes_of, bytes_of_row, picture_of, row_of_bytes, in_range, wide_bytes, wide_samples, FitsRow, FitBytes}
 use Rattle.fv_plane.proofs.BytesLemmas.{row-bytes_of_row}
 use Rattle.fv_plane.proofs.CutLemmas as cut
 use Rattle.fv_plane.proofs.PictureLemmas as picture

@@ -10,9 +10,7 @@ use Rattle.fv_plane.specs.declared.format.PixelType.TheVariants.{Y8, YV12, YV16,
 use Rattle.fv_plane.specs.declared.format.Shape.{Shape}
 use Rattle.fv_plane.specs.Format.{HasFields, IsLegal, IsWindow, half_shape, planes, plane_width, plane_height, sub_h, window_at}
 use Rattle.fv_rows.specs.Rows.{IsPlane, every_second}
-use Rattle.fv_plane.specs.Picture.{Picture, IsPicture}
-use Rattle.fv_plane.specs.Bytes.{row_of_bytes, decoded_rows, chroma_list, frame_of, AreWhole}
-use Rattle.fv_plane.specs.Look.{Look, look_in, field_in}
+use Rattle.fv_plane.specs.Picture.{Picture, IsPicture, row_of_bytes, decoded_rows, chroma_list, frame_of, AreWhole, Look, look_in, field_in}
 use Rattle.fv_plane.proofs.BytesLemmas.{row_of_bytes-nil, decoded-same, whole_none}
 use Rattle.fv_plane.proofs.WindowLemmas.{plane_listed, frame_listed, get_or-picture_from, IsPicture-picture_from, legal_window}
 

@@ -6,8 +6,7 @@ use Rattle.std.proofs.lemmas.Bool.{cases_eq}
 use Rattle.std.specs.Prelude.{◌≢◌}
 use Rattle.fv_plane.specs.declared.format.Shape.{Shape}
 use Rattle.fv_plane.specs.Format.{planes, plane_width, plane_height}
-use Rattle.fv_plane.specs.Picture.{Picture, IsPicture, row_of, with_row}
-use Rattle.fv_plane.specs.Look.{Look, row_from, plane_from, picture_from}
+use Rattle.fv_plane.specs.Picture.{Picture, IsPicture, row_of, with_row, Look, row_from, plane_from, picture_from}
 
 -- the planes before this one, and the rows above row y, are those that are wanted
 pub record Filled (want : ℕ → ℕ → List ℕ) (shape : Shape) (made : Picture) (plane y : ℕ) : Type 0 where

@@ -5,9 +5,7 @@ use Rattle.std.proofs.lemmas.List.{length-reverse, get_or-reverse, get_or_past}
 use Rattle.fv_plane.specs.declared.format.Shape.{Shape}
 use Rattle.fv_plane.specs.Format.{planes, plane_width, plane_height}
 use Rattle.fv_rows.specs.Rows.{IsPlane}
-use Rattle.fv_plane.specs.Picture.{Picture, IsPicture}
-use Rattle.fv_plane.specs.Bytes.{row_of_bytes, decoded_rows, chroma_list, frame_of, AreWhole}
-use Rattle.fv_plane.specs.Look.{Look, look_in, upside_down}
+use Rattle.fv_plane.specs.Picture.{Picture, IsPicture, row_of_bytes, decoded_rows, chroma_list, frame_of, AreWhole, Look, look_in, upside_down}
 use Rattle.std.proofs.Math.ListN.{get_or-map}
 use Rattle.std.proofs.lemmas.Bool.{cases_lt}
 use Rattle.fv_plane.proofs.BytesLemmas.{whole_none}

@@ -2,8 +2,7 @@
 use Rattle.std.proofs.Common.{◌≡◌, ℕ, Some, refl, sym, subst, Bool, true, false, if◌then◌else◌, List, [], ◌∷◌, inl, inr}
 use Rattle.fv_plane.specs.declared.format.PixelType.{PixelType}
 use Rattle.fv_plane.specs.declared.format.PixelType.TheVariants.{Y8, YV12, YV16, YV24, YV411}
-use Rattle.fv_plane.specs.Format.{has_depth}
-use Rattle.fv_plane.specs.FormatNames.{FormatsAreNamed, format_named, name_of, has_name, all_formats}
+use Rattle.fv_plane.specs.Format.{has_depth, FormatsAreNamed, format_named, name_of, has_name, all_formats}
 use Rattle.fv_plane.specs.declared.format_names.Format.{Format}
 use Rattle.std.specs.List.{find, list_all}
 use Rattle.std.specs.Prelude.{IfSome, Option}

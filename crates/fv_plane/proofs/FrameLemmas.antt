@@ -8,8 +8,7 @@ use Rattle.std.proofs.lemmas.Nat.{mul-le}
 use Rattle.fv_plane.specs.declared.format.TheConstants.Shape.{MAX_BYTES}
 use Rattle.fv_plane.specs.Format.{IsLegal, HasSamePlane, planes, plane_width, plane_height, row_bytes, sample_bytes, frame_samples, sub_w, sub_h, largest_sample}
 use Rattle.fv_rows.specs.Rows.{IsPlane, rows_of, rows_put, bytes_put, flat_rows, width_of}
-use Rattle.fv_plane.specs.Picture.{Picture, IsPicture, with_row, with_rows}
-use Rattle.fv_plane.specs.Bytes.{bytes_of_row, row_of_bytes, bytes_of_rows, rows_of_bytes, decoded_rows, chroma_list, frame_of, AreWhole, IsStored, FitBytes}
+use Rattle.fv_plane.specs.Picture.{Picture, IsPicture, with_row, with_rows, bytes_of_row, row_of_bytes, bytes_of_rows, rows_of_bytes, decoded_rows, chroma_list, frame_of, AreWhole, IsStored, FitBytes}
 use Rattle.fv_rows.proofs.RowLemmas.{IsPlane-rows_of, IsPlane-other, rows_of-like, times-like, put_one}
 use Rattle.fv_plane.proofs.PictureLemmas.{IsPlane-rows_put, bounded-rows_put, IsPicture-set}
 use Rattle.fv_plane.proofs.BytesLemmas.{bytes-row_of_bytes, bytes_of_rows-decoded, get_or-decoded, IsPlane-decoded, IsPlane-stored, bounded-decoded, fits-bytes, decoded-rows_put, decoded-same, whole_none, whole-rows_of, whole-put, whole-same}

@@ -6,8 +6,7 @@ use Rattle.std.proofs.lemmas.Nat.Gcd.{IsGcd-from_zero, IsGcd-from_mod, le_from_I
 use Rattle.std.proofs.Math.Nat.{eq-zero_of_zero-dvd, mul-div_cancel', mul-dvd-mul_left, one-dvd}
 use Rattle.std.proofs.lemmas.Bool.{and_parts, and_from, cases_lt}
 use Rattle.std.proofs.lemmas.Nat.{mul-le}
-use Rattle.fv_plane.specs.Info.{IsRate}
-use Rattle.fv_plane.specs.Rate.{common_divisor, gcd}
+use Rattle.fv_plane.specs.Info.{IsRate, common_divisor, gcd}
 
 record Divisor (a b : ℕ) : Type 0 where
   pub value : ℕ

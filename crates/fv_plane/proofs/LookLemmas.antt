@@ -4,7 +4,7 @@ use Rattle.std.specs.List.{range_with_len}
 use Rattle.std.proofs.lemmas.List.FromFn.{get_or-map-range_with_len}
 use Rattle.fv_plane.specs.declared.format.Shape.{Shape}
 use Rattle.fv_plane.specs.Format.{planes, plane_width, plane_height}
-use Rattle.fv_plane.specs.Look.{Look, look_in, picture_from, plane_from, row_from}
+use Rattle.fv_plane.specs.Picture.{Look, look_in, picture_from, plane_from, row_from}
 
 -- a place inside a picture
 pub record Inside (shape : Shape) (p x y : ℕ) : Type 0 where

@@ -7,11 +7,9 @@ use Rattle.std.proofs.lemmas.List.FromFn.{map-range_with_len_more}
 use Rattle.fv_rows.specs.Rows.{rows_of}
 use Rattle.fv_rows.proofs.RowLemmas.{length-flat_rows, rows_of-flat_all}
 use Rattle.fv_plane.specs.declared.format.Shape.{Shape}
-use Rattle.fv_plane.specs.Bytes.{bytes_of_row, bytes_of_rows, decoded_rows, row_of_bytes, AreWhole}
+use Rattle.fv_plane.specs.Picture.{bytes_of_row, bytes_of_rows, decoded_rows, row_of_bytes, AreWhole, Look, picture_from, plane_from, row_from, Picture, IsPicture}
 use Rattle.fv_plane.specs.Format.{planes, plane_width, plane_height, row_bytes}
-use Rattle.fv_plane.specs.Look.{Look, picture_from, plane_from, row_from}
 use Rattle.fv_plane.specs.Made.{bytes_made, IsPlaneOf}
-use Rattle.fv_plane.specs.Picture.{Picture, IsPicture}
 use Rattle.fv_plane.proofs.BytesLemmas.{decoded-encoded, decoded-same, flat-encoded, row-bytes_of_row, whole_none, whole-same, IsPlane-encoded}
 use Rattle.fv_plane.proofs.WindowLemmas.{get_or-picture_from, IsPlane-plane_from, plane_listed}
 

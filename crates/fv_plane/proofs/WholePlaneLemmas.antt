@@ -4,10 +4,8 @@ use Rattle.std.proofs.lemmas.List.{get_or-set_same, get_or-set_other, get_or_app
 use Rattle.std.proofs.lemmas.Bool.{cases_eq, cases_lt}
 use Rattle.fv_plane.specs.declared.format.Shape.{Shape}
 use Rattle.fv_plane.specs.Format.{planes, plane_width, plane_height, row_bytes, sample_bytes}
-use Rattle.fv_plane.specs.Picture.{Picture, IsPicture, row_of, with_rows}
-use Rattle.fv_plane.specs.Look.{Look, look_in, row_from}
+use Rattle.fv_plane.specs.Picture.{Picture, IsPicture, row_of, with_rows, Look, look_in, row_from, bytes_of_row, bytes_of_rows, rows_of_bytes, decoded_rows}
 use Rattle.fv_rows.specs.Rows.{IsPlane, rows_of, rows_put, flat_rows}
-use Rattle.fv_plane.specs.Bytes.{bytes_of_row, bytes_of_rows, rows_of_bytes, decoded_rows}
 use Rattle.fv_plane.proofs.FillLemmas.{Filled, row_listed}
 use Rattle.fv_plane.proofs.CallerLemmas.{length-row}
 use Rattle.fv_rows.proofs.RowLemmas.{IsPlane-part, length-flat_rows, rows_of-flat_all}

@@ -3,7 +3,7 @@ use Rattle.std.proofs.Common.{◌≡◌, ℕ, zero, suc, ◌+◌, ◌*◌, ◌/�
 use Rattle.std.specs.Prelude.{min}
 use Rattle.std.proofs.lemmas.List.{ext_get_or, get_or_past, length-map}
 use Rattle.std.proofs.lemmas.Bool.{cases_eq, cases_lt}
-use Rattle.fv_plane.specs.Bytes.{wide_bytes, wide_samples}
+use Rattle.fv_plane.specs.Picture.{wide_bytes, wide_samples}
 
 -- the samples of the bytes of samples
 pub samples-bytes : (samples : List ℕ) → wide_samples (wide_bytes samples) ≡ samples

@@ -13,10 +13,8 @@ use Rattle.fv_plane.specs.declared.format.Shape.{Shape}
 use Rattle.fv_plane.specs.declared.format.Window.{Window}
 use Rattle.fv_plane.specs.Format.{IsLegal, IsWindow, planes, sub_w, sub_h, plane_width, plane_height, sample_bytes, largest_sample, has_depth, frame_samples, window_shape, shape_of_plane}
 use Rattle.fv_rows.specs.Rows.{IsPlane, rows_part}
-use Rattle.fv_plane.specs.Picture.{Picture, IsPicture}
-use Rattle.fv_plane.specs.Bytes.{row_of_bytes, decoded_rows, chroma_list, frame_of, AreWhole}
+use Rattle.fv_plane.specs.Picture.{Picture, IsPicture, row_of_bytes, decoded_rows, chroma_list, frame_of, AreWhole, Look, across, down, look_in, row_from, plane_from, picture_from, picture_in, plane_alone}
 use Rattle.fv_plane.proofs.BytesLemmas.{row_of_bytes-take, row_of_bytes-drop, decoded-same, whole_none, whole-part}
-use Rattle.fv_plane.specs.Look.{Look, across, down, look_in, row_from, plane_from, picture_from, picture_in, plane_alone}
 use Rattle.fv_plane.proofs.PictureLemmas.{one_or_three}
 use Rattle.fv_plane.proofs.FillLemmas.{row_listed}
 use Rattle.fv_plane.proofs.FrameLemmas.{frame_is, plane_height_le}

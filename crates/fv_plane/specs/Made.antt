@@ -1,10 +1,8 @@
 -- What is made of a picture row by row.
 use Rattle.std.specs.Prelude.{◌≡◌, ℕ, ◌<◌, ◌≤◌, List}
 use Rattle.fv_plane.specs.declared.format.Shape.{Shape}
-use Rattle.fv_plane.specs.Bytes.{bytes_of_row}
+use Rattle.fv_plane.specs.Picture.{bytes_of_row, Look, look_in, row_from, Picture}
 use Rattle.fv_plane.specs.Format.{HasSamePlane, largest_sample, planes, plane_width}
-use Rattle.fv_plane.specs.Look.{Look, look_in, row_from}
-use Rattle.fv_plane.specs.Picture.{Picture}
 
 -- no sample is over the largest one
 abbrev pub FitsLook : Shape → Look → Type 0

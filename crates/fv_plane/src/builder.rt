@@ -2,8 +2,7 @@
 ghost use Rattle.std.specs.Prelude.{◌≡◌, ◌<◌, ◌≤◌, ◌+◌, ◌*◌, IfOk, OnOk, OnErr, [], ◌^◌, map, length, replicate, slice_index_or, slice_set};
 ghost use Rattle.fv_plane.specs.Format.{IsLegal, HasSamePlane, planes, plane_width, plane_height, row_bytes};
 ghost use Rattle.fv_rows.specs.Rows.{IsPlaneLike, width_of, bytes_put};
-ghost use Rattle.fv_plane.specs.Picture.{IsPicture, with_row, with_rows, blank, plain_plane as of_one_value, plain_chroma as of_one_colour};
-ghost use Rattle.fv_plane.specs.Bytes.{row_of_bytes, rows_of_bytes, decoded_rows, chroma_list, plane_list, plane_of, wide_bytes, FitBytes, AreWhole, AllWhole};
+ghost use Rattle.fv_plane.specs.Picture.{IsPicture, with_row, with_rows, blank, plain_plane as of_one_value, plain_chroma as of_one_colour, row_of_bytes, rows_of_bytes, decoded_rows, chroma_list, plane_list, plane_of, wide_bytes, FitBytes, AreWhole, AllWhole};
 
 use crate::{Colour, Frame, FrameMemory, Shape, write_samples};
 use fv_rows::{Plane, PlaneBuilder};
@@ -21,8 +20,7 @@ pub struct FrameBuilder {
 }
 
 impl Model for FrameBuilder {
-    ghost use Rattle.fv_plane.specs.Picture.{Picture};
-    ghost use Rattle.fv_plane.specs.Bytes.{frame_of, IsStored};
+    ghost use Rattle.fv_plane.specs.Picture.{Picture, frame_of, IsStored};
 
     ghost Value = { Picture };
 

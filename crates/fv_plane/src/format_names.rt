@@ -1,7 +1,6 @@
 // The formats by their names.
 ghost use Rattle.std.specs.Prelude.{◌≡◌, IfSome, true};
-ghost use Rattle.fv_plane.specs.Format.{has_depth};
-ghost use Rattle.fv_plane.specs.FormatNames.{format_named, has_name};
+ghost use Rattle.fv_plane.specs.Format.{has_depth, format_named, has_name};
 
 use crate::{PixelType, Shape};
 
@@ -14,7 +13,7 @@ pub struct Format {
 
 impl Format {
     ghost use Rattle.std.specs.Prelude.{◌≡◌};
-    ghost use Rattle.fv_plane.specs.FormatNames.{name_of};
+    ghost use Rattle.fv_plane.specs.Format.{name_of};
 
     /// Each format once.
     pub const ALL: [Format; 21] = [
@@ -136,7 +135,7 @@ impl Format {
 
 impl Shape {
     ghost use Rattle.std.specs.Prelude.{◌≡◌};
-    ghost use Rattle.fv_plane.specs.FormatNames.{format_name, format_of};
+    ghost use Rattle.fv_plane.specs.Format.{format_name, format_of};
 
     /// The format, without the size.
     pub fn format(self) -> Format

@@ -1,8 +1,7 @@
 // Pictures that are made row by row.
 ghost use Rattle.std.specs.Prelude.{◌≡◌, ◌<◌, ◌*◌, ℕ, Bool, IfOk, OnOk, MatchOption, false, length, map, drop, slice_index_or, []};
-ghost use Rattle.fv_plane.specs.Bytes.{bytes_of_rows, decoded_rows, chroma_list, AllWhole, AreWhole};
+ghost use Rattle.fv_plane.specs.Picture.{bytes_of_rows, decoded_rows, chroma_list, AllWhole, AreWhole, Look, picture_from, plane_from};
 ghost use Rattle.fv_plane.specs.Format.{IsLegal, planes, plane_height, plane_width, row_bytes};
-ghost use Rattle.fv_plane.specs.Look.{Look, picture_from, plane_from};
 ghost use Rattle.fv_plane.specs.Made.{FitsLook, IsPlaneOf, bytes_made};
 ghost use Rattle.fv_plane.specs.declared.format.Shape.{Shape};
 

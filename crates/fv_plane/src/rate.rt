@@ -1,6 +1,6 @@
 // A frame rate in lowest terms.
 ghost use Rattle.std.specs.Prelude.{◌≡◌, ◌<◌};
-ghost use Rattle.fv_plane.specs.Rate.{gcd, lowest};
+ghost use Rattle.fv_plane.specs.Info.{gcd, lowest};
 
 // The greatest common divisor.
 #[tactic(auto, using(crate::proofs::GcdLemmas::gcd_found))]

@@ -1,6 +1,6 @@
 // Samples of two bytes, the low one first.
 ghost use Rattle.std.specs.Prelude.{◌≡◌, ℕ, ◌+◌, ◌*◌, ◌%◌, ◌<◌, ◌≤◌, IsTrue, min, map, length, slice_index, take, drop};
-ghost use Rattle.fv_plane.specs.Bytes.{in_range, wide_bytes, wide_samples};
+ghost use Rattle.fv_plane.specs.Picture.{in_range, wide_bytes, wide_samples};
 ghost use Rattle.fv_plane.specs.Format.{IsLegal, sample_bytes};
 
 use crate::Shape;

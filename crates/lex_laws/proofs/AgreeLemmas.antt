@@ -10,8 +10,7 @@ use Rattle.avs_lex.specs.declared.piece.Piece.TheVariants.{Blank, One, EndOfScri
 use Rattle.avs_lex.specs.declared.fault.LexKind.TheVariants.{FloatLiteral}
 use Rattle.avs_lex.specs.declared.token.TokenKind.{TokenKind}
 use Rattle.avs_lex.specs.declared.token.TokenKind.TheVariants as k
-use Rattle.avs_lex.specs.Characters.{Text, newline, quote, hash, dollar, star, dot, slash, left_bracket, right_bracket, backslash, is_newline, is_blank, begins_name, continues_name}
-use Rattle.avs_lex.specs.Spelling.{pairs, singles, spelling, through, triple}
+use Rattle.avs_lex.specs.Spelling.{Text, newline, quote, hash, dollar, star, dot, slash, left_bracket, right_bracket, backslash, is_newline, is_blank, begins_name, continues_name, pairs, singles, spelling, through, triple}
 use Rattle.avs_lex.specs.Piece.{front, piece, is_end_line, ends_line, without_blanks, decimal, hexadecimal, string, string_to, comment_to, nested_end, line_end, joined, punctuation, punctuation_of}
 use Rattle.avs_lex.proofs.TestLemmas.{either, by_test}
 use Rattle.avs_lex.proofs.WordLemmas.{through_found, through_cut, through_more, starts_with_more, starts_with_at}

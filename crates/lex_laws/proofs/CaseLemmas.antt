@@ -7,8 +7,7 @@ use Rattle.std.proofs.lemmas.Bool.Decides.{nat_tests}
 use Rattle.std.proofs.lemmas.List.{take-map, drop-map, length-map}
 use Rattle.avs_lex.specs.declared.piece.Piece.TheVariants.{Blank, One}
 use Rattle.avs_lex.specs.declared.token.TokenKind.TheVariants as k
-use Rattle.avs_lex.specs.Characters.{Text, newline, quote, hash, dollar, star, dot, slash, left_bracket, right_bracket, backslash, is_newline, is_blank, begins_name, continues_name}
-use Rattle.avs_lex.specs.Spelling.{pairs, singles, spelling, through, value, triple}
+use Rattle.avs_lex.specs.Spelling.{Text, newline, quote, hash, dollar, star, dot, slash, left_bracket, right_bracket, backslash, is_newline, is_blank, begins_name, continues_name, pairs, singles, spelling, through, value, triple}
 use Rattle.avs_lex.specs.Piece.{front, decimal, hexadecimal, string, string_to, comment_to, nested_end, line_end, joined, punctuation, punctuation_of}
 use Rattle.avs_lex.proofs.TestLemmas.{either}
 use Rattle.lex_laws.proofs.SameLemmas.{both_same, choice_same, find_same}

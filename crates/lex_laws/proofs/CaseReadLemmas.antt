@@ -8,7 +8,7 @@ use Rattle.avs_lex.specs.declared.piece.Piece.TheVariants.{EndOfScript}
 use Rattle.avs_lex.specs.declared.token.Token.{Token}
 use Rattle.avs_lex.specs.declared.token.TokenKind.{TokenKind}
 use Rattle.avs_lex.specs.declared.token.TokenKind.TheVariants.{End}
-use Rattle.avs_lex.specs.Characters.{Text, newline, is_newline, is_blank}
+use Rattle.avs_lex.specs.Spelling.{Text, newline, is_newline, is_blank}
 use Rattle.avs_lex.specs.Piece.{front, piece, is_end_line, ends_line, without_blanks}
 use Rattle.avs_lex.specs.Tokens.{start_of, line_at, begins_line, piece_at, token_at, open_parentheses_after, ReadTo, begin, blank, token, Tokens, LexFault}
 use Rattle.lex_laws.specs.Case.{DifferInCase, CaseKeepsTokens, CaseKeepsFaults, CaseKeepsBytes}

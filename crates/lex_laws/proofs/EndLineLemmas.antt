@@ -6,7 +6,7 @@ use Rattle.avs_lex.specs.declared.piece.Piece.TheVariants.{Blank, One, EndOfScri
 use Rattle.avs_lex.specs.declared.token.Token.{Token}
 use Rattle.avs_lex.specs.declared.token.TokenKind.{TokenKind}
 use Rattle.avs_lex.specs.declared.token.TokenKind.TheVariants.{End}
-use Rattle.avs_lex.specs.Characters.{Text, newline, is_newline}
+use Rattle.avs_lex.specs.Spelling.{Text, newline, is_newline}
 use Rattle.avs_lex.specs.Piece.{piece}
 use Rattle.avs_lex.specs.Tokens.{start_of, line_at, begins_line, piece_at, token_at, open_parentheses_after, ReadTo, begin, blank, token, Tokens}
 use Rattle.avs_lex.proofs.WordLemmas.{starts_with_more}

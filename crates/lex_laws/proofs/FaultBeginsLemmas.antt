@@ -11,9 +11,8 @@ use Rattle.avs_lex.specs.declared.fault.LexKind.{LexKind}
 use Rattle.avs_lex.specs.declared.fault.LexKind.TheVariants.{FloatLiteral, IntRange, OpenString, OpenComment, BadChar}
 use Rattle.avs_lex.specs.declared.token.Token.{Token}
 use Rattle.avs_lex.specs.declared.token.TokenKind.TheVariants as k
-use Rattle.avs_lex.specs.Characters.{Text, newline, quote, dollar, star, dot, slash, left_bracket, backslash, is_blank, begins_name}
+use Rattle.avs_lex.specs.Spelling.{Text, newline, quote, dollar, star, dot, slash, left_bracket, backslash, is_blank, begins_name, is_number, hexadecimal_digits, through, value, triple}
 use Rattle.avs_lex.specs.BeginsNothing.{BeginsNothing}
-use Rattle.avs_lex.specs.Spelling.{is_number, hexadecimal_digits, through, value, triple}
 use Rattle.avs_lex.specs.Piece.{front, piece, is_end_line, ends_line, without_blanks, decimal, nested_end, comment_to}
 use Rattle.avs_lex.specs.Tokens.{begins_line, LexFault, Tokens}
 use Rattle.avs_lex.proofs.TestLemmas.{either}

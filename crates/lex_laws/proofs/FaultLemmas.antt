@@ -9,8 +9,7 @@ use Rattle.avs_lex.specs.declared.piece.Piece.{Piece}
 use Rattle.avs_lex.specs.declared.piece.Piece.TheVariants.{Blank, One, EndOfScript, Fault}
 use Rattle.avs_lex.specs.declared.fault.LexKind.TheVariants.{FloatLiteral, IntRange, OpenString, OpenComment, BadChar}
 use Rattle.avs_lex.specs.declared.token.TokenKind.{TokenKind}
-use Rattle.avs_lex.specs.Characters.{Text, newline, quote, hash, dollar, star, dot, slash, left_bracket, backslash, is_blank, begins_name}
-use Rattle.avs_lex.specs.Spelling.{is_number, hexadecimal_digits, pairs, singles, first_of, through, value, triple}
+use Rattle.avs_lex.specs.Spelling.{Text, newline, quote, hash, dollar, star, dot, slash, left_bracket, backslash, is_blank, begins_name, is_number, hexadecimal_digits, pairs, singles, first_of, through, value, triple}
 use Rattle.avs_lex.specs.Piece.{front, decimal, hexadecimal, string, string_to, comment_to, nested_end, line_end, joined, punctuation_of}
 use Rattle.avs_lex.proofs.TestLemmas.{either, by_test}
 use Rattle.avs_lex.proofs.NumberLemmas.{list_all-taken}

@@ -7,9 +7,8 @@ use Rattle.std.proofs.lemmas.List.{take-append-drop, drop_all}
 use Rattle.avs_lex.specs.declared.piece.Piece.{Piece}
 use Rattle.avs_lex.specs.declared.piece.Piece.TheVariants.{Blank, One, EndOfScript, Fault}
 use Rattle.avs_lex.specs.declared.token.TokenKind.{TokenKind}
-use Rattle.avs_lex.specs.Characters.{Text, newline, quote, hash, dollar, star, dot, slash, left_bracket, backslash, is_newline, is_blank, begins_name}
+use Rattle.avs_lex.specs.Spelling.{Text, newline, quote, hash, dollar, star, dot, slash, left_bracket, backslash, is_newline, is_blank, begins_name, is_number, hexadecimal_digits, pairs, singles, first_of, through, value, triple}
 use Rattle.avs_lex.specs.NestedComment.{ClosesComment}
-use Rattle.avs_lex.specs.Spelling.{is_number, hexadecimal_digits, pairs, singles, first_of, through, value, triple}
 use Rattle.avs_lex.specs.Piece.{front, piece, is_end_line, ends_line, decimal, hexadecimal, string, string_to, comment_to, nested_end, line_end, joined, punctuation_of}
 use Rattle.avs_lex.proofs.TestLemmas.{either}
 use Rattle.avs_lex.proofs.NumberLemmas.{list_all-taken}

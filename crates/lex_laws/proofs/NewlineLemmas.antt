@@ -8,8 +8,7 @@ use Rattle.avs_lex.specs.declared.piece.Piece.TheVariants.{Blank, One}
 use Rattle.avs_lex.specs.declared.token.Token.{Token}
 use Rattle.avs_lex.specs.declared.token.TokenKind.{TokenKind}
 use Rattle.avs_lex.specs.declared.token.TokenKind.TheVariants as k
-use Rattle.avs_lex.specs.Characters.{Text, newline, dollar, backslash, is_newline, is_blank, continues_name}
-use Rattle.avs_lex.specs.Spelling.{Spells}
+use Rattle.avs_lex.specs.Spelling.{Text, newline, dollar, backslash, is_newline, is_blank, continues_name, Spells}
 use Rattle.avs_lex.specs.Piece.{front, piece, line_end, without_blanks}
 use Rattle.avs_lex.specs.Tokens.{start_of, begins_line, piece_at, token_at, open_parentheses_after, ReadTo, begin, blank, token, Tokens}
 use Rattle.avs_lex.proofs.TestLemmas.{either}

@@ -1,7 +1,7 @@
 -- Tests, choices and searches that are the same on both sides.
 use Rattle.std.proofs.Common.{◌≡◌, List, [], ◌∷◌, ◌++◌, length, get_or, Bool, true, false, ◌&&◌, ◌||◌, find, if◌then◌else◌, refl, arith}
 use Rattle.std.specs.List.{list_all}
-use Rattle.avs_lex.specs.Characters.{Text}
+use Rattle.avs_lex.specs.Spelling.{Text}
 
 pub both_same : (a b c d : Bool) → a ≡ b → c ≡ d → (a && c) ≡ (b && d)
 both_same a b c d one two = rw (one, two) refl

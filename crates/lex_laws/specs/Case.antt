@@ -4,9 +4,8 @@ use Rattle.std.specs.List.{starts_with}
 use Rattle.std.specs.Str.{str_to_ascii_lowercase}
 use Rattle.avs_lex.specs.declared.fault.LexKind.{LexKind}
 use Rattle.avs_lex.specs.declared.token.Token.{Token}
-use Rattle.avs_lex.specs.Characters.{Text}
-use Rattle.avs_lex.specs.TokenList.{bytes_of}
-use Rattle.avs_lex.specs.Tokens.{Tokens, LexFault}
+use Rattle.avs_lex.specs.Spelling.{Text}
+use Rattle.avs_lex.specs.Tokens.{bytes_of, Tokens, LexFault}
 
 -- the texts differ in nothing but the case of letters, and have the word `__END__`, in this case, at the same offsets
 pub record DifferInCase (text other : Text) : Type 0 where

@@ -2,7 +2,7 @@
 use Rattle.std.specs.Prelude.{◌≡◌, List, [], ◌∷◌, ◌++◌, length, codes, IsTrue}
 use Rattle.std.specs.List.{list_all}
 use Rattle.avs_lex.specs.declared.token.Token.{Token}
-use Rattle.avs_lex.specs.Characters.{Text, newline, is_blank}
+use Rattle.avs_lex.specs.Spelling.{Text, newline, is_blank}
 use Rattle.avs_lex.specs.Tokens.{Tokens}
 
 -- `__END__`, blanks around it, and the newline

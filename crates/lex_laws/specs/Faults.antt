@@ -6,9 +6,8 @@ use Rattle.avs_lex.specs.declared.fault.LexKind.{LexKind}
 use Rattle.avs_lex.specs.declared.fault.LexKind.TheVariants.{FloatLiteral, IntRange, OpenString, OpenComment, BadChar}
 use Rattle.avs_lex.specs.declared.token.Token.{Token}
 use Rattle.avs_lex.specs.BeginsNothing.{BeginsNothing}
-use Rattle.avs_lex.specs.Characters.{Text, quote, dollar, star, dot, slash, left_bracket}
+use Rattle.avs_lex.specs.Spelling.{Text, quote, dollar, star, dot, slash, left_bracket, value, triple, hexadecimal_digits}
 use Rattle.avs_lex.specs.NestedComment.{IsNestedComment}
-use Rattle.avs_lex.specs.Spelling.{value, triple, hexadecimal_digits}
 use Rattle.avs_lex.specs.Tokens.{line_at, ReadTo, Tokens, LexFault}
 
 -- the word is nowhere in the text

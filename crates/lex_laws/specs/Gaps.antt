@@ -3,9 +3,8 @@ use Rattle.std.specs.Prelude.{◌≡◌, ◌⊎◌, ℕ, ◌<◌, List, [], ◌�
 use Rattle.std.specs.List.{list_all}
 use Rattle.avs_lex.specs.declared.fault.LexKind.{LexKind}
 use Rattle.avs_lex.specs.declared.token.Token.{Token}
-use Rattle.avs_lex.specs.Characters.{Text, newline, hash, star, slash, left_bracket, backslash, is_newline, is_blank}
+use Rattle.avs_lex.specs.Spelling.{Text, newline, hash, star, slash, left_bracket, backslash, is_newline, is_blank, through}
 use Rattle.avs_lex.specs.NestedComment.{ClosesComment}
-use Rattle.avs_lex.specs.Spelling.{through}
 use Rattle.avs_lex.specs.Piece.{ends_line, is_end_line}
 use Rattle.avs_lex.specs.Tokens.{start_of, begins_line, open_parentheses_after, Tokens, LexFault}
 

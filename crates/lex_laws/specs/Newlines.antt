@@ -2,7 +2,7 @@
 use Rattle.std.specs.Prelude.{◌≡◌, ◌≢◌, ◌⊎◌, ℕ, ◌+◌, ◌<◌, ◌≤◌, List, [], ◌∷◌, ◌++◌, length, drop, slice_index, ⊤}
 use Rattle.avs_lex.specs.declared.token.Token.{Token}
 use Rattle.avs_lex.specs.declared.token.TokenKind.TheVariants.{Str, Newline}
-use Rattle.avs_lex.specs.Characters.{Text, newline, backslash}
+use Rattle.avs_lex.specs.Spelling.{Text, newline, backslash}
 use Rattle.avs_lex.specs.Piece.{without_blanks}
 use Rattle.avs_lex.specs.Tokens.{start_of, open_parentheses_after, Tokens}
 use Rattle.lex_laws.specs.Gaps.{IsFilling}

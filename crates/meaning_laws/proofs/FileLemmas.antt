@@ -4,17 +4,16 @@ use Rattle.std.specs.FinMap.{get}
 use Rattle.std.specs.Str.{is_utf8}
 use Rattle.std.proofs.lemmas.Bool.Decides.{nat_tests}
 use Rattle.fv_io.specs.World.{World}
-use Rattle.fv_plane.specs.Clip.{Clip}
+use Rattle.fv_plane.specs.Picture.{Clip}
 use Rattle.fv_plane.specs.declared.format.Info.{Info}
 use Rattle.y4m_stream.specs.Stream.{Stream, HasFault}
 use Rattle.y4m_stream.specs.declared.fault.Y4mFault.{Y4mFault}
 use Rattle.y4m_stream.proofs.ReadingLemmas.{reads_one_way}
-use Rattle.avs_tree.specs.Loaded.{NoTree, lexical, syntax, nests}
+use Rattle.avs_tree.specs.Tree.{NoTree, lexical, syntax, nests}
 use Rattle.avs_parse.specs.Load.{script_of}
 use Rattle.avs_parse.proofs.LoadLemmas.{script_found, fault_told, syntax_told, nesting_told}
-use Rattle.avs_values.specs.Outcome.{text_limit}
-use Rattle.avs_values.specs.Values.{Text}
-use Rattle.avs_meaning.specs.Outside.{script_in, clip_in}
+use Rattle.avs_values.specs.Values.{text_limit, Text}
+use Rattle.avs_meaning.specs.State.{script_in, clip_in}
 use Rattle.avs_meaning.specs.declared.fault.FileKind.{FileKind}
 use Rattle.avs_meaning.specs.declared.fault.FileKind.TheVariants as f
 use Rattle.avs_meaning.specs.declared.fault.InputFault.{InputFault}

@@ -2,14 +2,13 @@
 use Rattle.std.proofs.Common.{◌≡◌, ◌∙◌, ◌↔◌, Result, Ok, Err, refl, sym, ap, subst}
 use Rattle.std.specs.FinMap.{get}
 use Rattle.fv_io.specs.World.{World}
-use Rattle.avs_tree.specs.Loaded.{Loaded, NoTree}
+use Rattle.avs_tree.specs.Tree.{Loaded, NoTree}
 use Rattle.avs_parse.specs.Load.{script_of}
 use Rattle.avs_parse.proofs.LoadLemmas.{script_found}
 use Rattle.avs_values.specs.Values.{Text}
 use Rattle.avs_meaning.specs.Meaning.{Meaning, wrong, meaning, meaning_by, script_meaning, clip_or_not, call_limit, start, run, to_clip}
-use Rattle.avs_meaning.specs.Outside.{script_in}
-use Rattle.avs_meaning.specs.State.{State, Outcome, and_then, ◌>>=◌, define_all}
-use Rattle.avs_meaning.specs.Texts.{loaded_by, no_tree}
+use Rattle.avs_meaning.specs.State.{script_in, State, Outcome, and_then, ◌>>=◌, define_all}
+use Rattle.avs_meaning.specs.Expressions.{loaded_by, no_tree}
 use Rattle.avs_meaning.specs.declared.fault.FileKind.{FileKind}
 use Rattle.avs_meaning.proofs.RuleLemmas.{rules_are_execution}
 use Rattle.meaning_laws.specs.Files.{IsScriptFile, outside_in}

@@ -3,17 +3,16 @@ use Rattle.std.specs.Prelude.{◌≡◌, ◌↔◌, ℕ, ◌<◌, ◌≤◌, Lis
 use Rattle.std.specs.FinMap.{get}
 use Rattle.std.specs.Str.{is_utf8}
 use Rattle.fv_io.specs.World.{World}
-use Rattle.fv_plane.specs.Clip.{Clip}
+use Rattle.fv_plane.specs.Picture.{Clip}
 use Rattle.fv_plane.specs.declared.format.Info.{Info}
 use Rattle.y4m_stream.specs.Stream.{Stream, HasFault}
 use Rattle.avs_lex.specs.Tokens.{LexFault}
-use Rattle.avs_tree.specs.Loaded.{Loaded, NoTree, lexical, syntax, nests}
+use Rattle.avs_tree.specs.Tree.{Loaded, NoTree, lexical, syntax, nests}
 use Rattle.avs_tree.specs.Place.{StopsAt, DeepAt}
 use Rattle.avs_parse.specs.Laws.{HasScript, HasPlace}
 use Rattle.avs_parse.specs.Load.{script_of}
-use Rattle.avs_values.specs.Outcome.{text_limit}
-use Rattle.avs_values.specs.Values.{Text}
-use Rattle.avs_meaning.specs.Outside.{Outside, outside_of}
+use Rattle.avs_values.specs.Values.{text_limit, Text}
+use Rattle.avs_meaning.specs.State.{Outside, outside_of}
 use Rattle.avs_meaning.specs.declared.fault.FileKind.{FileKind}
 use Rattle.avs_meaning.specs.declared.fault.FileKind.TheVariants as f
 use Rattle.avs_meaning.specs.declared.fault.InputFault.{InputFault}

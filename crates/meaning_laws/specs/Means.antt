@@ -1,17 +1,16 @@
 -- What a script means, by its file, its tree and the rules of execution.
 use Rattle.std.specs.Prelude.{◌≡◌, Ok, Err}
 use Rattle.fv_io.specs.World.{World}
-use Rattle.avs_tree.specs.Loaded.{Loaded, NoTree}
+use Rattle.avs_tree.specs.Tree.{Loaded, NoTree}
 use Rattle.avs_parse.specs.Laws.{HasScript}
 use Rattle.avs_values.specs.Values.{Text}
 use Rattle.avs_values.specs.declared.value.Value.{Value}
 use Rattle.avs_values.specs.declared.value.Value.TheVariants as v
 use Rattle.avs_meaning.specs.Faults.{Fault, script}
 use Rattle.avs_meaning.specs.Meaning.{Meaning, wrong, meaning_by, clip_or_not, call_limit, start}
-use Rattle.avs_meaning.specs.Outside.{Outside}
+use Rattle.avs_meaning.specs.State.{Outside, State, Outcome, and_then, define_all}
 use Rattle.avs_meaning.specs.Rules.{Executes}
-use Rattle.avs_meaning.specs.State.{State, Outcome, and_then, define_all}
-use Rattle.avs_meaning.specs.Texts.{no_tree}
+use Rattle.avs_meaning.specs.Expressions.{no_tree}
 use Rattle.avs_meaning.specs.declared.fault.FileKind.{FileKind}
 use Rattle.avs_meaning.specs.declared.fault.ScriptKind.TheVariants as k
 use Rattle.meaning_laws.specs.Files.{HasNoTree, IsScriptFile, IsNoScriptFile}

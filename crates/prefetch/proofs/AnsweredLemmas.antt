@@ -41,8 +41,7 @@ use Rattle.serve_worker.specs.declared.instance.Instance.TheVariants as of_insta
 use Rattle.serve_core.specs.Tables.{counts_in}
 use Rattle.serve_worker.specs.Instances.{Ends, feed_of, faults_of, holds_of, held_of}
 use Rattle.serve_core.proofs.Tables.{all_free}
-use Rattle.prefetch.specs.Asked.{windows_asked}
-use Rattle.prefetch.specs.Windows.{Keeps, WindowStopped, frames_at, Stays}
+use Rattle.prefetch.specs.Windows.{windows_asked, Keeps, WindowStopped, frames_at, Stays}
 use Rattle.prefetch.proofs.RenderLemmas.{stays_on, keeps_first}
 use Rattle.prefetch.specs.declared.stops.RenderStop.TheVariants as of_render
 use Rattle.serve_text.specs.declared.stop.Stop.{Stop}
@@ -56,7 +55,7 @@ use Rattle.prefetch.specs.Cores.{book_at, IsCoreOf}
 use Rattle.prefetch.specs.Played.{PlayedValue, StandsForFrames, MakesFrame, StopsInFrame, frame_bytes_at, line_at}
 use Rattle.prefetch.specs.Sessions.{StopNamed, IsToldAs, IsToldSession}
 use Rattle.prefetch.proofs.SessionLemmas.{Made, all_made}
-use Rattle.prefetch.specs.Streams.{ToldAs}
+use Rattle.prefetch.specs.Rendered.{ToldAs}
 use Rattle.prefetch.proofs.StreamLemmas.{one_failed, tells_stop}
 
 -- the ghosts of a clip that is played

@@ -6,8 +6,7 @@ use Rattle.serve_machine.specs.declared.event.Event.{Event}
 use Rattle.serve_machine.specs.Events.{WindowEvents}
 use Rattle.serve_core.specs.declared.answers.Finished.{Finished}
 use Rattle.serve_core.specs.CoreValue.{CoreValue}
-use Rattle.prefetch.specs.Asked.{window_asked, keys_left}
-use Rattle.prefetch.specs.Windows.{AddsWindow}
+use Rattle.prefetch.specs.Windows.{window_asked, keys_left, AddsWindow}
 use Rattle.prefetch.specs.SerialWindows.{IsSerialWindow, IsCutSerial}
 
 -- the journal has the window of the output, and what is cached is what the serial run leaves

@@ -17,7 +17,7 @@ use Rattle.prefetch.specs.Windows.{frames_at, Stays, RenderEnds, RendersAll, Ren
 use Rattle.prefetch.specs.Journals.{IsFirstBy, IsCutBy}
 use Rattle.prefetch.specs.Renders.{pool_at, RendersBy, StopsBy}
 use Rattle.prefetch.specs.Cores.{IsTold}
-use Rattle.prefetch.specs.Streams.{NamesSource}
+use Rattle.prefetch.specs.Rendered.{NamesSource}
 use Rattle.prefetch.specs.declared.stream.RenderedClip.{RenderedClip}
 use Rattle.serve_text.specs.declared.stop.Stop.{Stop}
 use Rattle.serve_text.specs.declared.stop.Stop.TheVariants as of_stop

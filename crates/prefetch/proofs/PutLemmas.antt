@@ -10,14 +10,12 @@ use Rattle.fv_io.specs.declared.sink.Sink.{Ghosts}
 use Rattle.fv_io.specs.Sink.{Puts, PutsPrefix, SinkFailed}
 use Rattle.fv_io.specs.Told.{with_piece}
 use Rattle.fv_io.proofs.CallerLemmas.{with_piece_twice, with_no_piece, gets_more, gets_after}
-use Rattle.fv_plane.specs.Bytes.{bytes_of}
-use Rattle.fv_plane.specs.Picture.{Picture, IsPicture}
+use Rattle.fv_plane.specs.Picture.{bytes_of, Picture, IsPicture}
 use Rattle.y4m_stream.specs.Stream.{frame_text, frames_text}
 use Rattle.clip_graph.specs.Plan.{Application}
 use Rattle.clip_graph.specs.Unfolding.{key_picture}
 use Rattle.serve_machine.specs.Events.{frame_key}
-use Rattle.prefetch.specs.Windows.{PutsFrames, PutsPictures, given, pictures_text}
-use Rattle.prefetch.specs.Clips.{pictures_from}
+use Rattle.prefetch.specs.Windows.{PutsFrames, PutsPictures, given, pictures_text, pictures_from}
 
 -- TEXTS
 

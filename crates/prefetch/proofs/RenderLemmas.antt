@@ -20,8 +20,7 @@ use Rattle.serve_core.specs.Stands.{Stands, StopFits}
 use Rattle.serve_core.specs.Tables.{AllFree}
 use Rattle.prefetch.specs.declared.stops.RenderStop.{RenderStop}
 use Rattle.prefetch.specs.declared.stops.RenderStop.TheVariants.{Stopped, Write, Memory}
-use Rattle.prefetch.specs.Clips.{pictures_from}
-use Rattle.prefetch.specs.Windows.{with_window, PutsFinished, PutStops, Keeps, WindowDelivered, WindowStopped, WindowEnds, AddsWindow, CutsWindow, PutsWindow, WindowShows, PutsPictures, given, pictures_text, frames_at, Stays, PutsFirst, AllRendered, StoppedAfter, FailedAfter, EndedBetween, RenderEnds}
+use Rattle.prefetch.specs.Windows.{pictures_from, with_window, PutsFinished, PutStops, Keeps, WindowDelivered, WindowStopped, WindowEnds, AddsWindow, CutsWindow, PutsWindow, WindowShows, PutsPictures, given, pictures_text, frames_at, Stays, PutsFirst, AllRendered, StoppedAfter, FailedAfter, EndedBetween, RenderEnds}
 use Rattle.prefetch.proofs.PutLemmas.{text_twice, puts_none, puts_twice, pictures_more}
 
 module _ {I : Type 0} (of : HeldGhosts I) (c : CoreValue I) where

@@ -4,8 +4,7 @@ use Rattle.std.proofs.lemmas.List.{append_assoc, append-nil}
 use Rattle.std.specs.Prelude.{IsErrOf}
 use Rattle.std.specs.Map.{keys_of}
 use Rattle.fv_io.specs.declared.source.Source as of_source
-use Rattle.fv_plane.specs.Bytes.{bytes_of}
-use Rattle.fv_plane.specs.Picture.{Picture}
+use Rattle.fv_plane.specs.Picture.{bytes_of, Picture}
 use Rattle.fv_plane.specs.declared.key.Key.{Key}
 use Rattle.clip_graph.specs.Plan.{Application}
 use Rattle.clip_graph.specs.Unfolding.{key_picture}
@@ -19,8 +18,7 @@ use Rattle.serve_session.specs.declared.player.PlayStop.TheVariants as of_play
 use Rattle.serve_session.specs.Serving.{Makes, start, one_more}
 use Rattle.serve_worker.specs.declared.instance.Instance.{Instance}
 use Rattle.serve_worker.specs.Instances.{Ends, feed_of, faults_of, holds_of, held_of}
-use Rattle.prefetch.specs.Asked.{window_asked, keys_left, windows_asked}
-use Rattle.prefetch.specs.Windows.{Keeps, AddsWindow, frames_at, given, Stays}
+use Rattle.prefetch.specs.Windows.{window_asked, keys_left, windows_asked, Keeps, AddsWindow, frames_at, given, Stays}
 use Rattle.prefetch.specs.SerialWindows.{IsSerialWindow, IsCutSerial}
 use Rattle.prefetch.proofs.AskedLemmas.{asked_one}
 use Rattle.prefetch.proofs.RenderLemmas.{keeps_on}

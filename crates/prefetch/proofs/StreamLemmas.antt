@@ -9,13 +9,11 @@ use Rattle.fv_io.specs.declared.sink.Sink.{Ghosts}
 use Rattle.fv_io.specs.Sink.{Puts, PutsPrefix, SinkFailed, IsLater}
 use Rattle.fv_io.specs.Told.{with_piece}
 use Rattle.fv_io.proofs.CallerLemmas.{with_piece_twice, gets_more, gets_after}
-use Rattle.fv_plane.specs.Bytes.{bytes_of}
-use Rattle.fv_plane.specs.Clip.{Clip, IsPictureOf}
-use Rattle.fv_plane.specs.Picture.{Picture, IsPicture}
+use Rattle.fv_plane.specs.Picture.{bytes_of, Clip, IsPictureOf, Picture, IsPicture}
 use Rattle.fv_plane.specs.declared.format.Info.{Info}
 use Rattle.y4m_stream.specs.Head.{head}
 use Rattle.y4m_stream.specs.Stream.{frames_text, stream}
-use Rattle.clip_term.specs.ClipTerm.{Act, source}
+use Rattle.clip_term.specs.Terms.{Act, source}
 use Rattle.clip_graph.specs.Plan.{Application, application_at, is_source}
 use Rattle.clip_graph.specs.Unfolding.{key_picture}
 use Rattle.inst_table.specs.declared.place.Place.{Place}
@@ -34,9 +32,8 @@ use Rattle.serve_worker.specs.declared.instance.Instance.TheVariants as of_insta
 use Rattle.serve_worker.specs.Instances.{Ends, feed_of, faults_of, holds_of, held_of}
 use Rattle.prefetch.specs.declared.stops.RenderStop.{RenderStop}
 use Rattle.prefetch.specs.declared.stops.RenderStop.TheVariants.{Stopped, Write, Memory}
-use Rattle.prefetch.specs.Clips.{pictures_from, clip_at}
-use Rattle.prefetch.specs.Rendered.{Begins, EndsInFrame, PutsHead}
-use Rattle.prefetch.specs.Windows.{frames_at, pictures_text, PutsFirst}
+use Rattle.prefetch.specs.Windows.{pictures_from, clip_at, frames_at, pictures_text, PutsFirst}
+use Rattle.prefetch.specs.Rendered.{Begins, EndsInFrame, PutsHead, HeadStops, ToldAs, TellsStop, HeadShows}
 use Rattle.prefetch.proofs.TextLemmas.{text_of_part}
 use Rattle.serve_text.specs.declared.stop.Stop.{Stop}
 use Rattle.serve_text.specs.declared.stop.Stop.TheVariants as of_stop
@@ -47,7 +44,6 @@ use Rattle.prefetch.specs.Renders.{pool_at, RendersBy, StopsBy}
 use Rattle.prefetch.specs.StreamClips.{IsClipOf, SomeFailed, PutsFrames, PutsSome, StreamShows}
 use Rattle.prefetch.specs.Cores.{book_at, StandsForSources, IsTold}
 use Rattle.prefetch.specs.Streamed.{IsStreamed}
-use Rattle.prefetch.specs.Streams.{HeadStops, ToldAs, TellsStop, HeadShows}
 
 begins_first : (book : List (List Picture)) (plan : List Application) (root n : ℕ) → n ≤ frames_at plan root
     → Begins (record { info = (application_at plan root).info; pictures = pictures_from book plan root 0 n }) (clip_at book plan root)

@@ -3,9 +3,7 @@ use Rattle.std.proofs.Common.{◌≡◌, ◌∙◌, List, ℕ, ◌++◌, length,
 use Rattle.std.proofs.lemmas.List.{take-append-drop, append_assoc, map-append}
 use Rattle.std.proofs.lemmas.List.Concat.{flat_map-append}
 use Rattle.fv_plane.specs.declared.format.Info.{Info}
-use Rattle.fv_plane.specs.Bytes.{bytes_of}
-use Rattle.fv_plane.specs.Clip.{Clip}
-use Rattle.fv_plane.specs.Picture.{Picture}
+use Rattle.fv_plane.specs.Picture.{bytes_of, Clip, Picture}
 use Rattle.y4m_stream.specs.Head.{head}
 use Rattle.y4m_stream.specs.Stream.{frame_text, frames_text, stream}
 use Rattle.prefetch.specs.Rendered.{Begins}

@@ -16,8 +16,7 @@ use Rattle.serve_core.specs.Sources.{shape_at, faults_of}
 use Rattle.serve_core.specs.Stands.{Book, Stands, StopFits, EndShows, CallsStand}
 use Rattle.serve_core.proofs.Standing.{calls_stand}
 use Rattle.serve_core.specs.Tables.{AllFree, held_in, counts_in}
-use Rattle.prefetch.specs.Clips.{pictures_from}
-use Rattle.prefetch.specs.Windows.{WindowDelivered, WindowStopped, given, Stays}
+use Rattle.prefetch.specs.Windows.{pictures_from, WindowDelivered, WindowStopped, given, Stays}
 
 given_count : (frames : List (Option Picture)) → ((j : ℕ) → j < length frames → (x : Picture) × (slice_get frames j ≡ Some (Some x))) → length (given frames) ≡ length frames
 given_count [] all = refl

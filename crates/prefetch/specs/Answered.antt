@@ -7,7 +7,7 @@ use Rattle.fv_io.specs.Sink.{Puts, PutsPrefix, SinkFailed}
 use Rattle.fv_io.specs.Source.{IsSteady, SourceFailed}
 use Rattle.fv_plane.specs.Picture.{Picture}
 use Rattle.seq_source.specs.FrameSource.{end_of}
-use Rattle.y4m_stream.specs.Index.{Indexed, IsIndex}
+use Rattle.y4m_stream.specs.Stream.{Indexed, IsIndex}
 use Rattle.fv_session.specs.Answers.{answers, frames_asked}
 use Rattle.fv_session.specs.Requests.{Asked, requests}
 use Rattle.fv_session.specs.declared.request.Request.{Request}
@@ -22,14 +22,13 @@ use Rattle.serve_machine.specs.declared.event.WindowStop.{WindowStop}
 use Rattle.serve_machine.specs.declared.windows.Record.{Record}
 use Rattle.serve_machine.specs.Events.{names_source, WindowEvents, windows_of}
 use Rattle.serve_machine.specs.Work.{FailedWork}
-use Rattle.prefetch.specs.Asked.{windows_asked}
-use Rattle.prefetch.specs.Windows.{frames_at}
+use Rattle.prefetch.specs.Windows.{windows_asked, frames_at}
 use Rattle.serve_text.specs.declared.stop.Stop.TheVariants as of_stop
 use Rattle.prefetch.specs.declared.session.SessionStop.{SessionStop}
 use Rattle.prefetch.specs.declared.session.SessionStop.TheVariants.{Stopped, ListFault}
 use Rattle.prefetch.specs.StreamClips.{SomeFailed}
 use Rattle.prefetch.specs.Played.{frame_bytes_at, line_at}
-use Rattle.prefetch.specs.Streams.{TellsStop}
+use Rattle.prefetch.specs.Rendered.{TellsStop}
 
 -- the stop that cut the last window short is told. Where none did, a read of the list or a write failed, the list has a
 -- fault, or memory ran out

@@ -14,7 +14,7 @@ use Rattle.serve_text.specs.declared.stop.Stop.{Stop}
 use Rattle.prefetch.specs.declared.pool_size.Pool.{Pool}
 use Rattle.prefetch.specs.declared.stream.RenderedClip.{RenderedClip}
 use Rattle.prefetch.specs.StreamClips.{book_told}
-use Rattle.prefetch.specs.Streams.{ToldAs}
+use Rattle.prefetch.specs.Rendered.{ToldAs}
 
 module _ {S : Type 0} (of : Ghosts S) (c : CoreValue (Instance S)) where
   -- the frames of its sources, where all are told

@@ -9,7 +9,7 @@ use Rattle.serve_machine.specs.Journals.{AreFirst, AreCut, IsWholeJournal, AreCr
 use Rattle.prefetch.specs.declared.pool_size.Pool.{Pool}
 use Rattle.fv_io.specs.declared.sink.Sink.{Ghosts}
 use Rattle.fv_io.specs.Sink.{Puts, PutsPrefix, SinkFailed}
-use Rattle.fv_plane.specs.Clip.{Clip, IsPictureOf}
+use Rattle.fv_plane.specs.Picture.{Clip, IsPictureOf}
 use Rattle.y4m_stream.specs.Stream.{stream}
 use Rattle.serve_machine.specs.declared.windows.Record.{Record}
 use Rattle.prefetch.specs.Rendered.{Begins}

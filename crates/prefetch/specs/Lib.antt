@@ -1,13 +1,9 @@
-pub mod Clips
-pub mod Windows
 pub mod Crew
-pub mod Asked
 pub mod Starts
 pub mod SerialWindows
-pub mod Pool
-pub mod Rendered
+pub mod Windows
 pub mod StreamClips
-pub mod Streams
+pub mod Rendered
 pub mod Journals
 pub mod Renders
 pub mod Cores

@@ -2,8 +2,7 @@
 use Rattle.std.specs.Prelude.{◌≡◌, ℕ, ◌<◌, List, [], ◌∷◌, ◌++◌, Option, Some}
 use Rattle.std.specs.Map.{keys_of}
 use Rattle.fv_io.specs.declared.source.Source as of_source
-use Rattle.fv_plane.specs.Bytes.{bytes_of}
-use Rattle.fv_plane.specs.Picture.{Picture}
+use Rattle.fv_plane.specs.Picture.{bytes_of, Picture}
 use Rattle.clip_graph.specs.Plan.{Application, application_at}
 use Rattle.clip_graph.specs.Unfolding.{key_picture}
 use Rattle.serve_machine.specs.declared.event.WindowStop.{WindowStop}
@@ -13,8 +12,7 @@ use Rattle.serve_core.specs.Stands.{Stands}
 use Rattle.serve_worker.specs.declared.instance.Instance.{Instance}
 use Rattle.serve_worker.specs.Instances.{Ends, feed_of, faults_of, holds_of, held_of}
 use Rattle.serve_text.specs.InfoText.{clip_line}
-use Rattle.prefetch.specs.Asked.{window_asked, keys_left}
-use Rattle.prefetch.specs.Windows.{Keeps, CutsWindow, frames_at}
+use Rattle.prefetch.specs.Windows.{window_asked, keys_left, Keeps, CutsWindow, frames_at}
 use Rattle.prefetch.specs.SerialWindows.{IsSerialWindow, IsCutSerial}
 
 -- what contracts see of one that is played

@@ -12,7 +12,7 @@ use Rattle.serve_text.specs.declared.stop.Stop.{Stop}
 use Rattle.serve_text.specs.declared.stop.Stop.TheVariants as of_stop
 use Rattle.prefetch.specs.declared.session.SessionStop.{SessionStop}
 use Rattle.prefetch.specs.declared.session.SessionStop.TheVariants.{Stopped, ListFault}
-use Rattle.prefetch.specs.Streams.{ToldAs}
+use Rattle.prefetch.specs.Rendered.{ToldAs}
 
 -- where a frame was not made there is the stop that cut its window short, and it names a source of the plan
 abbrev pub StopNamed : List Application → Result (Unit {0}) ServeStop → Option WindowStop → Type 0

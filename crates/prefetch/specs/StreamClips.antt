@@ -3,8 +3,7 @@ use Rattle.std.specs.Prelude.{◌≡◌, ℕ, ◌≤◌, List, length, map, All,
 use Rattle.fv_io.specs.declared.source.Source as of_source
 use Rattle.fv_io.specs.declared.sink.Sink.{Ghosts}
 use Rattle.fv_io.specs.Sink.{Puts, PutsPrefix, SinkFailed}
-use Rattle.fv_plane.specs.Clip.{Clip, IsPictureOf}
-use Rattle.fv_plane.specs.Picture.{Picture}
+use Rattle.fv_plane.specs.Picture.{Clip, IsPictureOf, Picture}
 use Rattle.y4m_stream.specs.Stream.{stream}
 use Rattle.seq_source.specs.FrameSource.{FrameSource, frames_of}
 use Rattle.clip_graph.specs.Plan.{Application, application_at}
@@ -14,7 +13,7 @@ use Rattle.inst_table.specs.declared.place.Slot.TheVariants.{Free}
 use Rattle.inst_table.specs.Places.{slot_at}
 use Rattle.serve_core.specs.Sources.{all_told}
 use Rattle.serve_core.specs.Stands.{Book}
-use Rattle.prefetch.specs.Clips.{clip_at}
+use Rattle.prefetch.specs.Windows.{clip_at}
 use Rattle.prefetch.specs.Rendered.{Begins, PutsWholeFrames, EndsInFrame}
 use Rattle.serve_text.specs.declared.stop.Stop.{Stop}
 use Rattle.serve_text.specs.declared.stop.Stop.TheVariants as of_stop

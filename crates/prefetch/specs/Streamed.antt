@@ -12,7 +12,7 @@ use Rattle.prefetch.specs.declared.pool_size.Pool.{Pool}
 use Rattle.prefetch.specs.declared.stream.RenderedClip.{RenderedClip}
 use Rattle.prefetch.specs.StreamClips.{IsClipOf, PutsFrames, StreamShows}
 use Rattle.prefetch.specs.Journals.{IsRendered, CutsShort}
-use Rattle.prefetch.specs.Streams.{stop_in, TellsStop, HeadShows}
+use Rattle.prefetch.specs.Rendered.{stop_in, TellsStop, HeadShows}
 
 -- the stream of the clip at the root of a plan, over the frames that its sources tell, with this pool of workers
 module _ {I K : Type 0} (faults : I → ℕ) (plan : List Application) (root capacity : ℕ) (by : Pool) (book : Book)

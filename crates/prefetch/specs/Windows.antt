@@ -1,27 +1,86 @@
--- Windows of outputs, one after the other, and the frames that are put of them; what one window leaves.
-use Rattle.std.specs.Prelude.{◌≡◌, ℕ, ◌≤◌, List, [], ◌∷◌, length, map, All, Option, Some, None, ◌++◌, Result, OnOk, OnErr}
+-- Windows of outputs: the clip and the pool that they are of, one after the other, and one at a time in any order.
+use Rattle.std.specs.List.{range_with_len}
 use Rattle.std.specs.Map.{keys_of}
-use Rattle.fv_io.specs.declared.sink.Sink.{Ghosts}
+use Rattle.std.specs.Prelude.{ℕ, List, map, ◌*◌, ◌≤◌, Option, Some, None, [], ◌∷◌, ◌≡◌, length, All, ◌++◌, Result, OnOk, OnErr}
 use Rattle.fv_io.specs.Sink.{Puts, PutsPrefix, SinkFailed, IsLater}
+use Rattle.fv_io.specs.declared.sink.Sink.{Ghosts}
+use Rattle.fv_io.specs.declared.source.Failed.{Failed}
+use Rattle.fv_plane.specs.Picture.{Clip, Picture, bytes_of, IsPicture}
 use Rattle.fv_plane.specs.declared.format.Info.{Info}
-use Rattle.fv_plane.specs.Bytes.{bytes_of}
-use Rattle.fv_plane.specs.Picture.{Picture, IsPicture}
+use Rattle.fv_plane.specs.declared.key.Key.{Key}
 use Rattle.y4m_stream.specs.Stream.{frames_text}
 use Rattle.clip_graph.specs.Plan.{Application, application_at}
+use Rattle.clip_graph.specs.Unfolding.{key_picture}
+use Rattle.avs_meaning.specs.State.{Numbers, frames_or, workers as workers_asked, window as window_asked}
 use Rattle.inst_table.specs.declared.held.Held.{Ghosts as HeldGhosts}
+use Rattle.serve_machine.specs.Events.{frame_key, WindowEvents}
+use Rattle.serve_machine.specs.Journals.{AreCrewFirst, AreCrewCut, IsAloneJournal, AreAloneFirst, AreAloneCut}
+use Rattle.serve_machine.specs.SerialRun.{serial_window}
+use Rattle.serve_machine.specs.declared.event.Event.{Event}
 use Rattle.serve_machine.specs.declared.event.WindowStop.{WindowStop}
-use Rattle.serve_machine.specs.Events.{WindowEvents}
 use Rattle.serve_core.specs.CoreValue.{CoreValue}
 use Rattle.serve_core.specs.Sources.{shape_at}
 use Rattle.serve_core.specs.Stands.{Book, Stands, StopFits, EndShows}
 use Rattle.serve_core.specs.Tables.{AllFree, held_in, counts_in}
+use Rattle.serve_core.specs.declared.answers.Finished.{Finished}
+use Rattle.prefetch.specs.declared.pool_size.Pool.{Pool}
+use Rattle.prefetch.specs.declared.pool_size.PoolSize.{PoolSize}
+use Rattle.prefetch.specs.declared.pool_size.PoolSize.TheVariants.{One, Asked}
 use Rattle.prefetch.specs.declared.stops.RenderStop.{RenderStop}
 use Rattle.prefetch.specs.declared.stops.RenderStop.TheVariants.{Stopped, Write, Memory}
-use Rattle.prefetch.specs.Clips.{pictures_from}
-use Rattle.serve_machine.specs.Journals.{AreCrewFirst, AreCrewCut, IsAloneJournal, AreAloneFirst, AreAloneCut}
-use Rattle.fv_io.specs.declared.source.Failed.{Failed}
-use Rattle.serve_machine.specs.declared.event.Event.{Event}
-use Rattle.serve_core.specs.declared.answers.Finished.{Finished}
+
+-- ==== The clip that a node of a plan stands for.
+
+-- so many of the node's pictures from a number on, by the pictures of the sources
+abbrev pub pictures_from : List (List Picture) → List Application → ℕ → ℕ → ℕ → List Picture
+pictures_from book plan root first count =
+    map (λ n. key_picture book plan (frame_key root n)) (range_with_len first count)
+
+abbrev pub clip_at : List (List Picture) → List Application → ℕ → Clip
+clip_at book plan root = record {
+  info = (application_at plan root).info;
+  pictures = pictures_from book plan root 0 (application_at plan root).info.frames;
+}
+
+-- ==== How many workers a render has, and how many outputs a window (AviSynth+ wiki, "Prefetch").
+
+-- so many threads that the words ask for, in place of those of the script. A window has the frames that the script gives,
+-- or twice as many as there are workers
+abbrev pub pool_asked : Option ℕ → Option Numbers → Pool
+pool_asked None crew = record { workers = workers_asked crew; window = window_asked crew }
+pool_asked (Some threads) None = record { workers = threads; window = 2 * threads }
+pool_asked (Some threads) (Some crew) = record { workers = threads; window = frames_or threads crew.frames }
+
+-- by what the script asks for
+abbrev pub pool : PoolSize → Option Numbers → Pool
+pool One crew = record { workers = 1; window = 1 }
+pool (Asked threads) crew = pool_asked threads crew
+
+-- the words ask for 1 to 16 threads
+abbrev pub AreThreads : Option ℕ → Type 0
+AreThreads None = Unit {0}
+AreThreads (Some threads) = (1 ≤ threads) × (threads ≤ 16)
+
+abbrev pub IsPoolSize : PoolSize → Type 0
+IsPoolSize One = Unit {0}
+IsPoolSize (Asked threads) = AreThreads threads
+
+-- ==== Windows of one output each, of numbers in any order, from what is cached.
+
+module _ (plan : List Application) (root capacity : ℕ) where
+  -- the window of an output, and the keys that are cached after it
+  abbrev pub window_asked : List Key → ℕ → WindowEvents
+  window_asked keys n = record { first = n; count = 1; events = (serial_window plan root capacity keys n 1).events }
+
+  abbrev pub keys_left : List Key → ℕ → List Key
+  keys_left keys n = (serial_window plan root capacity keys n 1).keys
+
+  -- those of several, one after the other
+  abbrev pub windows_asked : List Key → List ℕ → List WindowEvents
+  windows_asked keys [] = []
+  windows_asked keys (n ∷ ns) = window_asked keys n ∷ windows_asked (keys_left keys n) ns
+
+-- ==== Windows of outputs, one after the other, and the frames that are put of them; what one window leaves.
 
 -- the frames that are there
 abbrev pub given : {A : Type 0} → List (Option A) → List A

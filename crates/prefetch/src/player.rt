@@ -1,8 +1,7 @@
 // `Played`: a clip whose frames are asked for by number, made by a core with one worker.
 ghost use Rattle.std.specs.Prelude.{◌≡◌, ◌<◌, ◌∷◌, [], None, Some, option_map, IfOk, IfErr, OnOk, OnErr, IsErrOf};
 ghost use Rattle.fv_io.specs.Sink.{Puts, PutsPrefix, IsLater, SinkFailed};
-ghost use Rattle.fv_plane.specs.Bytes.{bytes_of};
-ghost use Rattle.fv_plane.specs.Picture.{Picture};
+ghost use Rattle.fv_plane.specs.Picture.{bytes_of, Picture};
 ghost use Rattle.fv_session.specs.Answers.{frame_text};
 ghost use Rattle.prefetch.specs.Windows.{frames_at, given};
 ghost use Rattle.serve_machine.specs.Events.{windows_of};

@@ -1,6 +1,6 @@
 // How many workers a render has.
 ghost use Rattle.std.specs.Prelude.{◌≡◌, ◌≤◌, None, Some};
-ghost use Rattle.prefetch.specs.Pool.{pool, pool_asked, IsPoolSize};
+ghost use Rattle.prefetch.specs.Windows.{pool, pool_asked, IsPoolSize};
 
 use avs_meaning::Crew;
 

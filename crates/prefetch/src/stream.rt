@@ -12,7 +12,7 @@ ghost use Rattle.prefetch.specs.Windows.{frames_at};
 ghost use Rattle.prefetch.specs.Renders.{pool_at};
 ghost use Rattle.prefetch.specs.Cores.{book_at, StandsForSources, IsTold};
 ghost use Rattle.prefetch.specs.Streamed.{IsStreamed};
-ghost use Rattle.prefetch.specs.Streams.{HeadStops, NamesSource, file_at, ToldAs, stop_in, TellsStop, HeadShows};
+ghost use Rattle.prefetch.specs.Rendered.{HeadStops, NamesSource, file_at, ToldAs, stop_in, TellsStop, HeadShows};
 
 use crate::crew::render_crew;
 use crate::graph::SharedGraph;

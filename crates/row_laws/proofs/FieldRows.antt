@@ -1,7 +1,7 @@
 -- Each is computed.
 use Rattle.std.proofs.Common.{refl}
-use Rattle.fv_plane.specs.Look.{picture_from}
-use Rattle.fv_plane.specs.Rate.{gcd}
+use Rattle.fv_plane.specs.Picture.{picture_from}
+use Rattle.fv_plane.specs.Info.{gcd}
 use Rattle.clip_term.specs.Terms.{term_sample, term_samples, info_of, infos_of}
 use Rattle.row_laws.specs.FieldRows.{FieldRows}
 

@@ -1,13 +1,10 @@
 -- Each is computed.
 use Rattle.std.proofs.Common.{refl}
 use Rattle.avs_lex.specs.Piece.{front}
-use Rattle.avs_parse.specs.TokensOf.{tokens_of}
-use Rattle.avs_tree.specs.Lexeme.{unquoted, lexeme_of, spells_name, is_name}
-use Rattle.avs_tree.specs.Words.{keyword_of, type_word_of}
-use Rattle.avs_tree.specs.Next.{is_punctuation, operator_at}
-use Rattle.avs_tree.specs.ExprMachine.{operand, continues, grow, reach, closing_argument}
+use Rattle.avs_parse.specs.Load.{tokens_of, script_of}
+use Rattle.avs_tree.specs.Lexeme.{unquoted, lexeme_of, spells_name, is_name, keyword_of, type_word_of, is_punctuation, operator_at}
+use Rattle.avs_tree.specs.Machine.{operand, continues, grow, reach, closing_argument}
 use Rattle.avs_tree.specs.Place.{verdict}
-use Rattle.avs_parse.specs.Load.{script_of}
 use Rattle.row_laws.specs.PlaceRows.{TreeRows, PlaceRows}
 
 pub tree_rows : TreeRows

@@ -1,8 +1,8 @@
 -- The bytes are heads and frames, computed.
 use Rattle.std.proofs.Common.{refl, arith, [], ◌∷◌}
-use Rattle.fv_plane.specs.Bytes.{wide_bytes, wide_samples, bytes_of_row, row_of_bytes, in_range}
-use Rattle.fv_plane.specs.Rate.{gcd}
-use Rattle.y4m_stream.specs.Parameters.{parameter_fault, info_of}
+use Rattle.fv_plane.specs.Picture.{wide_bytes, wide_samples, bytes_of_row, row_of_bytes, in_range}
+use Rattle.fv_plane.specs.Info.{gcd}
+use Rattle.y4m_stream.specs.Head.{parameter_fault, info_of}
 use Rattle.row_laws.specs.SmallStreams.{AreStreams}
 
 pub are_streams : AreStreams

@@ -3,27 +3,22 @@ use Rattle.std.proofs.Common.{refl, subst}
 use lib.Utf8.{encode}
 use Rattle.std.specs.Fmt.{digits}
 use Rattle.std.specs.Str.{is_utf8, chars}
-use Rattle.fv_plane.specs.Bytes.{wide_bytes, wide_samples, bytes_of_row, row_of_bytes, in_range}
-use Rattle.fv_plane.specs.Look.{picture_from}
-use Rattle.fv_plane.specs.Rate.{gcd}
-use Rattle.y4m_stream.specs.Head.{head_line}
-use Rattle.y4m_stream.specs.Parameters.{parameter_fault, info_of as head_info}
+use Rattle.fv_plane.specs.Picture.{wide_bytes, wide_samples, bytes_of_row, row_of_bytes, in_range, picture_from}
+use Rattle.fv_plane.specs.Info.{gcd}
+use Rattle.y4m_stream.specs.Head.{head_line, parameter_fault, info_of as head_info}
 use Rattle.avs_lex.specs.Piece.{front}
-use Rattle.avs_tree.specs.Lexeme.{unquoted, lexeme_of, spells_name, is_name}
-use Rattle.avs_tree.specs.Words.{keyword_of, type_word_of}
-use Rattle.avs_tree.specs.Next.{is_punctuation, operator_at}
-use Rattle.avs_tree.specs.ExprMachine.{operand, continues, grow, reach, closing_argument}
+use Rattle.avs_tree.specs.Lexeme.{unquoted, lexeme_of, spells_name, is_name, keyword_of, type_word_of, is_punctuation, operator_at}
+use Rattle.avs_tree.specs.Machine.{operand, continues, grow, reach, closing_argument}
 use Rattle.avs_tree.specs.Place.{verdict}
-use Rattle.avs_parse.specs.TokensOf.{tokens_of}
-use Rattle.avs_parse.specs.Load.{script_of}
+use Rattle.avs_parse.specs.Load.{tokens_of, script_of}
 use Rattle.avs_values.specs.Binding.{bind}
 use Rattle.clip_term.specs.Terms.{info_of, infos_of, term_sample, term_samples}
 use Rattle.clip_graph.specs.Unfolding.{term_within}
-use Rattle.avs_meaning.specs.Compiled.{named, expression_in}
+use Rattle.avs_meaning.specs.Arguments.{named, expression_in}
 use Rattle.avs_meaning.specs.Expressions.{call_within}
-use Rattle.avs_meaning.specs.Loops.{is_past, turn}
+use Rattle.avs_meaning.specs.Statements.{is_past, turn}
 use Rattle.avs_meaning.specs.Meaning.{to_clip, below}
-use Rattle.avs_meaning.specs.Outside.{frames_from}
+use Rattle.avs_meaning.specs.State.{frames_from}
 use Rattle.avs_meaning.specs.Table.{builtins, builtin_of}
 use Rattle.row_laws.specs.StreamRows.{TextsBy, FaultsBy, StreamTexts, ScriptFaults}
 use Rattle.row_laws.proofs.WorldLemmas.{listed, listed_tells}

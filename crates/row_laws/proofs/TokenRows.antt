@@ -1,7 +1,7 @@
 -- Each is computed.
 use Rattle.std.proofs.Common.{refl}
 use Rattle.avs_lex.specs.Piece.{front}
-use Rattle.avs_parse.specs.TokensOf.{tokens_of}
+use Rattle.avs_parse.specs.Load.{tokens_of}
 use Rattle.row_laws.specs.TokenRows.{TokenRows, LexFaultRows}
 
 pub token_rows : TokenRows

@@ -9,7 +9,7 @@ use Rattle.std.proofs.lemmas.Map.Text.{is_eq-slice_cmp}
 use Rattle.fv_io.specs.FilesState.{Entry, entry_among, world_of}
 use Rattle.avs_values.specs.Values.{Text}
 use Rattle.avs_parse.specs.Load.{script_of}
-use Rattle.avs_meaning.specs.Outside.{Outside, clip_in, script_in}
+use Rattle.avs_meaning.specs.State.{Outside, clip_in, script_in}
 use Rattle.row_laws.specs.Worlds.{outside_with}
 
 abbrev bytes_in : List Entry → Text → Option (List ℕ)

@@ -16,10 +16,9 @@ use Rattle.clip_term.specs.declared.field.FieldOp.TheVariants as d
 use Rattle.clip_term.specs.declared.run.PlaneStat.TheVariants.{Least, Median}
 use Rattle.clip_term.specs.declared.run.RunCompare.TheVariants.{Greater, Equals}
 use Rattle.clip_term.specs.Choice.{choose, decide}
-use Rattle.clip_term.specs.Words.{frame_word, plane_word, int_word}
-use Rattle.clip_term.specs.ClipTerm.{Act, ClipTerm, applied, no_terms, and_term, source, time, space, joined, soft, fields, choice}
+use Rattle.clip_term.specs.Expression.{frame_word, plane_word, int_word}
+use Rattle.clip_term.specs.Terms.{Act, ClipTerm, applied, no_terms, and_term, source, time, space, joined, soft, fields, choice, info_of, term_picture}
 use Rattle.clip_term.specs.ExampleClips.{all_channels, convolution, one, two, samples}
-use Rattle.clip_term.specs.Terms.{info_of, term_picture}
 use Rattle.row_laws.specs.SmallStreams.{told}
 
 -- two frames of luma of ten bits, and a frame of 4:4:4 of sixteen bits

@@ -5,7 +5,7 @@ use Rattle.fv_plane.specs.declared.format.PixelType.TheVariants.{Y8, YV12}
 use Rattle.fv_plane.specs.declared.format.Field.TheVariants.{Top, Bottom}
 use Rattle.clip_term.specs.declared.fault.FilterFault.TheVariants.{EmptyClip, NotWholeChroma}
 use Rattle.clip_term.specs.declared.field.FieldOp.TheVariants as d
-use Rattle.clip_term.specs.ClipTerm.{fields}
+use Rattle.clip_term.specs.Terms.{fields}
 use Rattle.clip_term.specs.ExampleClips.{rendered, one, m4, m4_told, c12, c12_told, p}
 use Rattle.row_laws.specs.SmallStreams.{told}
 

@@ -2,8 +2,7 @@
 -- or at which the nesting becomes 33.
 use Rattle.std.specs.Prelude.{◌≡◌, pos, [], ◌∷◌, ◌++◌, replicate, codes, true, false, Some, None, Result, Ok, Err}
 use Rattle.avs_lex.specs.declared.fault.LexKind.TheVariants.{FloatLiteral, OpenString}
-use Rattle.avs_tree.specs.Loaded.{Loaded, NoTree, lexical, syntax, nests}
-use Rattle.avs_tree.specs.Tree.{Kind, int, bool, str, name, call, method_calls, method_call, no_method_calls, minus, not_, chain, compare, conditional, group, step, no_steps, arg, no_args, assign, value, if_, arm, no_arms, else_, then_, no_more}
+use Rattle.avs_tree.specs.Tree.{Loaded, NoTree, lexical, syntax, nests, Kind, int, bool, str, name, call, method_calls, method_call, no_method_calls, minus, not_, chain, compare, conditional, group, step, no_steps, arg, no_args, assign, value, if_, arm, no_arms, else_, then_, no_more}
 use Rattle.avs_tree.specs.declared.tree.Operator.TheVariants as o
 use Rattle.avs_tree.specs.declared.words.TypeWord.TheVariants as w
 use Rattle.avs_parse.specs.Load.{script_of}

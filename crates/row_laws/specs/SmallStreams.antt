@@ -6,8 +6,7 @@ use Rattle.fv_plane.specs.declared.format.PixelType.{PixelType}
 use Rattle.fv_plane.specs.declared.format.PixelType.TheVariants.{Y8, YV12}
 use Rattle.fv_plane.specs.declared.format.Field.TheVariants.{Progressive, Unknown}
 use Rattle.fv_plane.specs.declared.format.Tag.TheVariants.{Jpeg}
-use Rattle.fv_plane.specs.Clip.{Clip}
-use Rattle.fv_plane.specs.Picture.{Picture}
+use Rattle.fv_plane.specs.Picture.{Clip, Picture}
 use Rattle.y4m_stream.specs.Stream.{Stream}
 use Rattle.row_laws.specs.Worlds.{frame, dots}
 

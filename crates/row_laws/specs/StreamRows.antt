@@ -3,7 +3,7 @@ use Rattle.std.specs.Prelude.{◌≡◌, ℕ, List, [], ◌∷◌, ◌++◌, cod
 use Rattle.fv_io.specs.FilesState.{Entry}
 use Rattle.avs_values.specs.Values.{Text}
 use Rattle.avs_meaning.specs.Meaning.{Meaning, meaning, wrong}
-use Rattle.avs_meaning.specs.Outside.{Outside}
+use Rattle.avs_meaning.specs.State.{Outside}
 use Rattle.avs_meaning.specs.Faults.{script, input}
 use Rattle.avs_meaning.specs.declared.fault.InputFault.TheVariants as i
 use Rattle.avs_meaning.specs.declared.fault.ScriptKind.TheVariants as k

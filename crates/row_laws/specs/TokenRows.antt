@@ -5,7 +5,7 @@ use Rattle.avs_lex.specs.declared.fault.LexKind.TheVariants.{FloatLiteral, IntRa
 use Rattle.avs_lex.specs.declared.token.Token.{Token}
 use Rattle.avs_lex.specs.declared.token.TokenKind.{TokenKind}
 use Rattle.avs_lex.specs.declared.token.TokenKind.TheVariants as k
-use Rattle.avs_parse.specs.TokensOf.{tokens_of}
+use Rattle.avs_parse.specs.Load.{tokens_of}
 
 abbrev pub at : TokenKind → ℕ → ℕ → ℕ → Token
 at kind start end line = record { kind = kind; start = start; end = end; line = line }

@@ -3,9 +3,8 @@ use Rattle.std.specs.Prelude.{◌≡◌, ℕ, pos, negsuc, ◌-ℤ◌, List, [],
 use Rattle.avs_values.specs.Binding.{bind}
 use Rattle.avs_values.specs.Functions.{plain, signature}
 use Rattle.avs_values.specs.Operators.{binary, unary}
-use Rattle.avs_values.specs.Outcome.{Outcome}
-use Rattle.avs_values.specs.Refusals.{Refusal}
-use Rattle.avs_values.specs.Refusals as f
+use Rattle.avs_values.specs.Values.{Outcome, Refusal}
+use Rattle.avs_values.specs.Values as f
 use Rattle.avs_values.specs.declared.binding.Given.{Given}
 use Rattle.avs_values.specs.declared.operators.BinaryOp.TheVariants as o
 use Rattle.avs_values.specs.declared.operators.UnaryOp.TheVariants as u

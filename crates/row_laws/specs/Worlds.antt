@@ -9,7 +9,7 @@ use Rattle.avs_parse.specs.Load.{script_of}
 use Rattle.clip_graph.specs.Plan.{application_at}
 use Rattle.clip_graph.specs.Unfolding.{key_picture}
 use Rattle.avs_meaning.specs.Meaning.{Meaning, clip, wrong}
-use Rattle.avs_meaning.specs.Outside.{Outside, outside_of}
+use Rattle.avs_meaning.specs.State.{Outside, outside_of}
 
 -- a file of this name and these bytes
 abbrev pub file : Text → List ℕ → Entry

@@ -1,2 +1,1 @@
 pub mod Workload
-pub mod Digested

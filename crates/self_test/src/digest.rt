@@ -1,6 +1,6 @@
 // A sink that digests what is put.
 ghost use Rattle.std.specs.Prelude.{◌≡◌, [], IfOk, Some, string_bytes};
-ghost use Rattle.self_test.specs.Digested.{digest_line};
+ghost use Rattle.self_test.specs.Workload.{digest_line};
 
 use crate::put_log::{Piece, PutLog};
 use fv_io::{Failed, Sink};
@@ -19,7 +19,7 @@ pub struct DigestSink {
 }
 
 impl Model for DigestSink {
-    ghost use Rattle.self_test.specs.Digested.{DigestState, HasTaken};
+    ghost use Rattle.self_test.specs.Workload.{DigestState, HasTaken};
 
     ghost Value = { DigestState };
 

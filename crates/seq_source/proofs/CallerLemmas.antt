@@ -1,7 +1,7 @@
 -- The frames of a source whose bytes are told, for callers.
 use Rattle.std.proofs.Common.{◌≡◌, ◌∙◌, ap, length, Some}
 use Rattle.fv_io.specs.declared.source.Source.{Ghosts}
-use Rattle.fv_plane.specs.Clip.{Clip}
+use Rattle.fv_plane.specs.Picture.{Clip}
 use Rattle.seq_source.specs.FrameSource.{FrameSource, HasFrames, KeepsFrames, frames_of, frames_told}
 use Rattle.seq_source.proofs.FrameLemmas.{frames_are}
 

@@ -6,12 +6,10 @@ use Rattle.std.proofs.lemmas.Bool.{leb-true, le-leb}
 use Rattle.std.proofs.lemmas.List.{length-map, ext_get_or, get_or_default}
 use Rattle.std.proofs.lemmas.List.Sums.{AllPass-from_list_all, list_all-from_AllPass}
 use Rattle.std.proofs.lemmas.Option.{slice_get-map, slice_get-get_or, get_or_from_slice_get}
-use Rattle.fv_plane.specs.Bytes.{picture_of}
-use Rattle.fv_plane.specs.Clip.{Clip}
+use Rattle.fv_plane.specs.Picture.{picture_of, Clip, Picture}
 use Rattle.fv_plane.specs.declared.format.Info.{Info}
 use Rattle.fv_plane.specs.Format.{frame_bytes}
-use Rattle.fv_plane.specs.Picture.{Picture}
-use Rattle.y4m_stream.specs.Index.{Indexed, Indexes}
+use Rattle.y4m_stream.specs.Stream.{Indexed, Indexes}
 use Rattle.y4m_stream.proofs.CallerLemmas.{frame_inside}
 use Rattle.seq_source.specs.FrameSource.{frames_at, has_each, frames_told}
 

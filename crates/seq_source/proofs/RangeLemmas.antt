@@ -7,7 +7,7 @@ use Rattle.std.proofs.lemmas.List.{append_assoc, drop-drop, get_or_append_left, 
 use Rattle.fv_io.specs.declared.source.Source.{Ghosts}
 use Rattle.fv_io.specs.Source.{KeepsSource, IsSteady}
 use Rattle.fv_plane.specs.declared.format.Shape.{Shape}
-use Rattle.fv_plane.specs.Bytes.{in_range, row_of_bytes, wide_bytes, wide_samples, FitsRow}
+use Rattle.fv_plane.specs.Picture.{in_range, row_of_bytes, wide_bytes, wide_samples, FitsRow}
 use Rattle.fv_plane.specs.Format.{frame_bytes, frame_samples, largest_sample, sample_bytes}
 use Rattle.fv_plane.proofs.BytesLemmas.{in_range-append, in_range-fits, length-in_range, whole_samples}
 use Rattle.seq_source.specs.FrameSource.{IsAt}

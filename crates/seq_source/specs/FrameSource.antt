@@ -3,11 +3,9 @@ use Rattle.std.specs.Prelude.{◌≡◌, ◌⊎◌, ℕ, ◌+◌, ◌≤◌, nat
 use Rattle.std.specs.List.{list_all}
 use Rattle.fv_io.specs.declared.source.Source.{Ghosts}
 use Rattle.fv_io.specs.Faults.{risen}
-use Rattle.fv_plane.specs.Bytes.{picture_of}
-use Rattle.fv_plane.specs.Picture.{Picture}
-use Rattle.fv_plane.specs.Clip.{Clip}
+use Rattle.fv_plane.specs.Picture.{picture_of, Picture, Clip}
 use Rattle.fv_plane.specs.Format.{frame_bytes}
-use Rattle.y4m_stream.specs.Index.{Indexed, Indexes}
+use Rattle.y4m_stream.specs.Stream.{Indexed, Indexes}
 
 pub record FrameSource (S : Type 0) : Type 0 where
   pub source : S

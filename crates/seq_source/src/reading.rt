@@ -2,7 +2,7 @@
 ghost use Rattle.std.specs.Prelude.{◌≡◌, ◌+◌, ◌-◌, ◌<◌, ◌≤◌, ◌^◌, ℕ, length, take, drop, IfSome, IfOk, IfErr, OnOk, IsErrOf, slice_index};
 ghost use Rattle.std.specs.Option.{ForSome};
 ghost use Rattle.fv_io.specs.Source.{KeepsSource, IsSteady};
-ghost use Rattle.fv_plane.specs.Bytes.{in_range, row_of_bytes, AreBytes, FitsRow};
+ghost use Rattle.fv_plane.specs.Picture.{in_range, row_of_bytes, AreBytes, FitsRow};
 ghost use Rattle.fv_plane.specs.Format.{IsLegal, frame_bytes};
 ghost use Rattle.seq_source.specs.FrameSource.{IsAt, ReadsFrame, RewindsOnce, end_of};
 ghost use Rattle.seq_source.specs.Faults.{FaultShows};

@@ -2,7 +2,7 @@
 ghost use Rattle.std.specs.Prelude.{◌≡◌, ◌<◌, ◌≤◌, length, Some, None, IsSome, IfSome, IfOk, IfErr, OnOk, OnErr, IsErrOf, slice_get, slice_index};
 ghost use Rattle.std.specs.Option.{ForSome};
 ghost use Rattle.fv_io.specs.Source.{IsSteady};
-ghost use Rattle.y4m_stream.specs.Index.{IsIndex};
+ghost use Rattle.y4m_stream.specs.Stream.{IsIndex};
 ghost use Rattle.seq_source.specs.FrameSource.{IsAt, KeepsFrames, end_of, frames_of};
 ghost use Rattle.seq_source.specs.Faults.{FaultShows, IsNoChange};
 

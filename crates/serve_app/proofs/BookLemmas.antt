@@ -3,13 +3,13 @@ use Rattle.std.proofs.Common.{◌≡◌, ℕ, zero, suc, arith, List, [], ◌∷
 use Rattle.std.specs.FinMap.{get}
 use Rattle.fv_io.specs.World.{World}
 use Rattle.fv_plane.specs.Picture.{Picture}
-use Rattle.clip_term.specs.ClipTerm.{Act, source}
+use Rattle.clip_term.specs.Terms.{Act, source}
 use Rattle.clip_graph.specs.Plan.{Application}
-use Rattle.prefetch.specs.Clips.{clip_at}
+use Rattle.prefetch.specs.Windows.{clip_at}
 use Rattle.avs_parse.specs.Load.{script_of}
 use Rattle.avs_files.proofs.SourceFiles.{IsFile, AreFiles, HasFiles, has_files}
 use Rattle.avs_meaning.specs.Meaning as m
-use Rattle.avs_meaning.specs.Outside.{Outside, outside_of, clip_in}
+use Rattle.avs_meaning.specs.State.{Outside, outside_of, clip_in}
 use Rattle.avs_meaning.specs.declared.state.SourceClip.{SourceClip}
 use Rattle.avs_state.specs.Sources.{source_of, sources_of}
 use Rattle.avs_files.proofs.CallerLemmas.{file_of}

@@ -22,8 +22,7 @@ use Rattle.serve_text.specs.Report.{report, CutsReport}
 use Rattle.serve_text.specs.declared.stop.Stop.{Stop}
 use Rattle.serve_text.specs.declared.stop.Stop.TheVariants.{Write, Memory}
 use Rattle.serve_text.specs.StopKinds.{status_of_stop}
-use Rattle.prefetch.specs.Rendered.{PutsFramesOnly}
-use Rattle.prefetch.specs.Streams.{stop_in, TellsStop, HeadShows}
+use Rattle.prefetch.specs.Rendered.{PutsFramesOnly, stop_in, TellsStop, HeadShows}
 use Rattle.prefetch.specs.declared.pool_size.PoolSize.{PoolSize}
 use Rattle.prefetch.specs.declared.stream.RenderedClip.{RenderedClip}
 use Rattle.serve_app.specs.declared.entry.Telling.{Telling}

@@ -8,8 +8,7 @@ use Rattle.prefetch.specs.declared.pool_size.PoolSize.{PoolSize}
 use Rattle.run_text.specs.Lines.{LineFits, journal_lines, journal_text}
 use Rattle.run_text.specs.Journal.{IsJournal}
 use Rattle.run_agree.proofs.CrewLemmas.{crews_are_lawful}
-use Rattle.prefetch.specs.Windows.{frames_at}
-use Rattle.prefetch.specs.Pool.{pool}
+use Rattle.prefetch.specs.Windows.{frames_at, pool}
 use Rattle.serve_app.specs.Journals.{IsScriptRendered, workers_of}
 
 module _ (told : Option World) (script : List ℕ) (capacity : ℕ) (pool_size : PoolSize) (journal : Option Record) (run : IsScriptRendered told script capacity pool_size journal) where

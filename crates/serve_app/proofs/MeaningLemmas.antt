@@ -1,13 +1,12 @@
 -- A script means one thing at most.
 use Rattle.std.proofs.Common.{None, Option, ◌≡◌, ◌∙◌, ℕ, zero, suc, ◌<◌, arith, List, [], ◌∷◌, length, get_or, slice_get, Some, refl, sym, ap}
 use Rattle.fv_io.specs.World.{World}
-use Rattle.fv_plane.specs.Clip.{Clip}
-use Rattle.fv_plane.specs.Picture.{Picture}
+use Rattle.fv_plane.specs.Picture.{Clip, Picture}
 use Rattle.y4m_stream.proofs.CallerLemmas.{reads_one_way}
 use Rattle.clip_graph.specs.Plan.{Application}
-use Rattle.prefetch.specs.Clips.{clip_at}
+use Rattle.prefetch.specs.Windows.{clip_at}
 use Rattle.avs_meaning.specs.Meaning as m
-use Rattle.avs_meaning.specs.Crews.{Numbers}
+use Rattle.avs_meaning.specs.State.{Numbers}
 use Rattle.avs_meaning.specs.declared.state.SourceClip.{SourceClip}
 use Rattle.avs_state.specs.Sources.{sources_of}
 use Rattle.avs_files.specs.Opened.{IsFileOf}

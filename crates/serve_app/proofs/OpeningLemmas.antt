@@ -21,9 +21,9 @@ use Rattle.serve_text.specs.declared.stop.Stop.TheVariants as of_stop
 use Rattle.prefetch.specs.StreamClips.{book_told, SomeFailed}
 use Rattle.prefetch.specs.declared.pool_size.PoolSize.{PoolSize}
 use Rattle.prefetch.specs.declared.stream.RenderedClip.{RenderedClip}
-use Rattle.prefetch.specs.Pool.{pool}
+use Rattle.prefetch.specs.Windows.{pool}
 use Rattle.prefetch.specs.Streamed.{IsStreamed}
-use Rattle.avs_meaning.specs.Crews.{workers, window}
+use Rattle.avs_meaning.specs.State.{workers, window}
 use Rattle.serve_text.specs.InfoText.{info_text}
 use Rattle.serve_app.specs.Info.{InfoShows, IsToldInfo}
 use Rattle.serve_app.specs.Journals.{IsPool}

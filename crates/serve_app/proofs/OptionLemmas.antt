@@ -10,7 +10,7 @@ use Rattle.command_line.specs.declared.command.Command.{Command}
 use Rattle.command_line.specs.declared.command.Command.TheVariants as c
 use Rattle.command_line.specs.declared.command.RenderOptions.{RenderOptions}
 use Rattle.command_line.specs.declared.command.Tells.{Tells}
-use Rattle.prefetch.specs.Pool.{AreThreads}
+use Rattle.prefetch.specs.Windows.{AreThreads}
 use Rattle.serve_app.specs.Journals.{cache_of}
 use Rattle.serve_app.specs.Run.{AreFit, IsFit}
 

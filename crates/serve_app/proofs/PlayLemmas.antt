@@ -10,24 +10,22 @@ use Rattle.fv_io.specs.declared.source.Source as of_source
 use Rattle.fv_io.specs.declared.sink.Sink.{Ghosts}
 use Rattle.fv_io.specs.Sink.{Puts, PutsPrefix}
 use Rattle.fv_plane.specs.declared.format.Info.{Info}
-use Rattle.fv_plane.specs.Bytes.{bytes_of}
-use Rattle.fv_plane.specs.Clip.{Clip}
-use Rattle.fv_plane.specs.Picture.{Picture}
+use Rattle.fv_plane.specs.Picture.{bytes_of, Clip, Picture}
 use Rattle.y4m_stream.specs.Head.{head}
 use Rattle.y4m_stream.specs.Stream.{frames_text, stream}
 use Rattle.seq_source.specs.FrameSource.{FrameSource, frames_of as frames_in}
 use Rattle.seq_source.proofs.CallerLemmas.{clip_told}
-use Rattle.clip_term.specs.ClipTerm.{Act, source}
+use Rattle.clip_term.specs.Terms.{Act, source}
 use Rattle.clip_graph.specs.Plan.{Application, application_at, IsPlan}
 use Rattle.clip_graph.specs.Unfolding.{key_picture}
 use Rattle.serve_worker.specs.Sources.{AreSources, source_infos}
 use Rattle.inst_table.specs.declared.place.Place.{Place}
 use Rattle.inst_table.specs.declared.place.Slot.{Slot}
 use Rattle.serve_text.specs.InfoText.{info_text}
-use Rattle.avs_meaning.specs.Crews.{Numbers, workers, window}
+use Rattle.avs_meaning.specs.State.{Numbers, workers, window}
 use Rattle.serve_machine.specs.declared.windows.Record.{Record}
 use Rattle.serve_machine.specs.Events.{frame_key}
-use Rattle.prefetch.specs.Clips.{clip_at}
+use Rattle.prefetch.specs.Windows.{clip_at, pool}
 use Rattle.avs_eval.specs.Evaluates.{Evaluates}
 use Rattle.avs_eval.specs.declared.evaluation.Opened.{Opened}
 use Rattle.avs_meaning.specs.Faults as f
@@ -47,16 +45,14 @@ use Rattle.serve_app.specs.Info.{IsInfoOf, IsToldInfo, InfoShows, PutsInfo}
 use Rattle.prefetch.specs.StreamClips.{book_told, IsClipOf, SomeFailed, PutsFrames, PutsSome, StreamShows}
 use Rattle.prefetch.specs.declared.pool_size.PoolSize.{PoolSize}
 use Rattle.prefetch.specs.declared.stream.RenderedClip.{RenderedClip}
-use Rattle.prefetch.specs.Pool.{pool}
 use Rattle.prefetch.specs.Streamed.{IsStreamed}
 use Rattle.prefetch.specs.Journals.{IsRendered, PutsCount, FailsWithin, CutsShort}
 use Rattle.serve_app.specs.Journals.{IsPool, IsPlanOf, IsScriptRendered, IsRunOf, ScriptCuts}
 use Rattle.serve_app.specs.Renders.{IsScriptRender, PutsClip}
 use Rattle.serve_app.specs.Opening.{Tells, EndsBefore}
-use Rattle.prefetch.specs.Rendered.{PutsWholeFrames}
+use Rattle.prefetch.specs.Rendered.{PutsWholeFrames, TellsStop, HeadShows}
 use Rattle.serve_core.specs.Stands.{Book}
 use Rattle.serve_app.specs.Stop.{IsOfScript, ScriptHasClip, HasInfo, IsByScript, RenderShows}
-use Rattle.prefetch.specs.Streams.{TellsStop, HeadShows}
 use Rattle.serve_app.proofs.MeaningLemmas.{same_plan, same_root, same_crew}
 
 -- ---- worlds that are told

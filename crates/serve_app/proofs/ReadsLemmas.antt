@@ -8,11 +8,11 @@ use Rattle.inst_table.specs.declared.place.Place.{Place}
 use Rattle.inst_table.specs.declared.place.Slot.{Slot}
 use Rattle.serve_worker.specs.declared.instance.Instance.{Instance}
 use Rattle.serve_worker.specs.Furnishing.{sources_in as sources_of_table, fault_counts}
-use Rattle.clip_term.specs.ClipTerm.{Act, source}
+use Rattle.clip_term.specs.Terms.{Act, source}
 use Rattle.clip_graph.specs.Plan.{Application, is_source, sources_in}
 use Rattle.avs_meaning.specs.Faults.{Fault, Shows, script}
 use Rattle.avs_meaning.specs.Meaning as m
-use Rattle.avs_meaning.specs.Outside.{Outside}
+use Rattle.avs_meaning.specs.State.{Outside}
 use Rattle.avs_meaning.specs.declared.fault.FileKind.{FileKind}
 use Rattle.avs_meaning.specs.declared.fault.ScriptKind.TheVariants as k
 use Rattle.avs_meaning.specs.declared.state.SourceClip.{SourceClip}

@@ -11,8 +11,7 @@ use Rattle.fv_io.specs.Sink.{PutsPrefix}
 use Rattle.fv_io.specs.World.{World, InWorld}
 use Rattle.fv_io.proofs.CallerLemmas.{gets_all, gets_none}
 use Rattle.prefetch.specs.Rendered.{PutsNothing}
-use Rattle.serve_replay.specs.Texts.{longest}
-use Rattle.serve_replay.specs.Verdicts.{IsSaidOf}
+use Rattle.serve_replay.specs.Verdicts.{longest, IsSaidOf}
 use Rattle.serve_replay.proofs.VerdictLemmas.{said_once}
 use Rattle.serve_text.specs.Lines.{Says, stop_line, file_line, file_kind}
 use Rattle.serve_text.specs.StopKinds.{status_of_stop}

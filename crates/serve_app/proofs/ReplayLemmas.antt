@@ -11,8 +11,7 @@ use Rattle.fv_io.specs.declared.sink.Sink.{Ghosts}
 use Rattle.prefetch.specs.Rendered.{PutsNothing}
 use Rattle.avs_eval.specs.declared.evaluation.Opened.{Opened}
 use Rattle.avs_meaning.specs.Meaning as m
-use Rattle.serve_replay.specs.Texts.{longest}
-use Rattle.serve_replay.specs.Verdicts.{IsSaidOf, PutsDue, DueStops}
+use Rattle.serve_replay.specs.Verdicts.{longest, IsSaidOf, PutsDue, DueStops}
 use Rattle.serve_replay.specs.declared.reading.JournalStop.{JournalStop}
 use Rattle.serve_replay.specs.declared.reading.JournalStop.TheVariants as of_journal
 use Rattle.serve_text.specs.declared.stop.Stop.{Stop}

@@ -7,7 +7,7 @@ use Rattle.fv_io.specs.Sink.{PutsPrefix, IsLater, SinkFailed}
 use Rattle.fv_io.specs.World.{World, InWorld}
 use Rattle.fv_io.specs.Told.{with_piece}
 use Rattle.fv_io.proofs.CallerLemmas.{gets_all, gets_none}
-use Rattle.fv_plane.specs.Clip.{Clip}
+use Rattle.fv_plane.specs.Picture.{Clip}
 use Rattle.fv_plane.specs.declared.format.Info.{Info}
 use Rattle.y4m_stream.specs.Stream.{stream}
 use Rattle.avs_meaning.specs.Faults.{Fault, input}
@@ -20,9 +20,8 @@ use Rattle.serve_text.specs.StopKinds.{status_of_stop}
 use Rattle.serve_app.specs.Info.{IsInfoOf, IsToldInfo, InfoShows, PutsInfo}
 use Rattle.serve_app.specs.Renders.{PutsClip}
 use Rattle.serve_app.specs.Meaning.{ReadsOnce, Meaning, a_clip, a_fault, MeansClip, Means, status_of, status_of_fault, script_status}
-use Rattle.prefetch.specs.Rendered.{PutsNothing, PutsWholeFrames, PutsFramesOnly, EndsInFrame, PutsHead, PutsNoHead, IsUntorn}
+use Rattle.prefetch.specs.Rendered.{PutsNothing, PutsWholeFrames, PutsFramesOnly, EndsInFrame, PutsHead, PutsNoHead, IsUntorn, file_at, TellsStop, HeadShows}
 use Rattle.serve_app.specs.Stop.{IsOfScript, ScriptHasClip, HasInfo, HasFault, HasChanged, IsScriptFault, IsByScript, RenderShows}
-use Rattle.prefetch.specs.Streams.{file_at, TellsStop, HeadShows}
 use Rattle.serve_text.specs.Lines.{Says, stop_line, read_line, memory_line}
 use Rattle.prefetch.specs.declared.pool_size.PoolSize.{PoolSize}
 use Rattle.command_line.specs.declared.command.Tells.{Tells}
@@ -40,9 +39,8 @@ use Rattle.serve_machine.specs.declared.event.WindowStop.TheVariants as worker
 use Rattle.serve_machine.specs.declared.windows.Record.{Record}
 use Rattle.serve_machine.specs.Events.{windows_of}
 use Rattle.serve_text.specs.InfoText.{info_text}
-use Rattle.avs_meaning.specs.Crews.{workers, window}
-use Rattle.self_test.specs.Digested.{digest_line}
-use Rattle.self_test.specs.Workload.{self_world}
+use Rattle.avs_meaning.specs.State.{workers, window}
+use Rattle.self_test.specs.Workload.{digest_line, self_world}
 use Rattle.serve_app.proofs.MeaningLemmas.{means_one_thing, same_plan, same_root, same_crew}
 use Rattle.serve_app.proofs.TextLemmas.{none_is_prefix, frames_are_prefix}
 

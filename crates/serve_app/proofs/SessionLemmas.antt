@@ -13,9 +13,7 @@ use Rattle.fv_io.specs.declared.sink.Sink.{Ghosts}
 use Rattle.fv_io.specs.Sink.{Puts, PutsPrefix}
 use Rattle.fv_io.specs.Source.{SourceFailed}
 use Rattle.fv_io.proofs.CallerLemmas.{gets_all, gets_none}
-use Rattle.fv_plane.specs.Bytes.{bytes_of}
-use Rattle.fv_plane.specs.Clip.{picture_at}
-use Rattle.fv_plane.specs.Picture.{Picture}
+use Rattle.fv_plane.specs.Picture.{bytes_of, picture_at, Picture}
 use Rattle.fv_session.specs.Answers.{answer_to, answers, frame_text, frame_answer}
 use Rattle.fv_session.specs.Requests.{Asked, requests}
 use Rattle.fv_session.specs.declared.request.Request.{Request}
@@ -31,9 +29,8 @@ use Rattle.inst_table.specs.declared.place.Slot.{Slot}
 use Rattle.serve_machine.specs.declared.event.WindowStop.{WindowStop}
 use Rattle.serve_machine.specs.declared.windows.Record.{Record}
 use Rattle.serve_machine.specs.Events.{frame_key, WindowEvents, windows_of}
-use Rattle.prefetch.specs.Clips.{clip_at}
-use Rattle.prefetch.specs.Windows.{frames_at}
-use Rattle.avs_meaning.specs.Crews.{Numbers}
+use Rattle.prefetch.specs.Windows.{clip_at, frames_at}
+use Rattle.avs_meaning.specs.State.{Numbers}
 use Rattle.avs_meaning.specs.Faults as f
 use Rattle.avs_meaning.specs.Faults.{input}
 use Rattle.avs_meaning.specs.Meaning as m

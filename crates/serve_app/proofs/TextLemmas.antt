@@ -3,7 +3,7 @@ use Rattle.std.proofs.Common.{◌≡◌, inl, inr}
 use Rattle.fv_io.specs.declared.sink.Sink.{Ghosts}
 use Rattle.fv_io.specs.Sink.{PutsPrefix}
 use Rattle.fv_io.proofs.CallerLemmas.{gets_none, gets_all, gets_more}
-use Rattle.fv_plane.specs.Clip.{Clip}
+use Rattle.fv_plane.specs.Picture.{Clip}
 use Rattle.y4m_stream.specs.Stream.{stream}
 use Rattle.prefetch.proofs.TextLemmas.{text_of_part}
 use Rattle.prefetch.specs.Rendered.{PutsPart, PutsWholeFrames}

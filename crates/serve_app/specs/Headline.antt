@@ -8,7 +8,7 @@ use Rattle.fv_io.specs.declared.sink.Sink.{Ghosts}
 use Rattle.fv_io.specs.Files.{KeepsFiles, FilesFailed}
 use Rattle.fv_io.specs.Sink.{Puts, PutsPrefix, IsLater, SinkFailed}
 use Rattle.fv_io.specs.World.{World, InWorld}
-use Rattle.fv_plane.specs.Clip.{Clip}
+use Rattle.fv_plane.specs.Picture.{Clip}
 use Rattle.y4m_stream.specs.Stream.{stream}
 use Rattle.avs_meaning.specs.Faults.{input}
 use Rattle.avs_meaning.specs.declared.fault.InputFault.{InputFault}
@@ -31,10 +31,9 @@ use Rattle.serve_app.specs.Replays.{HasText, IsVerdictOf, IsToldVerdict, IsJourn
 use Rattle.serve_text.specs.Report.{CutsReport}
 use Rattle.serve_app.specs.SelfTest.{SelfTestEnds}
 use Rattle.serve_app.specs.Sessions.{IsAnswersOf, IsToldAnswers, HasAnswers, AnswersList, IsListFault, IsSessionRun, SessionCuts, FetchesList, session_status}
-use Rattle.prefetch.specs.Rendered.{PutsNothing, PutsWholeFrames, EndsInFrame, IsUntorn, PutsHead, PutsNoHead}
+use Rattle.prefetch.specs.Rendered.{PutsNothing, PutsWholeFrames, EndsInFrame, IsUntorn, PutsHead, PutsNoHead, file_at}
 use Rattle.serve_app.specs.Stop.{IsOfScript, ScriptHasClip, HasInfo, HasFault, HasChanged, IsScriptFault}
 use Rattle.prefetch.specs.Answered.{EndsEarly}
-use Rattle.prefetch.specs.Streams.{file_at}
 use Rattle.serve_text.specs.Lines.{Says, usage_line, read_line, write_line, memory_line, script_line, input_line, file_line, changed_kind, file_kind}
 use Rattle.serve_text.specs.declared.stop.FileFault.{FileFault}
 

@@ -6,7 +6,7 @@ use Rattle.fv_io.specs.World.{World}
 use Rattle.clip_graph.specs.Plan.{Application}
 use Rattle.prefetch.specs.Rendered.{PutsNothing}
 use Rattle.serve_text.specs.InfoText.{info_text}
-use Rattle.avs_meaning.specs.Crews.{Numbers, workers, window}
+use Rattle.avs_meaning.specs.State.{Numbers, workers, window}
 use Rattle.avs_meaning.specs.Faults.{input}
 use Rattle.avs_meaning.specs.Meaning as m
 use Rattle.serve_text.specs.declared.stop.Stop.{Stop}

@@ -11,9 +11,9 @@ use Rattle.run_text.specs.Lines.{journal_text}
 use Rattle.run_text.specs.Journal.{IsJournal}
 use Rattle.prefetch.specs.declared.pool_size.Pool.{Pool}
 use Rattle.prefetch.specs.declared.pool_size.PoolSize.{PoolSize}
-use Rattle.prefetch.specs.Pool.{pool}
+use Rattle.prefetch.specs.Windows.{pool}
 use Rattle.prefetch.specs.Journals.{IsRendered, IsCutShort}
-use Rattle.avs_meaning.specs.Crews.{Numbers}
+use Rattle.avs_meaning.specs.State.{Numbers}
 use Rattle.avs_meaning.specs.Meaning as m
 use Rattle.serve_app.specs.Meaning.{meaning_in}
 use Rattle.serve_app.specs.Stop.{IsOfScript}

@@ -1,14 +1,12 @@
 -- What a script means in a world of files: a clip, or its first fault.
 use Rattle.std.specs.Prelude.{◌≡◌, ℕ, List, length, slice_get, slice_index_or, [], Option, Some, ◌+◌}
 use Rattle.fv_io.specs.World.{World, InWorld}
-use Rattle.fv_plane.specs.Clip.{Clip}
-use Rattle.fv_plane.specs.Picture.{Picture}
+use Rattle.fv_plane.specs.Picture.{Clip, Picture}
 use Rattle.clip_graph.specs.Plan.{Application}
-use Rattle.prefetch.specs.Clips.{clip_at}
+use Rattle.prefetch.specs.Windows.{clip_at}
 use Rattle.avs_parse.specs.Load.{script_of}
 use Rattle.avs_meaning.specs.Faults.{Fault, script, input}
-use Rattle.avs_meaning.specs.Crews.{Numbers}
-use Rattle.avs_meaning.specs.Outside.{outside_of}
+use Rattle.avs_meaning.specs.State.{Numbers, outside_of}
 use Rattle.avs_meaning.specs.declared.state.SourceClip.{SourceClip}
 use Rattle.avs_state.specs.Sources.{sources_of}
 use Rattle.avs_files.specs.Opened.{IsFileOf}

@@ -3,14 +3,13 @@ use Rattle.std.specs.Prelude.{◌≡◌, ℕ, List, Option, Result, OnOk, IfOk, 
 use Rattle.fv_io.specs.declared.sink.Sink.{Ghosts}
 use Rattle.fv_io.specs.Sink.{Puts}
 use Rattle.fv_io.specs.World.{World, InWorld}
-use Rattle.fv_plane.specs.Clip.{Clip}
+use Rattle.fv_plane.specs.Picture.{Clip}
 use Rattle.y4m_stream.specs.Stream.{stream}
 use Rattle.serve_machine.specs.declared.windows.Record.{Record}
 use Rattle.serve_text.specs.declared.stop.Stop.{Stop}
 use Rattle.prefetch.specs.declared.pool_size.PoolSize.{PoolSize}
 use Rattle.prefetch.specs.declared.stream.RenderedClip.{RenderedClip}
-use Rattle.prefetch.specs.Rendered.{PutsFramesOnly}
-use Rattle.prefetch.specs.Streams.{stop_in, TellsStop, HeadShows}
+use Rattle.prefetch.specs.Rendered.{PutsFramesOnly, stop_in, TellsStop, HeadShows}
 use Rattle.serve_app.specs.Journals.{IsRunOf, ScriptCuts}
 use Rattle.serve_app.specs.Meaning.{MeansClip}
 use Rattle.serve_app.specs.Stop.{RenderShows, HasInfo}

@@ -9,11 +9,10 @@ use Rattle.fv_io.specs.World.{World, InWorld}
 use Rattle.clip_graph.specs.Plan.{Application}
 use Rattle.prefetch.specs.Rendered.{PutsNothing}
 use Rattle.avs_eval.specs.declared.evaluation.Opened.{Opened}
-use Rattle.avs_meaning.specs.Crews.{Numbers}
+use Rattle.avs_meaning.specs.State.{Numbers}
 use Rattle.avs_meaning.specs.Faults.{input}
 use Rattle.avs_meaning.specs.Meaning as m
-use Rattle.serve_replay.specs.Texts.{longest}
-use Rattle.serve_replay.specs.Verdicts.{IsSaidOf}
+use Rattle.serve_replay.specs.Verdicts.{longest, IsSaidOf}
 use Rattle.serve_replay.specs.declared.reading.JournalStop.{JournalStop}
 use Rattle.serve_replay.specs.declared.reading.JournalStop.TheVariants as of_journal
 use Rattle.serve_text.specs.declared.stop.FileFault.{FileFault}

@@ -20,8 +20,8 @@ use Rattle.serve_machine.specs.Events.{windows_of}
 use Rattle.prefetch.specs.declared.pool_size.PoolSize.{PoolSize}
 use Rattle.prefetch.specs.declared.pool_size.PoolSize.TheVariants.{One, Asked}
 use Rattle.prefetch.specs.declared.stream.RenderedClip.{RenderedClip}
-use Rattle.prefetch.specs.Pool.{AreThreads}
-use Rattle.prefetch.specs.Rendered.{PutsFramesOnly}
+use Rattle.prefetch.specs.Windows.{AreThreads}
+use Rattle.prefetch.specs.Rendered.{PutsFramesOnly, stop_in, TellsStop, HeadShows}
 use Rattle.serve_app.specs.declared.entry.Telling.{Telling}
 use Rattle.serve_app.specs.declared.entry.Telling.TheVariants as telling
 use Rattle.serve_app.specs.Info.{InfoShows, PutsInfo}
@@ -33,7 +33,6 @@ use Rattle.serve_app.specs.Replays.{IsScriptReplay}
 use Rattle.serve_app.specs.SelfTest.{PutsSelfLine, SelfTestShows}
 use Rattle.serve_app.specs.Sessions.{IsScriptSession, FetchesList}
 use Rattle.serve_app.specs.Stop.{RenderShows, ScriptHasClip, HasInfo}
-use Rattle.prefetch.specs.Streams.{stop_in, TellsStop, HeadShows}
 
 -- the options of a render are in their ranges: the cache holds a frame, and 1 to 16 threads are asked for, if any
 abbrev pub AreFit : RenderOptions → Type 0

@@ -3,10 +3,9 @@ use Rattle.std.specs.Prelude.{◌≡◌, ◌⊎◌, ℕ, List, codes}
 use Rattle.fv_io.specs.declared.sink.Sink.{Ghosts}
 use Rattle.fv_io.specs.Sink.{Puts, PutsPrefix, SinkFailed}
 use Rattle.fv_io.specs.World.{World}
-use Rattle.fv_plane.specs.Clip.{Clip}
+use Rattle.fv_plane.specs.Picture.{Clip}
 use Rattle.y4m_stream.specs.Stream.{stream}
-use Rattle.self_test.specs.Workload.{self_world}
-use Rattle.self_test.specs.Digested.{digest_line}
+use Rattle.self_test.specs.Workload.{self_world, digest_line}
 use Rattle.prefetch.specs.Rendered.{PutsNothing}
 use Rattle.serve_text.specs.declared.stop.Stop.{Stop}
 use Rattle.serve_text.specs.declared.stop.Stop.TheVariants as of_stop

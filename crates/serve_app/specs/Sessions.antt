@@ -7,8 +7,7 @@ use Rattle.fv_io.specs.declared.files.FetchFault.TheVariants as of_fetch
 use Rattle.fv_io.specs.declared.sink.Sink.{Ghosts}
 use Rattle.fv_io.specs.Sink.{Puts, PutsPrefix, SinkFailed}
 use Rattle.fv_io.specs.World.{World, InWorld}
-use Rattle.fv_plane.specs.Bytes.{bytes_of}
-use Rattle.fv_plane.specs.Clip.{Clip, picture_at}
+use Rattle.fv_plane.specs.Picture.{bytes_of, Clip, picture_at}
 use Rattle.fv_session.specs.Answers.{answers}
 use Rattle.fv_session.specs.Requests.{Asked, requests}
 use Rattle.fv_session.specs.declared.request.Request.{Request}
@@ -16,7 +15,7 @@ use Rattle.fv_session.specs.declared.request.SessionFault.{SessionFault}
 use Rattle.fv_session.specs.declared.request.SessionFault.TheVariants as of_fault
 use Rattle.clip_graph.specs.Plan.{Application}
 use Rattle.avs_meaning.specs.Faults.{input}
-use Rattle.prefetch.specs.Rendered.{PutsNothing}
+use Rattle.prefetch.specs.Rendered.{PutsNothing, TellsStop}
 use Rattle.serve_machine.specs.declared.event.WindowStop.{WindowStop}
 use Rattle.serve_machine.specs.declared.windows.Record.{Record}
 use Rattle.serve_machine.specs.Events.{windows_of}
@@ -29,7 +28,6 @@ use Rattle.serve_text.specs.declared.stop.Stop.TheVariants as of_stop
 use Rattle.prefetch.specs.Answered.{EndsEarly, AreWindowsIn, numbers_asked, session_windows}
 use Rattle.prefetch.specs.declared.session.SessionStop.{SessionStop}
 use Rattle.prefetch.specs.declared.session.SessionStop.TheVariants.{Stopped, ListFault as OfList}
-use Rattle.prefetch.specs.Streams.{TellsStop}
 use Rattle.serve_app.specs.Journals.{IsPlanOf}
 use Rattle.serve_app.specs.Meaning.{Meaning, a_clip, a_fault, MeansClip, status_of_fault, files_in}
 use Rattle.serve_app.specs.Stop.{ScriptHasClip, HasFault, HasChanged, IsScriptFault}

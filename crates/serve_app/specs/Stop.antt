@@ -3,7 +3,7 @@ use Rattle.std.specs.Prelude.{◌≡◌, ℕ, List, Option, Some}
 use Rattle.fv_io.specs.declared.sink.Sink.{Ghosts}
 use Rattle.fv_io.specs.Sink.{SinkFailed}
 use Rattle.fv_io.specs.World.{World, InWorld}
-use Rattle.fv_plane.specs.Clip.{Clip}
+use Rattle.fv_plane.specs.Picture.{Clip}
 use Rattle.fv_plane.specs.declared.format.Info.{Info}
 use Rattle.prefetch.specs.Rendered.{PutsNothing, PutsWholeFrames, PutsFront, EndsInFrame}
 use Rattle.avs_meaning.specs.Faults.{Fault, input}

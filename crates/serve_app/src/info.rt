@@ -3,7 +3,7 @@ ghost use Rattle.std.specs.Prelude.{◌≡◌, ◌<◌, length, IfOk, IfErr, IsE
 ghost use Rattle.fv_io.specs.Files.{KeepsFiles, FilesFailed};
 ghost use Rattle.fv_io.specs.Sink.{IsLater};
 ghost use Rattle.fv_io.specs.World.{InWorld};
-ghost use Rattle.avs_meaning.specs.Crews.{window, workers};
+ghost use Rattle.avs_meaning.specs.State.{window, workers};
 ghost use Rattle.serve_text.specs.InfoText as t;
 ghost use Rattle.serve_app.specs.Info.{InfoShows, PutsInfo};
 ghost use Rattle.serve_app.specs.Meaning.{ReadsOnce};

@@ -5,7 +5,7 @@ ghost use Rattle.fv_io.specs.Faults.{HasRisen};
 ghost use Rattle.fv_io.specs.Files.{KeepsFiles, FilesFailed};
 ghost use Rattle.fv_io.specs.Sink.{IsLater};
 ghost use Rattle.prefetch.specs.declared.pool_size.PoolSize.TheVariants.{One};
-ghost use Rattle.prefetch.specs.Pool.{IsPoolSize};
+ghost use Rattle.prefetch.specs.Windows.{IsPoolSize};
 ghost use Rattle.serve_app.specs.Meaning.{ReadsOnce};
 ghost use Rattle.serve_app.specs.Renders.{IsScriptRender};
 ghost use Rattle.serve_app.specs.Stop.{IsByScript};

@@ -4,10 +4,8 @@ use Rattle.std.specs.Prelude.{slice_index_or}
 use Rattle.std.proofs.lemmas.Option.{get_or_from_slice_get, slice_get_within}
 use Rattle.fv_plane.specs.declared.format.Info.{Info}
 use Rattle.fv_plane.specs.declared.key.Key.{Key}
-use Rattle.fv_plane.specs.Look.{look_in, picture_from}
-use Rattle.fv_plane.specs.Picture.{Picture}
-use Rattle.clip_term.specs.ClipTerm.{Act, source}
-use Rattle.clip_term.specs.Terms.{asked}
+use Rattle.fv_plane.specs.Picture.{look_in, picture_from, Picture}
+use Rattle.clip_term.specs.Terms.{Act, source, asked}
 use Rattle.clip_graph.specs.Plan.{Application, application_at, infos_at, is_source, IsPlan, IsCounted}
 use Rattle.clip_graph.specs.Unfolding.{key_of, input_keys, key_made, key_picture, IsKeyBelow}
 use Rattle.clip_graph.proofs.UnfoldingLemmas.{unfolds, inputs_are_keys}

@@ -6,7 +6,7 @@ use Rattle.std.proofs.lemmas.List.{length-map}
 use Rattle.fv_plane.specs.declared.format.Info.{Info}
 use Rattle.fv_plane.specs.Picture.{Picture}
 use Rattle.fv_plane.specs.declared.key.Key.{Key}
-use Rattle.clip_term.specs.ClipTerm.{Act, source}
+use Rattle.clip_term.specs.Terms.{Act, source}
 use Rattle.clip_graph.specs.Plan.{Application, application_at, is_source, sources_in, IsPlan, IsCounted}
 use Rattle.frame_cache.specs.Cached.{Cached, same_key, at_key, fronted, put_first, dropped_key}
 use Rattle.frame_cache.proofs.CallerLemmas.{test, same_keys, at_fronted, at_put_other}

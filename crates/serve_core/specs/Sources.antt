@@ -3,7 +3,7 @@ use Rattle.std.specs.Prelude.{◌≡◌, ℕ, ◌+◌, ◌==◌, ◌<◌, true, 
 use Rattle.fv_plane.specs.declared.format.Info.{Info}
 use Rattle.fv_plane.specs.declared.format.Shape.{Shape}
 use Rattle.fv_plane.specs.Picture.{Picture}
-use Rattle.clip_term.specs.Ops.{source_info}
+use Rattle.clip_term.specs.Terms.{source_info}
 use Rattle.clip_graph.specs.Plan.{Application, application_at, is_source}
 use Rattle.inst_table.specs.declared.place.Place.{Place}
 use Rattle.inst_table.specs.declared.place.Slot.{Slot}

@@ -3,8 +3,7 @@ use Rattle.std.specs.Prelude.{◌≡◌, ℕ, ◌+◌, ◌≤◌, true, List, []
 use Rattle.fv_io.specs.Faults.{HasRisen}
 use Rattle.fv_plane.specs.Picture.{Picture}
 use Rattle.fv_plane.specs.declared.key.Key.{Key}
-use Rattle.clip_term.specs.ClipTerm.{Act}
-use Rattle.clip_term.specs.Ops.{SourcePart, source_part}
+use Rattle.clip_term.specs.Terms.{Act, SourcePart, source_part}
 use Rattle.clip_graph.specs.Plan.{Application, application_at, IsPlan}
 use Rattle.clip_graph.specs.Unfolding.{key_picture}
 use Rattle.frame_cache.specs.Cached.{Cached, at_key}

@@ -3,7 +3,7 @@ use Rattle.std.specs.Prelude.{List, [], ◌∷◌, pos}
 use Rattle.fv_plane.specs.declared.format.Info.{Info}
 use Rattle.clip_graph.specs.Plan.{Application}
 use Rattle.clip_term.specs.Refusals.{no_info}
-use Rattle.clip_term.specs.ClipTerm.{source, time}
+use Rattle.clip_term.specs.Terms.{source, time}
 use Rattle.clip_term.specs.declared.op.TimeOp.TheVariants.{Trim}
 use Rattle.clip_term.specs.declared.op.TrimBound.TheVariants.{Last}
 use Rattle.serve_machine.specs.declared.event.Event.{Event}

@@ -2,7 +2,7 @@
 use Rattle.std.proofs.Common.{◌≡◌, ◌∙◌, ℕ, ◌+◌, ◌-◌, ◌<◌, ◌≤◌, List, [], ◌++◌, length, take, drop, sym, ap, arith}
 use Rattle.std.proofs.lemmas.List.{append_assoc, drop-drop, take-append-drop, length-drop, length-append, append-nil, nil_from_length}
 use Rattle.fv_io.specs.Reading.{Fills}
-use Rattle.serve_replay.specs.Texts.{with_rest}
+use Rattle.serve_replay.specs.Verdicts.{with_rest}
 
 module _ (told buf : List ℕ) (count place now : ℕ) (fills : Fills (drop place told) count buf) (here : now ≡ place + count) where
   -- the bytes go over to the text

@@ -1,14 +1,39 @@
--- The line that is said of a text, and what a call that puts it leaves.
-use Rattle.std.specs.Prelude.{◌≡◌, ℕ, List}
-use Rattle.fv_io.specs.declared.sink.Sink.{Ghosts}
+-- The texts that are read, the line that is said of each, and what a call that puts it leaves.
+use Rattle.std.specs.List.{count_by}
+use Rattle.std.specs.Prelude.{ℕ, ◌==◌, Bool, List, ◌++◌, codes, decimal, drop, ◌≡◌}
 use Rattle.fv_io.specs.Sink.{Puts, PutsPrefix, SinkFailed}
+use Rattle.fv_io.specs.declared.sink.Sink.{Ghosts}
 use Rattle.clip_graph.specs.Plan.{Application}
+use Rattle.run_text.specs.Journal.{Judges}
 use Rattle.run_text.specs.declared.verdict.Verdict.{Verdict}
 use Rattle.run_text.specs.declared.verdict.Verdict.TheVariants.{Yes, No}
-use Rattle.run_text.specs.Journal.{Judges}
 use Rattle.serve_text.specs.declared.stop.Stop.{Stop}
 use Rattle.serve_text.specs.declared.stop.Stop.TheVariants as of_stop
-use Rattle.serve_replay.specs.Lines.{run_line, wrong_line}
+
+-- ==== The lines that say what a text is.
+
+abbrev pub is_newline : ℕ → Bool
+is_newline byte = byte == 10
+
+-- a journal, with the number of its lines, each of which has a newline at its end
+abbrev pub run_line : List ℕ → List ℕ
+run_line text = codes "run: " ++ (decimal (count_by is_newline text) ++ codes " lines\n")
+
+-- no journal, with the first line at which it stops being one
+abbrev pub wrong_line : ℕ → List ℕ
+wrong_line line = codes "not a run: line " ++ (decimal line ++ codes "\n")
+
+-- ==== The texts that are read.
+
+-- the longest text that is read
+abbrev pub longest : ℕ
+longest = 67108864
+
+-- the text so far, and the bytes from the source's place on
+abbrev pub with_rest : List ℕ → List ℕ → ℕ → List ℕ
+with_rest text told place = text ++ drop place told
+
+-- ==== The line that is said of a text, and what a call that puts it leaves.
 
 -- the line of a verdict on a text
 abbrev pub said : List ℕ → Verdict → List ℕ

@@ -1,6 +1,6 @@
 // The lines that say what a text is.
 ghost use Rattle.std.specs.Prelude.{◌≡◌, ◌+◌, ◌≤◌, ◌++◌, length, decimal, count_by};
-ghost use Rattle.serve_replay.specs.Lines as l;
+ghost use Rattle.serve_replay.specs.Verdicts as l;
 
 use arrayvec::ArrayString;
 use itoa::Buffer;

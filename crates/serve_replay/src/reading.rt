@@ -2,7 +2,7 @@
 ghost use Rattle.std.specs.Prelude.{◌≡◌, ◌+◌, ◌<◌, ◌≤◌, [], true, false, Ok, length, drop, IfOk, OnOk, IsErrOf};
 ghost use Rattle.std.specs.Option.{ForSome};
 ghost use Rattle.fv_io.specs.Source.{KeepsSource, IsSteady, SourceFailed};
-ghost use Rattle.serve_replay.specs.Texts.{longest, with_rest};
+ghost use Rattle.serve_replay.specs.Verdicts.{longest, with_rest};
 
 use fv_io::{Source, read_full};
 use std::alloc::{AllocError, Global};

@@ -4,7 +4,7 @@ use Rattle.std.proofs.lemmas.List.{length-append}
 use Rattle.fv_plane.specs.declared.format.Shape.{Shape}
 use Rattle.fv_plane.specs.declared.format.PixelType.{PixelType}
 use Rattle.fv_plane.specs.declared.format.PixelType.TheVariants.{Y8, YV12, YV16, YV24, YV411}
-use Rattle.fv_plane.specs.FormatNames.{deep_name, digits_of, format_name, kind_name}
+use Rattle.fv_plane.specs.Format.{deep_name, digits_of, format_name, kind_name}
 
 -- what holds of the length of both holds of that of either
 either : (P : ℕ → Type 0) (b : Bool) (one other : List ℕ) → P (length one) → P (length other) → P (length (if b then one else other))

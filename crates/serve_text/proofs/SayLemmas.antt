@@ -9,7 +9,7 @@ use Rattle.fv_io.specs.Sink.{Puts, PutsPrefix, SinkFailed, IsLater}
 use Rattle.y4m_stream.proofs.CallerLemmas.{put_cut, one_more}
 use Rattle.y4m_stream.specs.declared.fault.Y4mFault.{Y4mFault}
 use Rattle.y4m_stream.specs.declared.fault.Y4mFault.TheVariants as of_stream
-use Rattle.avs_meaning.specs.FaultNames.{kind_name}
+use Rattle.avs_meaning.specs.Faults.{kind_name}
 use Rattle.avs_meaning.specs.declared.fault.ScriptKind.{ScriptKind}
 use Rattle.avs_meaning.specs.declared.fault.ScriptKind.TheVariants as k
 use Rattle.serve_text.specs.Lines.{Says, kind_text, y4m_detail}

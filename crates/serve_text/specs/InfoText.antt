@@ -4,8 +4,8 @@ use Rattle.std.specs.Fmt.{decimal}
 use Rattle.fv_plane.specs.declared.format.Info.{Info}
 use Rattle.clip_term.specs.Filters.{name_of}
 use Rattle.clip_graph.specs.Plan.{Application, application_at}
-use Rattle.fv_plane.specs.FormatNames.{format_name}
-use Rattle.clip_term.specs.Ops.{filter_of}
+use Rattle.fv_plane.specs.Format.{format_name}
+use Rattle.clip_term.specs.Terms.{filter_of}
 
 -- the size and the format of a clip, its rate and its length
 abbrev pub clip_line : Info → List ℕ

@@ -6,8 +6,8 @@ use Rattle.fv_io.specs.declared.sink.Sink.{Ghosts}
 use Rattle.fv_io.specs.Sink.{Puts, PutsPrefix, IsLater, SinkFailed}
 use Rattle.y4m_stream.specs.declared.fault.Y4mFault.{Y4mFault}
 use Rattle.y4m_stream.specs.declared.fault.Y4mFault.TheVariants as of_stream
-use Rattle.y4m_stream.specs.FaultNames.{fault_name}
-use Rattle.avs_meaning.specs.FaultNames.{kind_name}
+use Rattle.y4m_stream.specs.Stream.{fault_name}
+use Rattle.avs_meaning.specs.Faults.{kind_name}
 use Rattle.avs_meaning.specs.declared.fault.InputFault.{InputFault}
 use Rattle.avs_meaning.specs.declared.fault.InputFault.TheVariants as of_input
 use Rattle.avs_meaning.specs.declared.fault.ScriptKind.{ScriptKind}

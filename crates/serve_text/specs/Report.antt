@@ -7,7 +7,7 @@ use Rattle.serve_machine.specs.Events.{WindowEvents}
 use Rattle.serve_text.specs.declared.counts.Counts.{Counts}
 use Rattle.clip_term.specs.Filters.{name_of}
 use Rattle.clip_graph.specs.Plan.{Application, application_at}
-use Rattle.clip_term.specs.Ops.{filter_of}
+use Rattle.clip_term.specs.Terms.{filter_of}
 use Rattle.serve_machine.specs.declared.event.Event.TheVariants.{Hit, Enter, Evict, Publish}
 use Rattle.fv_io.specs.declared.sink.Sink.{Ghosts}
 use Rattle.fv_io.specs.Sink.{Puts, PutsPrefix, IsLater, SinkFailed}

@@ -7,9 +7,8 @@ use Rattle.std.proofs.lemmas.List.Recursion.{is_count_by}
 use Rattle.fv_io.specs.declared.source.Source.{Ghosts}
 use Rattle.fv_plane.specs.declared.format.Info.{Info}
 use Rattle.seq_source.specs.FrameSource.{FrameSource, frames_of}
-use Rattle.clip_term.specs.ClipTerm.{Act, source}
+use Rattle.clip_term.specs.Terms.{Act, source, source_info}
 use Rattle.clip_graph.specs.Plan.{Application, application_at, is_source, sources_in as count_sources, IsPlan, IsCounted}
-use Rattle.clip_term.specs.Ops.{source_info}
 use Rattle.serve_worker.specs.Sources.{source_infos, AreSources}
 use Rattle.inst_table.specs.declared.place.Place.{Place}
 use Rattle.inst_table.specs.declared.place.Slot.{Slot}

@@ -8,9 +8,8 @@ use Rattle.std.proofs.lemmas.List.Recursion.{is_count_by}
 use Rattle.std.specs.List.{cons_option}
 use Rattle.fv_plane.specs.declared.format.Info.{Info}
 use Rattle.seq_source.specs.FrameSource.{FrameSource}
-use Rattle.clip_term.specs.ClipTerm.{Act, source}
+use Rattle.clip_term.specs.Terms.{Act, source, SourcePart, source_info, source_part}
 use Rattle.clip_graph.specs.Plan.{Application, application_at, no_application, is_source, sources_in as count_sources, IsPlan, IsCounted}
-use Rattle.clip_term.specs.Ops.{SourcePart, source_info, source_part}
 use Rattle.serve_worker.specs.Sources.{source_infos, AreSources}
 use Rattle.serve_worker.proofs.SourceLemmas.{has_source}
 use Rattle.inst_table.specs.declared.place.Place.{Place}

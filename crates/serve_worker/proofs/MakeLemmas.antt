@@ -11,8 +11,7 @@ use Rattle.fv_plane.specs.declared.format.Info.{Info}
 use Rattle.fv_plane.specs.declared.format.Shape.{Shape}
 use Rattle.fv_plane.specs.declared.key.Key.{Key}
 use Rattle.fv_plane.specs.Format.{IsLegal}
-use Rattle.fv_plane.specs.Picture.{Picture, IsPicture, blank}
-use Rattle.fv_plane.specs.Look.{look_in, picture_from}
+use Rattle.fv_plane.specs.Picture.{Picture, IsPicture, blank, look_in, picture_from}
 use Rattle.fv_plane.specs.Refusals.{first_fault}
 use Rattle.clip_term.specs.declared.op.Origin.{Origin}
 use Rattle.clip_term.specs.declared.op.TimeOp.{TimeOp}
@@ -25,8 +24,7 @@ use Rattle.clip_term.specs.Blank.{colour_at, plain_refusals}
 use Rattle.clip_term.specs.Time.{time_refusals, time_length, time_rate, source_number, from_input, in_range}
 use Rattle.clip_term.specs.Space.{space_refusals, space_shape, space_at, space_picture}
 use Rattle.clip_term.specs.Soft.{soft_at}
-use Rattle.clip_term.specs.ClipTerm.{Act, plain, time, space, joined, soft, fields, choice}
-use Rattle.clip_term.specs.Terms.{AreLawful, IsSound, asked, check, make, join_inputs, no_picture}
+use Rattle.clip_term.specs.Terms.{Act, plain, time, space, joined, soft, fields, choice, AreLawful, IsSound, asked, check, make, join_inputs, no_picture}
 use Rattle.clip_term.proofs.AskedLemmas.{asks_in_range}
 use Rattle.clip_term.proofs.LawfulLemmas.{checks_lawful}
 use Rattle.clip_term.proofs.PassedLemmas.{passed, limits_shape}

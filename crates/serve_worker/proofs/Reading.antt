@@ -6,10 +6,8 @@ use Rattle.fv_plane.specs.declared.format.Info.{Info}
 use Rattle.fv_plane.specs.declared.key.Key.{Key}
 use Rattle.fv_plane.specs.Picture.{Picture, IsPicture}
 use Rattle.seq_source.specs.FrameSource.{FrameSource, frames_of}
-use Rattle.clip_term.specs.ClipTerm.{Act, source}
-use Rattle.clip_term.specs.Terms.{check}
+use Rattle.clip_term.specs.Terms.{Act, source, check, source_info}
 use Rattle.clip_graph.specs.Plan.{Application, application_at, infos_among, is_source, IsPlan}
-use Rattle.clip_term.specs.Ops.{source_info}
 use Rattle.serve_core.specs.Sources.{opened_at}
 use Rattle.serve_core.specs.Works.{IsMade}
 

@@ -6,9 +6,8 @@ use Rattle.std.proofs.lemmas.List.Sums.{sum_by-cons}
 use Rattle.fv_plane.specs.declared.format.Info.{Info}
 use Rattle.seq_source.specs.FrameSource.{FrameSource}
 use Rattle.clip_term.specs.declared.op.Op.TheVariants as op
-use Rattle.clip_term.specs.ClipTerm.{Act, source}
+use Rattle.clip_term.specs.Terms.{Act, source, source_info}
 use Rattle.clip_graph.specs.Plan.{Application, application_at, is_source, sources_in, IsPlan}
-use Rattle.clip_term.specs.Ops.{source_info}
 use Rattle.serve_worker.specs.Sources.{source_infos, AreSources}
 
 -- the act that stands first

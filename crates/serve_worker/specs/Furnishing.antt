@@ -3,8 +3,7 @@ use Rattle.std.specs.Prelude.{◌≡◌, ℕ, zero, suc, ◌+◌, ◌==◌, ◌<
 use Rattle.fv_io.specs.declared.source.Source.{Ghosts}
 use Rattle.fv_plane.specs.declared.format.Info.{Info}
 use Rattle.seq_source.specs.FrameSource.{FrameSource}
-use Rattle.clip_term.specs.ClipTerm.{Act, source, soft}
-use Rattle.clip_term.specs.Ops.{SourcePart, source_info, source_part}
+use Rattle.clip_term.specs.Terms.{Act, source, soft, SourcePart, source_info, source_part}
 use Rattle.clip_graph.specs.Plan.{Application, application_at}
 use Rattle.inst_table.specs.declared.place.Place.{Place}
 use Rattle.inst_table.specs.declared.place.Slot.{Slot}

@@ -5,7 +5,7 @@ use Rattle.fv_io.specs.Source.{SourceFailed}
 use Rattle.fv_plane.specs.declared.format.Info.{Info}
 use Rattle.fv_plane.specs.declared.key.Key.{Key}
 use Rattle.fv_plane.specs.Picture.{Picture}
-use Rattle.y4m_stream.specs.Index.{Indexed, IsIndex}
+use Rattle.y4m_stream.specs.Stream.{Indexed, IsIndex}
 use Rattle.seq_source.specs.FrameSource.{FrameSource, frames_of, end_of}
 use Rattle.inst_table.specs.declared.held.Held.{Ghosts as HeldGhosts}
 use Rattle.serve_machine.specs.declared.event.WindowStop.{WindowStop}

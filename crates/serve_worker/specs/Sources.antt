@@ -3,7 +3,7 @@ use Rattle.std.specs.Prelude.{◌≡◌, List, map}
 use Rattle.std.specs.List.{filter_map}
 use Rattle.fv_plane.specs.declared.format.Info.{Info}
 use Rattle.seq_source.specs.FrameSource.{FrameSource}
-use Rattle.clip_term.specs.Ops.{source_info}
+use Rattle.clip_term.specs.Terms.{source_info}
 use Rattle.clip_graph.specs.Plan.{Application}
 
 -- the infos of a plan's sources, in order

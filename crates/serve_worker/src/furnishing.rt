@@ -1,6 +1,6 @@
 // The instances that the nodes of a graph need.
 ghost use Rattle.std.specs.Prelude.{◌≡◌, ◌∷◌, ◌++◌, ◌<◌, [], length, OnOk, OnErr, IsTrue};
-ghost use Rattle.clip_term.specs.ClipTerm.{act_of};
+ghost use Rattle.clip_term.specs.Terms.{act_of};
 ghost use Rattle.clip_graph.specs.Plan.{application_at};
 ghost use Rattle.serve_worker.specs.Sources.{AreSources};
 ghost use Rattle.inst_table.specs.declared.place.Slot.TheVariants.{Free};

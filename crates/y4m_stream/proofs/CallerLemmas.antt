@@ -6,11 +6,9 @@ use Rattle.std.specs.List.{position, position_or_len, after_first}
 use Rattle.std.proofs.lemmas.List.{length-drop, length-map, drop-drop}
 use Rattle.std.proofs.lemmas.Bool.{ltb-false}
 use borrow.Author.Tests.{ltb-true}
-use Rattle.fv_plane.specs.Bytes.{picture_of}
-use Rattle.fv_plane.specs.Clip.{Clip}
+use Rattle.fv_plane.specs.Picture.{picture_of, Clip}
 use Rattle.fv_plane.specs.Format.{frame_bytes}
-use Rattle.y4m_stream.specs.Index.{Indexed, Indexes, line_len, offsets_from}
-use Rattle.y4m_stream.specs.Stream.{is_newline, size_of, IsFrame, FramesThen}
+use Rattle.y4m_stream.specs.Stream.{Indexed, Indexes, line_len, offsets_from, is_newline, size_of, IsFrame, FramesThen}
 
 neither : (none short : Bool) → (none || short) ≡ false → (none ≡ false) × (short ≡ false)
 neither true short is = absurd (let no : ⊥ = cc in no)

@@ -10,7 +10,7 @@ use Rattle.fv_plane.specs.declared.format.Tag.TheVariants.{Jpeg, Mpeg2, Paldv, P
 use Rattle.fv_plane.specs.declared.format_names.Format.{Format}
 use Rattle.fv_plane.specs.Format.{has_depth}
 use Rattle.fv_plane.proofs.PictureLemmas.{five_depths}
-use Rattle.y4m_stream.specs.Colourspace.{Colourspace, colourspace_name, colourspace_named, colourspaces, has_name}
+use Rattle.y4m_stream.specs.Head.{Colourspace, colourspace_name, colourspace_named, colourspaces, has_name}
 use Rattle.y4m_stream.specs.Stream.{is_space, is_newline}
 
 -- neither a space nor a newline

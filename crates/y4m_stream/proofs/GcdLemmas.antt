@@ -1,10 +1,9 @@
 -- Rates in lowest terms.
 use Rattle.std.proofs.Common.{◌≡◌, ℕ, ◌/◌, ◌^◌, ◌<◌, Some, refl, arith, ne_eqb}
 use Rattle.std.proofs.Math.Nat.{div-le_self, one-dvd}
-use Rattle.fv_plane.specs.Rate.{gcd}
-use Rattle.fv_plane.specs.Info.{IsRate}
+use Rattle.fv_plane.specs.Info.{gcd, IsRate}
 use Rattle.fv_plane.proofs.GcdLemmas.{lowest_terms}
-use Rattle.y4m_stream.specs.Parameters.{lowest}
+use Rattle.y4m_stream.specs.Head.{lowest}
 
 pub default_rate : IsRate 25 1
 default_rate = record { some_num = omega arith; some_den = omega arith; most_num = omega arith; most_den = omega arith; lowest = (one-dvd 25, one-dvd 1, λ d first second. second) }

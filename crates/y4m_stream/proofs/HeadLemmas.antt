@@ -7,8 +7,7 @@ use Rattle.std.proofs.lemmas.Bool.Decides.{Decides-eqb}
 use Rattle.std.proofs.lemmas.Slice.Eq.{starts_is}
 use Rattle.y4m_stream.specs.Line.{IsLine}
 use Rattle.y4m_stream.specs.declared.fault.Y4mFault.TheVariants.{NotY4m, HeadTooLong}
-use Rattle.y4m_stream.specs.Head.{magic}
-use Rattle.y4m_stream.specs.Parameters.{info_of}
+use Rattle.y4m_stream.specs.Head.{magic, info_of}
 use Rattle.y4m_stream.specs.Stream.{is_space, is_newline, is_break, has_magic, has_line, parameters, head_fault, head_info}
 use Rattle.y4m_stream.proofs.PlaceLemmas.{line_found, position_or_len-take}
 

@@ -5,16 +5,14 @@ use Rattle.std.proofs.lemmas.List.{drop-append-le, length-map, get_or-map}
 use Rattle.fv_plane.specs.declared.format.Info.{Info}
 use Rattle.fv_plane.specs.Format.{IsLegal, frame_bytes}
 use Rattle.fv_plane.specs.Info.{IsRate, IsPar}
-use Rattle.fv_plane.specs.Bytes.{picture_of}
-use Rattle.fv_plane.specs.Clip.{Clip}
+use Rattle.fv_plane.specs.Picture.{picture_of, Clip}
 use Rattle.fv_plane.proofs.CallerLemmas.{picture_of-take}
 use Rattle.y4m_stream.specs.declared.fault.Y4mFault.{Y4mFault}
 use Rattle.y4m_stream.specs.declared.fault.IndexFault.{IndexFault}
 use Rattle.y4m_stream.specs.declared.fault.IndexFault.TheVariants.{Y4m, Read, Memory}
 use Rattle.y4m_stream.specs.Frames.{AreOffsets, FindsFrames, FramesFault, frames_at}
-use Rattle.y4m_stream.specs.Index.{IsIndex, Indexes, HasIndexFault, line_len, offsets_from}
-use Rattle.y4m_stream.specs.Stream.{is_newline, head_fault, head_info, size_of, body, BreaksBy, HasFault}
-use Rattle.y4m_stream.specs.Parameters.{info_of}
+use Rattle.y4m_stream.specs.Stream.{IsIndex, Indexes, HasIndexFault, line_len, offsets_from, is_newline, head_fault, head_info, size_of, body, BreaksBy, HasFault}
+use Rattle.y4m_stream.specs.Head.{info_of}
 use Rattle.y4m_stream.proofs.HeadLemmas.{sound_line}
 use Rattle.y4m_stream.proofs.WindowLemmas.{same_fault, same_place, same_parameters}
 

@@ -13,7 +13,7 @@ use Rattle.fv_plane.specs.declared.format.Field.{Field}
 use Rattle.fv_plane.specs.declared.format.Field.TheVariants.{Progressive, Top, Bottom, Unknown}
 use Rattle.fv_plane.specs.declared.format.Info.{Info}
 use Rattle.fv_plane.specs.Info.{IsLawful}
-use Rattle.fv_plane.specs.FormatNames.{format_of}
+use Rattle.fv_plane.specs.Format.{format_of}
 use Rattle.y4m_stream.proofs.ColourLemmas.{IsWord, stays, colour_stays}
 use Rattle.y4m_stream.specs.Head.{magic, field_name, ratio, written, head_line}
 use Rattle.y4m_stream.specs.Stream.{is_space, is_newline}

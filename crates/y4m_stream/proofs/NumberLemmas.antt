@@ -11,7 +11,7 @@ use Rattle.std.specs.Fmt.{decimal}
 use Rattle.std.proofs.lemmas.Fmt.{digits_decimal, digits_value-decimal, length-decimal-le, decimal_nonempty}
 use Rattle.std.proofs.lemmas.List.{take_all, drop_all}
 use Rattle.std.proofs.lemmas.Bool.{and_parts, lt-ltb, le-leb, leb-true, ltb-true}
-use Rattle.y4m_stream.specs.Parameters.{digits_after, is_number, number, is_colon}
+use Rattle.y4m_stream.specs.Head.{digits_after, is_number, number, is_colon}
 use Rattle.y4m_stream.proofs.PlaceLemmas.{none_at, some_at}
 
 own : IsNumeralModel (λ ds. list_all is_ascii_digit ds ≡ true) (digits_after 0)

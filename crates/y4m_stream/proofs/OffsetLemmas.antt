@@ -1,7 +1,7 @@
 -- The offsets of frames that were found one after the other.
 use Rattle.std.proofs.Common.{◌≡◌, ℕ, zero, suc, ◌+◌, List, [], ◌∷◌, ◌++◌, length, refl, sym, ◌∙◌, ap, arith}
 use Rattle.std.proofs.lemmas.List.{length-append}
-use Rattle.y4m_stream.specs.Index.{line_len, offsets_from}
+use Rattle.y4m_stream.specs.Stream.{line_len, offsets_from}
 
 -- where the frame after count others begins
 abbrev pub start_after : List ℕ → ℕ → ℕ → ℕ → ℕ

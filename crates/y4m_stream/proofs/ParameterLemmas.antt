@@ -3,7 +3,7 @@ use Rattle.std.proofs.Common.{◌≡◌, ℕ, List, [], ◌∷◌, ◌++◌, map
 use Rattle.std.specs.Borrow.{Bor}
 use Rattle.std.proofs.lemmas.List.{map-append}
 use Rattle.std.specs.Option.{option_or, option_copied}
-use Rattle.y4m_stream.specs.Parameters.{value_in, value}
+use Rattle.y4m_stream.specs.Head.{value_in, value}
 
 or_none : {T : Type 0} (o : Option T) → option_or o None ≡ o
 or_none None = refl

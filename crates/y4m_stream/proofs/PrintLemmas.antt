@@ -7,10 +7,9 @@ use Rattle.fv_plane.specs.declared.format.Field.{Field}
 use Rattle.fv_plane.specs.declared.format.Field.TheVariants.{Progressive, Top, Bottom, Unknown}
 use Rattle.fv_plane.specs.declared.format.Info.{Info}
 use Rattle.fv_plane.specs.Info.{IsLawful}
-use Rattle.fv_plane.specs.FormatNames.{format_of}
-use Rattle.y4m_stream.specs.Colourspace.{colourspace_name}
+use Rattle.fv_plane.specs.Format.{format_of}
+use Rattle.y4m_stream.specs.Head.{colourspace_name, field_name, head_line}
 use Rattle.y4m_stream.proofs.ColourLemmas.{short_colour}
-use Rattle.y4m_stream.specs.Head.{field_name, head_line}
 
 -- the head without its newline, and then a rest
 unfoldable pub words_then : Info → List ℕ → List ℕ

@@ -6,9 +6,7 @@ use Rattle.std.proofs.lemmas.Bool.{cases_Bool, cases_lt, eqb-false}
 use Rattle.fv_plane.specs.declared.format.Info.{Info}
 use Rattle.y4m_stream.specs.declared.fault.Y4mFault.{Y4mFault}
 use Rattle.y4m_stream.specs.declared.fault.Y4mFault.TheVariants.{NoFrames, TooManyFrames, BadFrame, Truncated}
-use Rattle.fv_plane.specs.Picture.{Picture}
-use Rattle.fv_plane.specs.Bytes.{picture_of}
-use Rattle.fv_plane.specs.Clip.{Clip}
+use Rattle.fv_plane.specs.Picture.{Picture, picture_of, Clip}
 use Rattle.y4m_stream.specs.Laws.{ReadsOneWay}
 use Rattle.y4m_stream.specs.Stream.{is_newline, is_bad, is_cut, fault_after, IsFrame, FramesThen, head_fault, head_info, size_of, body, ConsistsOf, Stream, BreaksBy, HasFault}
 use Rattle.y4m_stream.proofs.PlaceLemmas.{some_at}

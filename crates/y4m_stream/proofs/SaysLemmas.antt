@@ -8,7 +8,7 @@ use Rattle.fv_plane.specs.declared.format.Info.{Info}
 use Rattle.fv_plane.specs.Format.{IsLegal, frame_bytes, has_depth, has_whole_sides}
 use Rattle.y4m_stream.specs.declared.fault.Y4mFault.TheVariants.{NoSize, BadNumber, UnknownColour, BadSize, TooLarge}
 use Rattle.fv_plane.proofs.CallerLemmas.{legal_by}
-use Rattle.y4m_stream.specs.Parameters.{value, number, rate, par, colour, field_of, info_of, parameter_fault}
+use Rattle.y4m_stream.specs.Head.{value, number, rate, par, colour, field_of, info_of, parameter_fault}
 
 module _ (ps : List (List ℕ)) where
   pub no_width : value 87 ps ≡ None → parameter_fault ps ≡ Some NoSize

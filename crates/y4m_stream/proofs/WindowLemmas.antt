@@ -6,8 +6,7 @@ use Rattle.std.proofs.lemmas.List.{take_all, append-nil, take-append-le, get_or_
 use Rattle.std.proofs.lemmas.Bool.{cases_lt, cases_Bool, le-leb, lt-leb}
 use Rattle.y4m_stream.specs.declared.fault.Y4mFault.{Y4mFault}
 use Rattle.y4m_stream.specs.declared.fault.Y4mFault.TheVariants.{NotY4m, HeadTooLong}
-use Rattle.y4m_stream.specs.Head.{magic}
-use Rattle.y4m_stream.specs.Parameters.{parameter_fault}
+use Rattle.y4m_stream.specs.Head.{magic, parameter_fault}
 use Rattle.y4m_stream.specs.Stream.{is_space, is_newline, is_break, has_magic, has_line, parameters, head_fault, may_begin, is_bad}
 use Rattle.y4m_stream.proofs.PlaceLemmas.{line_found, same_line}
 

@@ -12,17 +12,13 @@ use Rattle.std.proofs.Math.Nat.{div-one}
 use Rattle.fv_plane.specs.declared.format.Field.{Field}
 use Rattle.fv_plane.specs.declared.format.Field.TheVariants.{Progressive, Top, Bottom, Unknown}
 use Rattle.fv_plane.specs.declared.format.Info.{Info}
-use Rattle.fv_plane.specs.Format.{frame_bytes}
+use Rattle.fv_plane.specs.Format.{frame_bytes, format_of}
 use Rattle.fv_plane.specs.Info.{IsRate, IsLawful}
-use Rattle.fv_plane.specs.FormatNames.{format_of}
 use Rattle.y4m_stream.proofs.ColourLemmas.{OwnName, colour_read}
-use Rattle.y4m_stream.specs.Head.{field_name, ratio, written, head_line, head}
-use Rattle.fv_plane.specs.Picture.{Picture}
-use Rattle.fv_plane.specs.Bytes.{bytes_of, picture_of}
-use Rattle.fv_plane.specs.Clip.{IsPictureOf}
+use Rattle.y4m_stream.specs.Head.{field_name, ratio, written, head_line, head, value, number, is_colon, ratio_in, rate_of, field_of, info_of, parameter_fault}
+use Rattle.fv_plane.specs.Picture.{Picture, bytes_of, picture_of, IsPictureOf}
 use Rattle.fv_plane.proofs.CallerLemmas.{length-bytes_of, picture_of-bytes_of, whole_sides}
 use Rattle.y4m_stream.specs.Laws.{WrittenIsStream}
-use Rattle.y4m_stream.specs.Parameters.{value, number, is_colon, ratio_in, rate_of, field_of, info_of, parameter_fault}
 use Rattle.y4m_stream.specs.Stream.{is_space, is_newline, has_magic, has_line, parameters, head_fault, head_info, size_of, body, may_begin, IsFrame, FramesThen, ConsistsOf, frames_text}
 use Rattle.fv_plane.proofs.GcdLemmas.{gcd_found}
 use Rattle.y4m_stream.proofs.GcdLemmas.{lowest_is}

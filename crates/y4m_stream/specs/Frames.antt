@@ -6,8 +6,7 @@ use Rattle.y4m_stream.specs.declared.fault.IndexFault.{IndexFault}
 use Rattle.y4m_stream.specs.declared.fault.IndexFault.TheVariants.{Y4m, Read, Memory}
 use Rattle.y4m_stream.specs.declared.frame_finding.FrameHead.{FrameHead}
 use Rattle.y4m_stream.specs.declared.frame_finding.FrameHead.TheVariants as of_head
-use Rattle.y4m_stream.specs.Index.{offsets_from}
-use Rattle.y4m_stream.specs.Stream.{is_newline, is_bad, IsFrame, FramesThen, BreaksBy, fault_after}
+use Rattle.y4m_stream.specs.Stream.{offsets_from, is_newline, is_bad, IsFrame, FramesThen, BreaksBy, fault_after}
 
 -- what the bytes begin with: the head of a frame, none, or the beginning of one
 abbrev pub IsFrameHead : FrameHead → List ℕ → Type 0

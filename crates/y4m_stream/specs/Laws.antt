@@ -2,7 +2,7 @@
 use Rattle.std.specs.Prelude.{◌≡◌, ◌⊎◌, ℕ, List}
 use Rattle.fv_plane.specs.declared.format.PixelType.TheVariants.{YV12}
 use Rattle.fv_plane.specs.declared.format.Tag.TheVariants.{Jpeg}
-use Rattle.fv_plane.specs.Clip.{Clip, IsClip}
+use Rattle.fv_plane.specs.Picture.{Clip, IsClip}
 use Rattle.y4m_stream.specs.declared.fault.Y4mFault.{Y4mFault}
 use Rattle.y4m_stream.specs.Stream.{Stream, HasFault, stream}
 

@@ -1,11 +1,7 @@
-pub mod Colourspace
-pub mod FaultNames
 pub mod Head
-pub mod Parameters
 pub mod Planes
-pub mod Stream
 pub mod Line
 pub mod Laws
-pub mod Index
+pub mod Stream
 pub mod ReadAhead
 pub mod Frames

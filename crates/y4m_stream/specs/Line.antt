@@ -2,7 +2,7 @@
 use Rattle.std.specs.Prelude.{◌≡◌, ℕ, ◌+◌, ◌-◌, ◌<◌, ◌≤◌, List, length, take, drop, None}
 use Rattle.std.specs.List.{position_or_len, slice_split}
 use Rattle.fv_plane.specs.declared.format.Info.{Info}
-use Rattle.y4m_stream.specs.Parameters.{parameter_fault}
+use Rattle.y4m_stream.specs.Head.{parameter_fault}
 use Rattle.y4m_stream.specs.Stream.{is_space, is_newline, parameters, head_fault, head_info}
 
 -- the line ends here, and the head's parameters are in it after the magic word

@@ -2,8 +2,7 @@
 use Rattle.std.specs.Prelude.{◌≡◌, ℕ, List, [], ◌++◌, slice_index_or}
 use Rattle.fv_io.specs.declared.sink.Sink.{Ghosts}
 use Rattle.fv_io.specs.Sink.{Puts}
-use Rattle.fv_plane.specs.Picture.{Picture}
-use Rattle.fv_plane.specs.Bytes.{bytes_of_rows}
+use Rattle.fv_plane.specs.Picture.{Picture, bytes_of_rows}
 
 abbrev pub bytes_of_plane : Picture → ℕ → List ℕ
 bytes_of_plane picture p = bytes_of_rows picture.shape (slice_index_or picture.planes p [])

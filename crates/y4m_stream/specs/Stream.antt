@@ -1,16 +1,19 @@
--- YUV4MPEG2 streams: which clip the bytes of a file are, and what is wrong with bytes that are no stream (yuv4mpeg(5) of
--- mjpegtools). A frame is a list of bytes here, plane after plane and row by row; the clip has its picture.
-use Rattle.std.specs.Prelude.{◌≡◌, ◌⊎◌, ℕ, ◌≤◌, ◌<◌, nat_eq, nat_le, nat_lt, List, [], ◌∷◌, ◌++◌, length, take, drop, codes, Option, Some, None, is_some, is_none, Bool, false, ◌==◌, not, ◌&&◌, ◌||◌, if◌then◌else◌, slice_index, map}
-use Rattle.std.specs.List.{flat_map, position, starts_with, slice_split, before_first, after_first}
-use Rattle.fv_plane.specs.declared.format.Info.{Info}
+-- Streams, what is wrong with bytes that are none, and what an index knows of one (yuv4mpeg(5) of mjpegtools).
+use Rattle.std.specs.List.{flat_map, position, starts_with, slice_split, before_first, after_first, position_or_len}
+use Rattle.std.specs.Prelude.{◌≡◌, ◌⊎◌, ℕ, ◌≤◌, ◌<◌, nat_eq, nat_le, nat_lt, List, [], ◌∷◌, ◌++◌, length, take, drop, codes, Option, Some, None, is_some, is_none, Bool, false, ◌==◌, not, ◌&&◌, ◌||◌, if◌then◌else◌, slice_index, map, zero, suc, ◌+◌, ◌^◌}
 use Rattle.fv_plane.specs.Format.{frame_bytes}
-use Rattle.fv_plane.specs.Bytes.{bytes_of, picture_of}
-use Rattle.fv_plane.specs.Clip.{Clip}
+use Rattle.fv_plane.specs.Info.{IsLawful}
+use Rattle.fv_plane.specs.Picture.{bytes_of, picture_of, Clip, picture_at}
+use Rattle.fv_plane.specs.declared.format.Info.{Info}
 use Rattle.fv_plane.specs.declared.format.TheConstants.Info.{MAX_FRAMES}
+use Rattle.y4m_stream.specs.Head.{magic, head, info_of, parameter_fault}
+use Rattle.y4m_stream.specs.declared.fault.IndexFault.{IndexFault}
+use Rattle.y4m_stream.specs.declared.fault.IndexFault.TheVariants.{Y4m, Read, Memory}
 use Rattle.y4m_stream.specs.declared.fault.Y4mFault.{Y4mFault}
-use Rattle.y4m_stream.specs.declared.fault.Y4mFault.TheVariants.{NotY4m, HeadTooLong, NoFrames, TooManyFrames, BadFrame, Truncated}
-use Rattle.y4m_stream.specs.Head.{magic, head}
-use Rattle.y4m_stream.specs.Parameters.{info_of, parameter_fault}
+use Rattle.y4m_stream.specs.declared.fault.Y4mFault.TheVariants.{NotY4m, HeadTooLong, NoFrames, TooManyFrames, BadFrame, Truncated, NoSize, BadNumber, UnknownColour, BadSize, TooLarge}
+
+-- ==== YUV4MPEG2 streams: which clip the bytes of a file are, and what is wrong with bytes that are no stream (yuv4mpeg(5) of
+-- mjpegtools). A frame is a list of bytes here, plane after plane and row by row; the clip has its picture.
 
 abbrev pub is_space : ℕ → Bool
 is_space byte = byte == 32
@@ -121,3 +124,55 @@ frames_text frames = flat_map frame_text frames
 -- how a clip is written
 abbrev pub stream : Clip → List ℕ
 stream clip = head clip.info ++ frames_text (map bytes_of clip.pictures)
+
+-- ==== The printed names of what is wrong with a stream.
+
+abbrev pub fault_name : Y4mFault → List ℕ
+fault_name NotY4m = codes "NotY4m"
+fault_name HeadTooLong = codes "HeadTooLong"
+fault_name NoSize = codes "NoSize"
+fault_name (BadNumber letter) = codes "BadNumber"
+fault_name UnknownColour = codes "UnknownColour"
+fault_name BadSize = codes "BadSize"
+fault_name TooLarge = codes "TooLarge"
+fault_name NoFrames = codes "NoFrames"
+fault_name TooManyFrames = codes "TooManyFrames"
+fault_name (BadFrame frame) = codes "BadFrame"
+fault_name (Truncated frame) = codes "Truncated"
+
+-- ==== What an index knows of a stream.
+
+pub record Indexed : Type 0 where
+  pub info : Info
+  -- the offset of the first sample of each frame
+  pub offsets : List ℕ
+
+-- the offsets are those of as many frames as the info says, one after the other, also where the bytes aren't told
+pub record IsIndex (index : Indexed) : Type 0 where
+  pub info : IsLawful index.info
+  pub count : length index.offsets ≡ index.info.frames
+  pub apart : (n : ℕ) → n + 1 < index.info.frames → slice_index index.offsets n + frame_bytes index.info.shape ≤ slice_index index.offsets (n + 1)
+  pub ends : (n : ℕ) → n < index.info.frames → slice_index index.offsets n + frame_bytes index.info.shape < 2 ^ 60
+
+-- the bytes of a line from an offset on, with its newline
+abbrev pub line_len : List ℕ → ℕ → ℕ
+line_len bytes start = position_or_len is_newline (drop start bytes) + 1
+
+-- where the samples of count frames begin: each time after the line of the frame's head, the first of which is at the start
+abbrev pub offsets_from : List ℕ → ℕ → ℕ → ℕ → List ℕ
+offsets_from bytes size start zero = []
+offsets_from bytes size start (suc count) =
+    let offset = start + line_len bytes start in offset ∷ offsets_from bytes size (offset + size) count
+
+-- the bytes are a stream of this clip, whose info and offsets the index has
+pub record Indexes (bytes : List ℕ) (index : Indexed) (clip : Clip) : Type 0 where
+  pub stream : Stream bytes clip
+  pub info_is : index.info ≡ clip.info
+  pub offsets_are : index.offsets ≡ offsets_from bytes (frame_bytes clip.info.shape) (line_len bytes 0) (length clip.pictures)
+  pub pictures_are : (n : ℕ) → n < length clip.pictures → picture_at clip n ≡ picture_of clip.info.shape (drop (slice_index index.offsets n) bytes)
+
+-- what each fault shows of the bytes
+abbrev pub HasIndexFault : List ℕ → IndexFault → Type 0
+HasIndexFault told (Y4m fault) = HasFault told fault
+HasIndexFault told Read = Unit {0}
+HasIndexFault told Memory = Unit {0}

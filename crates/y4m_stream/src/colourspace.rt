@@ -2,7 +2,7 @@
 ghost use Rattle.std.specs.Prelude.{◌≡◌, IfSome, true};
 ghost use Rattle.std.specs.Str.{bytes_eq};
 ghost use Rattle.fv_plane.specs.Format.{has_depth};
-ghost use Rattle.y4m_stream.specs.Colourspace.{narrow_name, deep_name, colourspace_name, colourspace_named, has_name};
+ghost use Rattle.y4m_stream.specs.Head.{narrow_name, deep_name, colourspace_name, colourspace_named, has_name};
 
 use fv_plane::{Format, PixelType, Tag};
 

@@ -45,7 +45,7 @@ pub enum Y4mFault {
 
 impl Y4mFault {
     ghost use Rattle.std.specs.Prelude.{◌≡◌};
-    ghost use Rattle.y4m_stream.specs.FaultNames.{fault_name};
+    ghost use Rattle.y4m_stream.specs.Stream.{fault_name};
 
     /// The name of the fault as it is printed, without its letter or number.
     pub fn name(self) -> &'static str

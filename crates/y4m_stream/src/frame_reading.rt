@@ -1,7 +1,7 @@
 // A frame, made of its bytes.
 ghost use Rattle.std.specs.Prelude.{◌≡◌, length, IfOk};
 ghost use Rattle.fv_plane.specs.Format.{IsLegal, frame_bytes};
-ghost use Rattle.fv_plane.specs.Bytes.{bytes_of, in_range, picture_of};
+ghost use Rattle.fv_plane.specs.Picture.{bytes_of, in_range, picture_of};
 
 use fv_plane::{Frame, Shape};
 use std::alloc::{AllocError, Global};

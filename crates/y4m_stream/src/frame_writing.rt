@@ -2,8 +2,7 @@
 ghost use Rattle.std.specs.Prelude.{◌≡◌, ◌≤◌, ◌<◌, ◌+◌, ◌^◌, ◌++◌, length, take, IfOk, OnOk, OnErr};
 ghost use Rattle.fv_io.specs.Sink.{Puts, PutsPrefix, IsLater, SinkFailed};
 ghost use Rattle.fv_plane.specs.Format.{planes, row_bytes, frame_bytes};
-ghost use Rattle.fv_plane.specs.Bytes.{bytes_of};
-ghost use Rattle.fv_plane.specs.Picture.{IsPicture};
+ghost use Rattle.fv_plane.specs.Picture.{bytes_of, IsPicture};
 ghost use Rattle.y4m_stream.specs.Planes.{bytes_of_plane, PutsAllBut};
 ghost use Rattle.y4m_stream.specs.Stream.{frame_text};
 

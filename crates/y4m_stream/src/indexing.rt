@@ -2,8 +2,8 @@
 ghost use Rattle.std.specs.Prelude.{◌≡◌, IfOk, IfErr, IsErrOf};
 ghost use Rattle.std.specs.Option.{ForSome};
 ghost use Rattle.fv_io.specs.Source.{KeepsSource, IsSteady, SourceFailed};
-ghost use Rattle.fv_plane.specs.Clip.{Clip};
-ghost use Rattle.y4m_stream.specs.Index.{IsIndex, Indexes, HasIndexFault};
+ghost use Rattle.fv_plane.specs.Picture.{Clip};
+ghost use Rattle.y4m_stream.specs.Stream.{IsIndex, Indexes, HasIndexFault};
 
 use crate::fault::IndexFault;
 use crate::frame_finding::find_frames;

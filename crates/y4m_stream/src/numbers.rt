@@ -3,7 +3,7 @@ ghost use Rattle.std.specs.Prelude.{◌≡◌, ◌<◌, ◌^◌, length, IfSome}
 ghost use Rattle.std.specs.Char.{is_ascii_digit};
 ghost use Rattle.std.specs.List.{list_all, position, before_first, after_first};
 ghost use Rattle.fv_plane.specs.Info.{IsRate};
-ghost use Rattle.y4m_stream.specs.Parameters.{number, is_colon, ratio_in, lowest};
+ghost use Rattle.y4m_stream.specs.Head.{number, is_colon, ratio_in, lowest};
 
 /// The greatest number.
 const MAX_NUMBER: u32 = 2_147_483_647;

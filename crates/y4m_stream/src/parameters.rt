@@ -4,7 +4,7 @@ ghost use Rattle.std.specs.List.{slice_split};
 ghost use Rattle.std.specs.Option.{option_copied};
 ghost use Rattle.fv_plane.specs.Format.{IsLegal, has_depth};
 ghost use Rattle.fv_plane.specs.Info.{IsRate, IsPar};
-ghost use Rattle.y4m_stream.specs.Parameters.{value_in, value, rate_of, par_of, field_of, colour_of, info_of, parameter_fault};
+ghost use Rattle.y4m_stream.specs.Head.{value_in, value, rate_of, par_of, field_of, colour_of, info_of, parameter_fault};
 ghost use Rattle.y4m_stream.specs.Stream.{is_space};
 
 use crate::colourspace::colourspace_named;

@@ -1,6 +1,6 @@
 // `Index`: the info of a stream, and where each frame's samples begin.
 ghost use Rattle.std.specs.Prelude.{◌≡◌, ◌<◌, slice_index};
-ghost use Rattle.y4m_stream.specs.Index.{IsIndex};
+ghost use Rattle.y4m_stream.specs.Stream.{IsIndex};
 
 use fv_plane::Info;
 use std::marker::Model;
@@ -13,7 +13,7 @@ pub struct Index {
 }
 
 impl Model for Index {
-    ghost use Rattle.y4m_stream.specs.Index.{Indexed, IsIndex};
+    ghost use Rattle.y4m_stream.specs.Stream.{Indexed, IsIndex};
 
     ghost Value = { Indexed };
 

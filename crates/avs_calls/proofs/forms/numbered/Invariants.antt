@@ -1,7 +1,7 @@
 use Rattle.std.proofs.Common.{◌≡◌, ◌++◌, map, take}
 use Rattle.avs_values.specs.Functions.{optional}
 use Rattle.avs_values.specs.declared.value.Kind.TheVariants as k
-use Rattle.avs_meaning.specs.Signatures as d
+use Rattle.avs_meaning.specs.Table as d
 use Rattle.avs_calls.proofs.forms.numbered.Given as goal
 
 abbrev pub invariant-loop-name : goal.invariant-loop-name

@@ -1,6 +1,6 @@
 use Rattle.std.proofs.Common.{◌≡◌, ◌∷◌, map, take}
 use Rattle.avs_values.specs.declared.value.Value.TheVariants as v
-use Rattle.avs_meaning.specs.Calls.{unnamed}
+use Rattle.avs_meaning.specs.Expressions.{unnamed}
 use Rattle.avs_eval.proofs.ranges.positional_args.Given as goal
 
 abbrev pub invariant-loop-value : goal.invariant-loop-value

@@ -1,5 +1,5 @@
 use Rattle.std.proofs.Common.{◌≡◌, drop, []}
-use Rattle.avs_meaning.specs.Calls as m
+use Rattle.avs_meaning.specs.Expressions as m
 use Rattle.avs_expressions.proofs.callee.parameters.Given as goal
 
 abbrev pub invariant-loop-k : goal.invariant-loop-k

@@ -1,5 +1,5 @@
 use Rattle.std.proofs.Common.{◌≡◌, map, take}
-use Rattle.avs_meaning.specs.Calls as m
+use Rattle.avs_meaning.specs.Expressions as m
 use Rattle.avs_expressions.proofs.callee.signature_of.Given as goal
 
 abbrev pub invariant-loop-param : goal.invariant-loop-param

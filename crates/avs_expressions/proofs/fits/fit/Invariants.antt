@@ -1,6 +1,6 @@
 use Rattle.std.proofs.Common.{◌≡◌, map, drop}
 use Rattle.avs_values.specs.Views.{signature_view}
-use Rattle.avs_meaning.specs.Calls as m
+use Rattle.avs_meaning.specs.Expressions as m
 use Rattle.avs_expressions.proofs.fits.fit.Given as goal
 
 abbrev pub invariant-loop-k : goal.invariant-loop-k

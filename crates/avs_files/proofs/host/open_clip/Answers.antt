@@ -1,6 +1,6 @@
 -- The clip is that of the bytes of its source.
 use Rattle.std.proofs.Common.{◌∙◌, ap}
-use Rattle.avs_meaning.specs.Outside.{clip_in}
+use Rattle.avs_meaning.specs.State.{clip_in}
 use Rattle.avs_files.proofs.FileLemmas.{bytes_there, index_of, clip_of, fault_of, fault_shown}
 use Rattle.avs_files.proofs.host.open_clip.Goals as goal
 

@@ -1,5 +1,5 @@
 use Rattle.std.proofs.Common.{◌≡◌, ◌+◌, ◌*◌, ◌≤◌, length, All}
-use Rattle.avs_lex.specs.TokenList.{IsTokenOf}
+use Rattle.avs_lex.specs.Tokens.{IsTokenOf}
 use Rattle.avs_tree.specs.Lexeme.{lexemes}
 use Rattle.avs_tree.specs.Place as p
 use Rattle.avs_parse.specs.ScriptViews.{state_view}

@@ -1,5 +1,5 @@
 use Rattle.std.proofs.Common.{refl}
-use Rattle.avs_meaning.specs.Compiled.{named}
+use Rattle.avs_meaning.specs.Arguments.{named}
 use Rattle.avs_runtime.proofs.CompileLemmas.{meant}
 use Rattle.avs_runtime.proofs.names.frame_name.Goals as goal
 

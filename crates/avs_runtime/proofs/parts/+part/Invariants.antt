@@ -2,7 +2,7 @@
 use Rattle.std.proofs.Common.{◌≡◌, map, drop}
 use Rattle.avs_tree.specs.View as tree
 use Rattle.clip_term.specs.Expression.{expr_view, step_view}
-use Rattle.avs_meaning.specs.Compiled as c
+use Rattle.avs_meaning.specs.Arguments as c
 use Rattle.avs_runtime.proofs.CompileLemmas.{then_left}
 use Rattle.avs_runtime.proofs.parts.+part.Given as goal
 

@@ -1,8 +1,8 @@
 use Rattle.std.proofs.Common.{◌≡◌, ◌∙◌, ℕ, ◌≤◌, ◌-◌, sym, ap, arith, List, [], ◌∷◌, length, take, drop, get_or, map, Some, true, false, Bor}
 use Rattle.std.proofs.lemmas.List.{take_all}
 use Rattle.std.specs.Str.{str_eq_ignore_ascii_case}
-use Rattle.avs_lex.specs.Characters.{Text}
-use Rattle.avs_tree.specs.Words.{meaning_in}
+use Rattle.avs_lex.specs.Spelling.{Text}
+use Rattle.avs_tree.specs.Lexeme.{meaning_in}
 use Rattle.avs_tree.proofs.words.meaning.Goals as goal
 
 found : {A : Type 0} (rows : List (Bor (List ℕ) × A)) (word : Text) (row : Bor (List ℕ) × A) → 1 ≤ length rows → row ≡ get_or rows 0 row

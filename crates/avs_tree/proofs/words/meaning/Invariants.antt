@@ -1,5 +1,5 @@
 use Rattle.std.proofs.Common.{◌≡◌, length, map}
-use Rattle.avs_tree.specs.Words.{meaning_in}
+use Rattle.avs_tree.specs.Lexeme.{meaning_in}
 use Rattle.avs_tree.proofs.words.meaning.Given as goal
 
 abbrev pub invariant-loop-table : goal.invariant-loop-table

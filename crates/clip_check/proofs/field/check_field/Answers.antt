@@ -1,4 +1,4 @@
-use Rattle.clip_term.specs.ClipTerm.{fields}
+use Rattle.clip_term.specs.Terms.{fields}
 use Rattle.clip_check.proofs.LawfulLemmas.{checked_lawful}
 use Rattle.clip_check.proofs.field.check_field.Goals as goal
 

@@ -1,4 +1,4 @@
-use Rattle.clip_term.specs.ClipTerm.{joined}
+use Rattle.clip_term.specs.Terms.{joined}
 use Rattle.clip_check.proofs.LawfulLemmas.{checked_lawful}
 use Rattle.clip_check.proofs.join.check_join.Goals as goal
 

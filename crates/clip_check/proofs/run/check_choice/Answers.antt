@@ -1,5 +1,5 @@
 use Rattle.clip_term.specs.Choice.{run_act}
-use Rattle.clip_term.specs.ClipTerm.{choice}
+use Rattle.clip_term.specs.Terms.{choice}
 use Rattle.clip_check.proofs.LawfulLemmas.{checked_lawful}
 use Rattle.clip_check.proofs.run.check_choice.Goals as goal
 

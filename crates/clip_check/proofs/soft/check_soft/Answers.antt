@@ -1,4 +1,4 @@
-use Rattle.clip_term.specs.ClipTerm.{soft}
+use Rattle.clip_term.specs.Terms.{soft}
 use Rattle.clip_check.proofs.LawfulLemmas.{checked_lawful}
 use Rattle.clip_check.proofs.soft.check_soft.Goals as goal
 

@@ -1,4 +1,4 @@
-use Rattle.clip_term.specs.ClipTerm.{space}
+use Rattle.clip_term.specs.Terms.{space}
 use Rattle.clip_check.proofs.LawfulLemmas.{checked_lawful}
 use Rattle.clip_check.proofs.space.check_space.Goals as goal
 

@@ -1,6 +1,5 @@
 use Rattle.std.proofs.Common.{◌∙◌, sym, ap, subst, map, take}
-use Rattle.clip_term.specs.ClipTerm.{term_of}
-use Rattle.clip_term.specs.Terms.{info_of}
+use Rattle.clip_term.specs.Terms.{term_of, info_of}
 use Rattle.clip_check.specs.Summaries.{Tells}
 use Rattle.clip_check.proofs.TermLemmas.{told_by, told, not_told, told_more, one_more, all_there}
 use Rattle.clip_check.proofs.LawfulLemmas.{term_lawful}

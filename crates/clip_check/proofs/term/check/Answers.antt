@@ -1,4 +1,4 @@
-use Rattle.clip_term.specs.ClipTerm.{act_of}
+use Rattle.clip_term.specs.Terms.{act_of}
 use Rattle.clip_check.proofs.LawfulLemmas.{checked_lawful}
 use Rattle.clip_check.proofs.term.check.Goals as goal
 

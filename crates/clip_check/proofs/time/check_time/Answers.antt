@@ -1,4 +1,4 @@
-use Rattle.clip_term.specs.ClipTerm.{time}
+use Rattle.clip_term.specs.Terms.{time}
 use Rattle.clip_check.proofs.LawfulLemmas.{checked_lawful}
 use Rattle.clip_check.proofs.time.check_time.Goals as goal
 

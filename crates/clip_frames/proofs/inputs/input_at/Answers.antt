@@ -1,5 +1,5 @@
 use Rattle.std.proofs.Common.{◌∙◌, ap}
-use Rattle.clip_term.specs.ClipTerm.{act_of}
+use Rattle.clip_term.specs.Terms.{act_of}
 use Rattle.clip_graph.specs.Plan.{Application}
 use Rattle.clip_frames.proofs.NodeLemmas.{is_shown}
 use Rattle.clip_frames.proofs.inputs.input_at.Goals as goal

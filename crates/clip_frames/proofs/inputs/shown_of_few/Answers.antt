@@ -3,7 +3,7 @@ use Rattle.std.proofs.Common.{◌≡◌, ◌∙◌, [], ◌∷◌, List, sym, ap
 use Rattle.std.proofs.lemmas.List.{length-map}
 use Rattle.fv_plane.specs.declared.format.Info.{Info}
 use Rattle.clip_term.specs.Time.{source_number}
-use Rattle.clip_term.specs.ClipTerm.{time}
+use Rattle.clip_term.specs.Terms.{time}
 use Rattle.clip_graph.specs.Plan.{application_at, infos_among}
 use Rattle.clip_frames.specs.Asked.{IsShown}
 use Rattle.clip_frames.proofs.InputLemmas.{one_info, two_infos}

@@ -1,7 +1,6 @@
 use Rattle.std.proofs.Common.{[], length, map, arith}
-use Rattle.fv_plane.specs.Look.{look_in}
-use Rattle.clip_term.specs.ClipTerm.{act_of}
-use Rattle.clip_term.specs.Terms.{sample}
+use Rattle.fv_plane.specs.Picture.{look_in}
+use Rattle.clip_term.specs.Terms.{act_of, sample}
 use Rattle.fv_plane.proofs.FillLemmas.{row_listed}
 use Rattle.clip_reference.proofs.make.fill_row.Goals as goal
 

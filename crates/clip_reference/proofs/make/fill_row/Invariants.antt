@@ -1,7 +1,6 @@
 use Rattle.std.proofs.Common.{◌≡◌, ℕ, ◌<◌, [], length, map, get_or}
-use Rattle.fv_plane.specs.Look.{look_in}
-use Rattle.clip_term.specs.ClipTerm.{act_of}
-use Rattle.clip_term.specs.Terms.{sample}
+use Rattle.fv_plane.specs.Picture.{look_in}
+use Rattle.clip_term.specs.Terms.{act_of, sample}
 use Rattle.clip_reference.proofs.make.fill_row.Given as goal
 
 abbrev pub invariant-loop-x : goal.invariant-loop-x

@@ -1,11 +1,8 @@
 use Rattle.std.proofs.Common.{rules, arith, ◌≡◌, ◌∙◌, ◌*◌, List, [], length, map, ap, sym, refl}
 use Rattle.std.proofs.lemmas.Result.{IfOk-weaker}
 use Rattle.fv_plane.specs.Format.{sample_bytes}
-use Rattle.fv_plane.specs.Picture.{Picture}
-use Rattle.fv_plane.specs.Bytes.{row_of_bytes}
-use Rattle.fv_plane.specs.Look.{Look, look_in, row_from, picture_from}
-use Rattle.clip_term.specs.ClipTerm.{act_of}
-use Rattle.clip_term.specs.Terms.{sample, make}
+use Rattle.fv_plane.specs.Picture.{Picture, row_of_bytes, Look, look_in, row_from, picture_from}
+use Rattle.clip_term.specs.Terms.{act_of, sample, make}
 use Rattle.fv_plane.proofs.FillLemmas.{filled_put, filled_plane, filled_done}
 use Rattle.fv_plane.proofs.WholePlaneLemmas.{rows_listed}
 use Rattle.clip_reference.proofs.ReadyLemmas.{made_same}

@@ -1,8 +1,7 @@
 use Rattle.std.proofs.Common.{◌≡◌, [], length, map}
 use Rattle.fv_plane.specs.Format.{plane_width, row_bytes}
-use Rattle.fv_plane.specs.Look.{look_in}
-use Rattle.clip_term.specs.ClipTerm.{act_of}
-use Rattle.clip_term.specs.Terms.{sample}
+use Rattle.fv_plane.specs.Picture.{look_in}
+use Rattle.clip_term.specs.Terms.{act_of, sample}
 use Rattle.fv_plane.proofs.FillLemmas.{Filled}
 use Rattle.fv_plane.proofs.WholePlaneLemmas.{rows_listed}
 use Rattle.clip_reference.proofs.make.made.Given as goal

@@ -6,9 +6,8 @@ use Rattle.fv_plane.specs.Picture.{Picture, IsPicture, blank}
 use Rattle.fv_plane.specs.declared.format.Info.{Info}
 use Rattle.fv_plane.specs.declared.format.Shape.{Shape}
 use Rattle.clip_term.specs.declared.term.Term.{out-Term}
-use Rattle.clip_term.specs.ClipTerm.{ClipTerm, act_of, term_of, clips}
+use Rattle.clip_term.specs.Terms.{ClipTerm, act_of, term_of, clips, asked, asked_picture, check, make, frame_in, term_picture, term_pictures}
 use Rattle.clip_term.specs.declared.op.Origin.{Origin}
-use Rattle.clip_term.specs.Terms.{asked, asked_picture, check, make, frame_in, term_picture, term_pictures}
 use Rattle.clip_term.proofs.LawfulLemmas.{checks_lawful}
 use Rattle.clip_reference.proofs.ReadyLemmas.{ready, filter_is, made_is}
 use Rattle.clip_reference.proofs.RangeLemmas.{made_in_range}

@@ -1,8 +1,7 @@
 use Rattle.std.proofs.Common.{◌≡◌, All, map, take}
 use Rattle.fv_plane.specs.Picture.{IsPicture}
 use Rattle.clip_term.specs.declared.term.Term.{out-Term}
-use Rattle.clip_term.specs.ClipTerm.{term_of, clips}
-use Rattle.clip_term.specs.Terms.{asked_picture, term_pictures}
+use Rattle.clip_term.specs.Terms.{term_of, clips, asked_picture, term_pictures}
 use Rattle.clip_reference.proofs.SizeLemmas.{ops_in}
 use Rattle.clip_reference.proofs.reference.+reference_frame.Given as goal
 

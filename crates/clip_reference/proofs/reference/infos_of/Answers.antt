@@ -1,6 +1,5 @@
 use Rattle.std.proofs.Common.{◌+◌, ◌∙◌, ap, sym, drop}
-use Rattle.clip_term.specs.ClipTerm.{term_of}
-use Rattle.clip_term.specs.Terms.{info_of}
+use Rattle.clip_term.specs.Terms.{term_of, info_of}
 use Rattle.clip_reference.proofs.InfoLemmas.{told, joined, joined_more, none_refused, all_joined}
 use Rattle.clip_reference.proofs.reference.infos_of.Goals as goal
 

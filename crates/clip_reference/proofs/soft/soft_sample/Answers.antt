@@ -1,7 +1,7 @@
 use Rattle.std.proofs.Common.{◌≡◌, ℕ, ◌<◌, ◌∙◌, length, map, ap, sym, arith, w32}
 use Rattle.std.proofs.lemmas.Int.{ints}
 use Rattle.std.proofs.lemmas.List.{get_or-map}
-use Rattle.fv_plane.specs.Look.{Look, look_in, look_at, nothing}
+use Rattle.fv_plane.specs.Picture.{Look, look_in, look_at, nothing}
 use Rattle.clip_term.specs.Soft.{convolved}
 use Rattle.clip_reference.proofs.soft.soft_sample.Goals as goal
 use mir.Val.{to_z, of_z}

@@ -4,7 +4,7 @@ use Rattle.std.proofs.lemmas.Int.{to_z-of_z}
 use Rattle.std.proofs.lemmas.List.{take_all}
 use Rattle.std.proofs.lemmas.Nat.{div_below}
 use Rattle.fv_plane.specs.Format.{scale}
-use Rattle.fv_plane.specs.Look.{look_in, look_at}
+use Rattle.fv_plane.specs.Picture.{look_in, look_at}
 use Rattle.clip_term.specs.Refusals.{nat_of}
 use Rattle.clip_term.specs.Soft.{near, samples_at}
 use Rattle.clip_reference.proofs.soft.softened.Goals as goal

@@ -1,6 +1,6 @@
 use Rattle.std.proofs.Common.{◌≡◌, ◌*◌, ◌≤◌, take, map}
 use Rattle.std.specs.List.{sum}
-use Rattle.fv_plane.specs.Look.{look_in}
+use Rattle.fv_plane.specs.Picture.{look_in}
 use Rattle.clip_term.specs.Soft.{near, samples_at}
 use Rattle.clip_reference.proofs.soft.softened.Given as goal
 

@@ -1,7 +1,7 @@
 use Rattle.std.proofs.Common.{arith, ◌≡◌, ◌∙◌, ap, ℕ, get_or}
 use Rattle.std.specs.Prelude.{pos, ◌*ℤ◌, ◌%◌, ◌/◌}
 use Rattle.fv_plane.specs.Format.{plane_width, plane_height}
-use Rattle.fv_plane.specs.Look.{look_in}
+use Rattle.fv_plane.specs.Picture.{look_in}
 use Rattle.std.proofs.lemmas.Int.{ints}
 use Rattle.clip_term.specs.Soft.{place}
 use Rattle.clip_reference.proofs.WeightLemmas.{weighed_more}

@@ -1,5 +1,5 @@
 use Rattle.std.proofs.Common.{◌≡◌, ◌*◌, ◌^◌, drop, pos, ◌+ℤ◌, neg_ℤ, ◌≤ℤ◌}
-use Rattle.fv_plane.specs.Look.{look_in}
+use Rattle.fv_plane.specs.Picture.{look_in}
 use Rattle.clip_term.specs.Soft.{weighed}
 use Rattle.clip_reference.proofs.soft.weighed.Given as goal
 

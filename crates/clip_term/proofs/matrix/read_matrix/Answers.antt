@@ -7,8 +7,8 @@ use Rattle.std.proofs.lemmas.List.{map-append}
 use Rattle.std.proofs.lemmas.Iterator.Consumers.{YieldsList-end}
 use Rattle.std.proofs.lemmas.Iterator.Splits.{YieldsList-from_slice_split}
 use Rattle.std.proofs.lemmas.List.Folds.{list_all-append}
-use Rattle.clip_term.specs.Arguments.{is_weight}
-use Rattle.clip_term.specs.Texts.{is_gap, entry_of}
+use Rattle.clip_term.specs.Refusals.{is_weight}
+use Rattle.clip_term.specs.Filters.{is_gap, entry_of}
 use Rattle.clip_term.proofs.MatrixLemmas.{are_less, are_more, entries_less, entries_more, read_all}
 use Rattle.clip_term.proofs.matrix.read_matrix.Goals as goal
 use denote.Bor.{Bor}

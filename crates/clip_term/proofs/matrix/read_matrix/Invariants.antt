@@ -1,6 +1,6 @@
 use Rattle.std.proofs.Common.{◌≡◌, map, true}
 use Rattle.std.specs.List.{list_all}
-use Rattle.clip_term.specs.Arguments.{is_weight}
+use Rattle.clip_term.specs.Refusals.{is_weight}
 use Rattle.clip_term.proofs.MatrixLemmas.{are_entries, entries_in}
 use Rattle.clip_term.proofs.matrix.read_matrix.Given as goal
 

@@ -1,7 +1,7 @@
 use Rattle.std.proofs.Common.{◌∙◌, ap, length, arith}
 use Rattle.std.proofs.lemmas.List.{length_push}
 use Rattle.std.proofs.lemmas.List.Elements.{All-push}
-use Rattle.fv_plane.specs.Clip.{IsPictureOf}
+use Rattle.fv_plane.specs.Picture.{IsPictureOf}
 use Rattle.filter_tests.proofs.clips.pictures.Goals as goal
 
 -- one more picture of the clip

@@ -1,6 +1,6 @@
 use Rattle.std.proofs.Common.{◌≡◌, length}
 use Rattle.std.specs.List.{All}
-use Rattle.fv_plane.specs.Clip.{IsPictureOf}
+use Rattle.fv_plane.specs.Picture.{IsPictureOf}
 use Rattle.filter_tests.proofs.clips.pictures.Given as goal
 
 -- so many pictures of the clip were made

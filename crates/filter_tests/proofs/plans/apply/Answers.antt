@@ -1,7 +1,6 @@
 -- A filter is added with the info that its check told.
 use Rattle.std.proofs.Common.{◌∙◌, ℕ, sym, ap}
-use Rattle.clip_term.specs.ClipTerm.{Act, source, plain, time, space, joined, soft, fields, choice, act_of}
-use Rattle.clip_term.specs.Terms.{check}
+use Rattle.clip_term.specs.Terms.{Act, source, plain, time, space, joined, soft, fields, choice, act_of, check}
 use Rattle.clip_graph.specs.Plan.{IsCounted}
 use Rattle.clip_reference.specs.Ready.{IsFilter}
 use Rattle.filter_tests.proofs.plans.apply.Goals as goal

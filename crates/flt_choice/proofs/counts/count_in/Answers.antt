@@ -1,5 +1,5 @@
 use Rattle.std.proofs.Common.{List, ℕ, length, sym, subst, arith}
-use Rattle.fv_plane.specs.Bytes.{row_of_bytes}
+use Rattle.fv_plane.specs.Picture.{row_of_bytes}
 use Rattle.fv_plane.proofs.CallerLemmas.{narrow_of_bytes, wide_of_bytes}
 use Rattle.flt_choice.specs.Counts.{AddsCounts, HasRoom}
 use Rattle.flt_choice.proofs.SampleLemmas.{not_eight}

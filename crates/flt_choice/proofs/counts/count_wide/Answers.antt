@@ -1,6 +1,6 @@
 use Rattle.std.proofs.Common.{◌*◌, ◌+◌, ◌/◌, length, take, subst, arith, List, ℕ}
 use Rattle.std.proofs.lemmas.List.{take_all, length-take}
-use Rattle.fv_plane.specs.Bytes.{wide_samples}
+use Rattle.fv_plane.specs.Picture.{wide_samples}
 use Rattle.fv_plane.proofs.WideLemmas.{length-wide_samples}
 use Rattle.flt_choice.specs.Counts.{AddsCounts}
 use Rattle.flt_choice.proofs.CountLemmas.{room_left, one_more_counted, four_more_counted}

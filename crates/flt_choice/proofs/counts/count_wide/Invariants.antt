@@ -1,5 +1,5 @@
 use Rattle.std.proofs.Common.{◌*◌, take}
-use Rattle.fv_plane.specs.Bytes.{wide_samples}
+use Rattle.fv_plane.specs.Picture.{wide_samples}
 use Rattle.flt_choice.specs.Counts.{AddsCounts}
 use Rattle.flt_choice.proofs.counts.count_wide.Given as goal
 

@@ -1,5 +1,5 @@
 use Rattle.std.proofs.Common.{sym, below_more, arith}
-use Rattle.clip_term.specs.Values.{is_half}
+use Rattle.clip_term.specs.Expression.{is_half}
 use Rattle.flt_choice.proofs.CountLemmas.{total_more, found, not_found, half_is, less_is}
 use Rattle.flt_choice.proofs.counts.middle.Goals as goal
 

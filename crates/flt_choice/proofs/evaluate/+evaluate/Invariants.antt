@@ -2,7 +2,7 @@
 use Rattle.std.proofs.Common.{◌≡◌, map, drop}
 use Rattle.std.specs.Int.{int_min, int_max}
 use Rattle.clip_term.specs.Expression.{expr_view, step_view, exprs_of, steps_of}
-use Rattle.clip_term.specs.Values as v
+use Rattle.clip_term.specs.Expression as v
 use Rattle.flt_choice.specs.Table.{stats_in}
 use Rattle.flt_choice.proofs.evaluate.+evaluate.Given as goal
 

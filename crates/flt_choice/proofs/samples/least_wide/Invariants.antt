@@ -1,7 +1,7 @@
 use Rattle.std.proofs.Common.{◌≡◌, take}
 use Rattle.std.specs.Prelude.{min}
 use Rattle.std.specs.List.{fold}
-use Rattle.fv_plane.specs.Bytes.{wide_samples}
+use Rattle.fv_plane.specs.Picture.{wide_samples}
 use Rattle.flt_choice.proofs.samples.least_wide.Given as goal
 
 abbrev pub invariant-loop-x : goal.invariant-loop-x

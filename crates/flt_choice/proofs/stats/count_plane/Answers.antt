@@ -1,7 +1,7 @@
 use Rattle.std.proofs.Common.{◌≤◌, List, ℕ, [], length, take, drop, get_or, sym, ap, ◌∙◌, subst}
 use Rattle.fv_rows.specs.Rows.{flat_rows}
 use Rattle.fv_plane.specs.declared.format.Shape.{Shape}
-use Rattle.fv_plane.specs.Bytes.{row_of_bytes, bytes_of_rows}
+use Rattle.fv_plane.specs.Picture.{row_of_bytes, bytes_of_rows}
 use Rattle.fv_plane.specs.Format.{largest_sample}
 use Rattle.flt_choice.specs.Counts.{AddsCounts, AreTables}
 use Rattle.flt_choice.proofs.CountLemmas.{counts_both, none_room}

@@ -2,7 +2,7 @@ use Rattle.std.proofs.Common.{sym, ap, ◌∙◌, take, drop, get_or, []}
 use Rattle.std.specs.Prelude.{max}
 use Rattle.std.specs.List.{fold}
 use Rattle.fv_plane.specs.declared.format.Shape.{Shape}
-use Rattle.fv_plane.specs.Bytes.{row_of_bytes, bytes_of_rows}
+use Rattle.fv_plane.specs.Picture.{row_of_bytes, bytes_of_rows}
 use Rattle.flt_choice.proofs.SampleLemmas.{rows_step, whole_rows}
 use Rattle.flt_choice.proofs.stats.greatest.Goals as goal
 

@@ -1,7 +1,7 @@
 use Rattle.std.proofs.Common.{sym, ap, arith}
 use Rattle.fv_plane.specs.declared.format.Shape.{Shape}
 use Rattle.fv_plane.specs.Format.{planes, largest_sample}
-use Rattle.clip_term.specs.Values.{stat_in}
+use Rattle.clip_term.specs.Expression.{stat_in}
 use Rattle.flt_choice.specs.Table.{plane_samples, stats_of}
 use Rattle.flt_choice.proofs.ValueLemmas.{known_ok, stat_there}
 use Rattle.flt_choice.proofs.value.statistic_if.Goals as goal

@@ -2,7 +2,7 @@ use Rattle.std.proofs.Common.{◌≡◌, ℕ, ◌==◌, ◌*◌, ◌∙◌, ap, 
 use Rattle.std.specs.Simd.Lanes.{zip2}
 use Rattle.fv_plane.proofs.CallerLemmas.{bytes_of_narrow, bytes_of_wide, narrow_of_bytes, wide_of_bytes, two_bytes}
 use Rattle.fv_plane.specs.declared.format.Shape.{Shape}
-use Rattle.fv_plane.specs.Bytes.{wide_bytes, wide_samples, row_of_bytes}
+use Rattle.fv_plane.specs.Picture.{wide_bytes, wide_samples, row_of_bytes}
 use Rattle.fv_plane.specs.Format.{plane_width, row_bytes}
 use Rattle.flt_merge.specs.Rows.{mean}
 use Rattle.flt_merge.proofs.merge.fill_means.Goals as goal

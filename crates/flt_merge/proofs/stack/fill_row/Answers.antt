@@ -1,7 +1,6 @@
 use Rattle.std.proofs.Common.{arith, ◌≡◌, ◌≤◌, ◌∙◌, ◌++◌, ◌+◌, ◌-◌, ap, take, length, length-append, List, ℕ}
 use Rattle.std.proofs.lemmas.Slice.{take-put_mid}
-use Rattle.fv_plane.specs.Picture.{Picture, row_of}
-use Rattle.fv_plane.specs.Bytes.{bytes_of_row}
+use Rattle.fv_plane.specs.Picture.{Picture, row_of, bytes_of_row}
 use Rattle.flt_merge.specs.Rows.{bytes_beside}
 use Rattle.flt_merge.proofs.StackLemmas.{row_more, row_fits, length-put_mid}
 use Rattle.flt_merge.proofs.stack.fill_row.Goals as goal

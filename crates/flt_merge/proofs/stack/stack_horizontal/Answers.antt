@@ -1,7 +1,7 @@
 use Rattle.std.proofs.Common.{◌≡◌, map, sym, subst, IfOk}
 use Rattle.fv_plane.specs.declared.format.Shape.{Shape}
 use Rattle.fv_plane.specs.Format.{IsLegal}
-use Rattle.fv_plane.specs.Look.{look_in, picture_from}
+use Rattle.fv_plane.specs.Picture.{look_in, picture_from}
 use Rattle.clip_term.specs.declared.op.JoinOp.TheVariants.{StackHorizontal}
 use Rattle.clip_term.specs.Join.{join_at}
 use Rattle.flt_merge.specs.Joined.{infos_in}

@@ -2,9 +2,7 @@ use Rattle.std.proofs.Common.{arith, ◌≡◌, ◌+◌, ◌<◌, ◌≤◌, ◌
 use Rattle.std.proofs.lemmas.List.{take_all, get_or_read_under}
 use Rattle.fv_plane.specs.declared.format.Shape.{Shape}
 use Rattle.fv_plane.specs.Format.{planes, plane_width, plane_height}
-use Rattle.fv_plane.specs.Picture.{Picture}
-use Rattle.fv_plane.specs.Bytes.{rows_of_bytes}
-use Rattle.fv_plane.specs.Look.{look_in}
+use Rattle.fv_plane.specs.Picture.{Picture, rows_of_bytes, look_in}
 use Rattle.fv_plane.proofs.FillLemmas.{Filled, filled_plane, filled_done}
 use Rattle.fv_plane.proofs.FrameLemmas.{plane_height_le}
 use Rattle.clip_term.specs.declared.op.JoinOp.TheVariants.{StackVertical}

@@ -1,5 +1,5 @@
 use Rattle.std.proofs.Common.{◌≡◌, ℕ, ◌<◌, get_or, [], ◌∷◌}
-use Rattle.fv_plane.specs.Bytes.{wide_samples}
+use Rattle.fv_plane.specs.Picture.{wide_samples}
 use Rattle.clip_term.specs.Soft.{softened}
 use Rattle.flt_rows.proofs.wide.soften_three.Given as goal
 

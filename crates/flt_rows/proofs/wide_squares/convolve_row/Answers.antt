@@ -1,5 +1,5 @@
 use Rattle.std.proofs.Common.{◌≡◌, ℕ, ◌-◌, ◌<◌, ◌≤◌, ◌+◌, List, length, arith, length-set}
-use Rattle.fv_plane.specs.Bytes.{wide_samples}
+use Rattle.fv_plane.specs.Picture.{wide_samples}
 use Rattle.fv_plane.proofs.WideLemmas.{length-wide_samples}
 use Rattle.flt_rows.specs.Squares.{shown, weighed_around}
 use Rattle.flt_rows.proofs.NarrowLemmas.{around_at}

@@ -1,5 +1,5 @@
 use Rattle.std.proofs.Common.{◌≡◌, ◌*◌, ℕ, ◌<◌, get_or, length}
-use Rattle.fv_plane.specs.Bytes.{wide_samples}
+use Rattle.fv_plane.specs.Picture.{wide_samples}
 use Rattle.flt_rows.specs.Squares.{shown, weighed_around}
 use Rattle.flt_rows.proofs.wide_squares.convolve_row.Given as goal
 

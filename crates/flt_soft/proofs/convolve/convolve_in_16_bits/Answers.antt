@@ -4,7 +4,7 @@ use Rattle.std.specs.Prelude.{ℤ, int_div, ◌-ℤ◌, ◌==◌, if◌then◌el
 use Rattle.std.proofs.lemmas.Int.{ints, to_z-of_z}
 use Rattle.fv_plane.specs.declared.format.Shape.{Shape}
 use Rattle.fv_plane.specs.Format.{largest_sample, plane_height}
-use Rattle.fv_plane.specs.Look.{look_in}
+use Rattle.fv_plane.specs.Picture.{look_in}
 use Rattle.clip_term.specs.Soft.{place, side_of, weighed, divisor_of, sample_from}
 use Rattle.flt_rows.specs.Squares.{shown, weighed_around}
 use Rattle.flt_rows.proofs.NarrowLemmas.{divisor_size, square_is}

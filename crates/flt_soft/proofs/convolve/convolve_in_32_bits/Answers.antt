@@ -1,7 +1,7 @@
 use Rattle.std.proofs.Common.{◌≡◌, ◌<◌, ◌∙◌, length, ap, arith, w32, ◌+ℤ◌}
 use Rattle.std.specs.Prelude.{ℤ, int_div}
 use Rattle.std.proofs.lemmas.Int.{ints, to_z-of_z}
-use Rattle.fv_plane.specs.Look.{look_in}
+use Rattle.fv_plane.specs.Picture.{look_in}
 use Rattle.clip_term.specs.Soft.{side_of, weighed, divisor_of, sample_from}
 use Rattle.flt_soft.proofs.PictureLemmas.{narrow_convolved}
 use Rattle.flt_soft.proofs.convolve.convolve_in_32_bits.Goals as goal

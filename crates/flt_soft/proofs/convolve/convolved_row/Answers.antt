@@ -2,10 +2,8 @@ use Rattle.std.proofs.Common.{◌≡◌, ◌<◌, ◌∙◌, ◌==◌, List, fal
 use Rattle.clip_term.specs.declared.op.SoftOp.TheVariants.{GeneralConvolution}
 use Rattle.std.proofs.lemmas.Int.{to_z-of_z}
 use Rattle.fv_plane.specs.declared.format.Shape.{Shape}
-use Rattle.fv_plane.specs.Bytes.{wide_bytes}
+use Rattle.fv_plane.specs.Picture.{wide_bytes, look_in, row_from, Picture}
 use Rattle.fv_plane.specs.Format.{plane_width}
-use Rattle.fv_plane.specs.Look.{look_in, row_from}
-use Rattle.fv_plane.specs.Picture.{Picture}
 use Rattle.fv_plane.proofs.CallerLemmas.{bytes_of_wide}
 use Rattle.clip_term.specs.Soft.{convolved}
 use Rattle.flt_soft.specs.Pictures.{row_made, shape_of}

@@ -1,5 +1,5 @@
 use Rattle.std.proofs.Common.{◌≡◌, ℕ, ◌*◌, ◌<◌, get_or, take, length, pos}
-use Rattle.fv_plane.specs.Look.{look_in}
+use Rattle.fv_plane.specs.Picture.{look_in}
 use Rattle.clip_term.specs.Soft.{weighed}
 use Rattle.flt_soft.proofs.convolve.sum_nine.Given as goal
 

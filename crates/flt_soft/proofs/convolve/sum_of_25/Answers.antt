@@ -3,7 +3,7 @@ use Rattle.std.proofs.lemmas.Int.{to_z-of_z}
 use Rattle.std.proofs.lemmas.List.{take_all}
 use Rattle.fv_plane.specs.declared.format.Shape.{Shape}
 use Rattle.fv_plane.specs.Format.{plane_width, plane_height}
-use Rattle.fv_plane.specs.Look.{look_in}
+use Rattle.fv_plane.specs.Picture.{look_in}
 use Rattle.clip_term.specs.Soft.{place, weighed}
 use Rattle.flt_rows.specs.Rows.{extended, weighed_five}
 use Rattle.flt_soft.proofs.PictureLemmas.{narrow_few}

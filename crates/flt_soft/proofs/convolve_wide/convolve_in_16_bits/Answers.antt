@@ -3,9 +3,8 @@ use Rattle.std.proofs.Common.{◌≡◌, ◌≤◌, ◌∙◌, ℕ, List, length
 use Rattle.std.specs.Prelude.{ℤ, int_div, ◌-ℤ◌, ◌==◌, if◌then◌else◌, unsigned_abs}
 use Rattle.std.proofs.lemmas.Int.{ints, to_z-of_z}
 use Rattle.fv_plane.specs.declared.format.Shape.{Shape}
-use Rattle.fv_plane.specs.Bytes.{wide_samples}
+use Rattle.fv_plane.specs.Picture.{wide_samples, look_in}
 use Rattle.fv_plane.specs.Format.{largest_sample, plane_height, plane_width, scale}
-use Rattle.fv_plane.specs.Look.{look_in}
 use Rattle.fv_plane.proofs.WideLemmas.{length-wide_samples}
 use Rattle.clip_term.specs.Soft.{place, side_of, weighed, divisor_of, sample_from}
 use Rattle.flt_rows.specs.Squares.{size_of_all, shown, weighed_around}

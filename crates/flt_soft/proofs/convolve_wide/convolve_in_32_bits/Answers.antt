@@ -3,7 +3,7 @@ use Rattle.std.specs.Prelude.{ℤ, int_div}
 use Rattle.std.proofs.lemmas.Int.{ints, to_z-of_z}
 use Rattle.fv_plane.specs.declared.format.Shape.{Shape}
 use Rattle.fv_plane.specs.Format.{largest_sample, scale}
-use Rattle.fv_plane.specs.Look.{look_in}
+use Rattle.fv_plane.specs.Picture.{look_in}
 use Rattle.clip_term.specs.Soft.{side_of, weighed, divisor_of, sample_from}
 use Rattle.flt_soft.proofs.convolve_wide.convolve_in_32_bits.Goals as goal
 use mir.Val.{to_z, of_z}

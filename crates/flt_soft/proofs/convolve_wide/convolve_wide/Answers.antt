@@ -1,8 +1,7 @@
 use Rattle.std.proofs.Common.{◌≡◌, ◌∙◌, ap, arith, length, w32}
 use Rattle.std.proofs.lemmas.Int.{to_z-of_z}
-use Rattle.fv_plane.specs.Bytes.{wide_bytes}
+use Rattle.fv_plane.specs.Picture.{wide_bytes, look_in}
 use Rattle.fv_plane.specs.Format.{plane_width}
-use Rattle.fv_plane.specs.Look.{look_in}
 use Rattle.fv_plane.proofs.FillLemmas.{row_listed}
 use Rattle.clip_term.specs.Soft.{convolved}
 use Rattle.flt_soft.proofs.convolve_wide.convolve_wide.Goals as goal

@@ -1,8 +1,7 @@
 use Rattle.std.proofs.Common.{◌≡◌, ◌<◌, ◌*◌, ◌+◌, ◌/◌, ◌∙◌, ℕ, List, length, map, get_or, take, sym, ap, arith}
 use Rattle.std.specs.List.{sum}
 use Rattle.std.proofs.lemmas.List.{take_all}
-use Rattle.fv_plane.specs.Picture.{Picture}
-use Rattle.fv_plane.specs.Look.{look_in, look_at}
+use Rattle.fv_plane.specs.Picture.{Picture, look_in, look_at}
 use Rattle.clip_term.specs.Soft.{near, samples_at}
 use Rattle.flt_soft.specs.Pictures.{row_in}
 use Rattle.flt_soft.proofs.SoftenLemmas.{nears, length-nears, near_more, look_seen, mean_is}

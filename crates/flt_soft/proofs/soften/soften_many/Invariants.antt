@@ -1,6 +1,6 @@
 use Rattle.std.proofs.Common.{◌≡◌, ◌*◌, ◌/◌, ◌≤◌, ◌<◌, ℕ, take, map, length, get_or}
 use Rattle.std.specs.List.{sum}
-use Rattle.fv_plane.specs.Look.{look_in, look_at}
+use Rattle.fv_plane.specs.Picture.{look_in, look_at}
 use Rattle.flt_soft.proofs.SoftenLemmas.{nears}
 use Rattle.flt_soft.proofs.soften.soften_many.Given as goal
 

@@ -1,9 +1,8 @@
 use Rattle.std.proofs.Common.{◌≡◌, ◌<◌, ◌∙◌, ◌*◌, ◌==◌, List, false, if◌then◌else◌, ap, sym, arith, length, pos, ne_eqb}
 use Rattle.clip_term.specs.declared.op.SoftOp.TheVariants.{TemporalSoften}
 use Rattle.fv_plane.specs.declared.format.Shape.{Shape}
-use Rattle.fv_plane.specs.Bytes.{wide_bytes}
+use Rattle.fv_plane.specs.Picture.{wide_bytes, Picture}
 use Rattle.fv_plane.specs.Format.{plane_width, scale}
-use Rattle.fv_plane.specs.Picture.{Picture}
 use Rattle.fv_plane.proofs.CallerLemmas.{bytes_of_narrow, bytes_of_wide}
 use Rattle.flt_soft.specs.Pictures.{row_made, shape_of}
 use Rattle.flt_soft.proofs.PictureLemmas.{first_shape, narrow_width, some_pictures}

@@ -1,6 +1,5 @@
 use Rattle.std.proofs.Common.{◌≡◌, ◌∙◌, ◌/◌, ap, arith, length, map}
-use Rattle.fv_plane.specs.Bytes.{wide_samples}
-use Rattle.fv_plane.specs.Look.{look_in, look_at}
+use Rattle.fv_plane.specs.Picture.{wide_samples, look_in, look_at}
 use Rattle.clip_term.specs.Soft.{softened, samples_at}
 use Rattle.flt_soft.proofs.SoftenLemmas.{three_is, five_is}
 use Rattle.flt_soft.proofs.soften_wide.fill_means.Goals as goal

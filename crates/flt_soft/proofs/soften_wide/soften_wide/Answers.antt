@@ -1,5 +1,5 @@
 use Rattle.std.proofs.Common.{◌≡◌, ◌∙◌, ap, arith, length}
-use Rattle.fv_plane.specs.Bytes.{wide_bytes}
+use Rattle.fv_plane.specs.Picture.{wide_bytes}
 use Rattle.fv_plane.specs.Format.{plane_width}
 use Rattle.flt_soft.specs.Pictures.{shape_of}
 use Rattle.flt_soft.proofs.SoftenLemmas.{means_listed}

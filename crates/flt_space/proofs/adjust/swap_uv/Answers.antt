@@ -1,6 +1,6 @@
 use Rattle.std.proofs.Common.{rules, ◌<◌, refl, sym, arith}
 use Rattle.fv_plane.specs.Format.{planes, plane_width, HasSamePlane}
-use Rattle.fv_plane.specs.Look.{look_in}
+use Rattle.fv_plane.specs.Picture.{look_in}
 use Rattle.fv_plane.proofs.FillLemmas.{filled_start, filled_done}
 use Rattle.clip_term.specs.declared.op.SpaceOp.TheVariants.{SwapUV}
 use Rattle.clip_term.specs.Space.{space_at, swapped}

@@ -1,4 +1,4 @@
-use Rattle.fv_plane.specs.Look.{look_in}
+use Rattle.fv_plane.specs.Picture.{look_in}
 use Rattle.fv_plane.proofs.FillLemmas.{Filled}
 use Rattle.clip_term.specs.declared.op.SpaceOp.TheVariants.{SwapUV}
 use Rattle.clip_term.specs.Space.{space_at}

@@ -1,7 +1,6 @@
 use Rattle.std.proofs.Common.{◌≡◌, ◌∙◌, ◌+◌, ◌-◌, ◌*◌, ℕ, List, length, take, drop, ap, sym, arith}
-use Rattle.fv_plane.specs.Bytes.{wide_bytes, wide_samples}
+use Rattle.fv_plane.specs.Picture.{wide_bytes, wide_samples, row_of}
 use Rattle.fv_plane.specs.Format.{plane_width, row_bytes}
-use Rattle.fv_plane.specs.Picture.{row_of}
 use Rattle.fv_plane.proofs.CallerLemmas.{bytes_of_wide, is_wide}
 use Rattle.fv_plane.proofs.WideLemmas.{length-wide_bytes, samples-bytes}
 use Rattle.flt_space.specs.Rows.{padded}

@@ -1,5 +1,5 @@
 use Rattle.std.proofs.Common.{◌∙◌, ◌^◌, ◌-◌, ◌≤◌, get_or, ap, sym, refl}
-use Rattle.fv_plane.specs.Bytes.{wide_bytes}
+use Rattle.fv_plane.specs.Picture.{wide_bytes}
 use Rattle.fv_plane.proofs.CallerLemmas.{bytes_of_narrow, bytes_of_wide}
 use Rattle.flt_space.specs.Rows.{row_converted}
 use Rattle.flt_space.proofs.RowLemmas.{more_bits}

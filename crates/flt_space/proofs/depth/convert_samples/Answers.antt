@@ -1,7 +1,6 @@
 use Rattle.std.proofs.Common.{◌≡◌, ◌∙◌, ◌-◌, ◌^◌, ◌≤◌, ℕ, List, map, get_or, ap, sym, subst, arith}
 use Rattle.fv_plane.specs.declared.format.Shape.{Shape}
-use Rattle.fv_plane.specs.Bytes.{FitsRow, wide_samples}
-use Rattle.fv_plane.specs.Picture.{row_of}
+use Rattle.fv_plane.specs.Picture.{FitsRow, wide_samples, row_of}
 use Rattle.fv_plane.proofs.CallerLemmas.{bytes_of_narrow}
 use Rattle.clip_term.specs.Space.{converted}
 use Rattle.flt_space.proofs.DepthLemmas.{depth_of, scaled_row, rounded_row, raised_small, converted_fits}

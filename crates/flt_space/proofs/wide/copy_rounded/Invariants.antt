@@ -1,6 +1,6 @@
 use Rattle.std.proofs.Common.{◌≡◌, ◌+◌, ◌-◌, ◌/◌, ◌^◌, ℕ, ◌<◌, get_or}
 use Rattle.std.specs.Prelude.{min}
-use Rattle.fv_plane.specs.Bytes.{wide_samples}
+use Rattle.fv_plane.specs.Picture.{wide_samples}
 use Rattle.flt_space.proofs.wide.copy_rounded.Given as goal
 
 abbrev pub invariant-loop-x : goal.invariant-loop-x

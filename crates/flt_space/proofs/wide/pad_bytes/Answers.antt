@@ -1,6 +1,6 @@
 use Rattle.std.proofs.Common.{rules, ◌≡◌, ◌∙◌, ◌-◌, ◌/◌, ◌++◌, ℕ, List, length, take, replicate, ap, arith}
 use Rattle.std.specs.Prelude.{max}
-use Rattle.fv_plane.specs.Bytes.{wide_bytes, wide_samples}
+use Rattle.fv_plane.specs.Picture.{wide_bytes, wide_samples}
 use Rattle.flt_space.proofs.MoveLemmas.{padded_bytes, part_replicate}
 use Rattle.flt_space.proofs.wide.pad_bytes.Goals as goal
 

@@ -1,5 +1,5 @@
 use Rattle.std.proofs.Common.{◌≡◌, ◌+◌, ◌-◌, ℕ, ◌<◌, ◌≤◌, get_or, length}
-use Rattle.fv_plane.specs.Bytes.{wide_samples}
+use Rattle.fv_plane.specs.Picture.{wide_samples}
 use Rattle.flt_space.proofs.wide.reverse_row.Given as goal
 
 abbrev pub invariant-loop-x : goal.invariant-loop-x

@@ -1,7 +1,6 @@
 use Rattle.std.proofs.Common.{◌∙◌, ◌*◌, ap}
 use Rattle.fv_plane.specs.Format.{plane_width}
-use Rattle.fv_plane.specs.Bytes.{wide_samples}
-use Rattle.fv_plane.specs.Picture.{row_of}
+use Rattle.fv_plane.specs.Picture.{wide_samples, row_of}
 use Rattle.fv_plane.proofs.CallerLemmas.{bytes_of_wide, is_wide}
 use Rattle.fv_plane.proofs.WideLemmas.{length-wide_samples, samples-bytes}
 use Rattle.flt_space.proofs.wide.wide_row.Goals as goal

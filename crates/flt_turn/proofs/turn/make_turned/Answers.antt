@@ -1,8 +1,7 @@
 use Rattle.std.proofs.Common.{rules, ◌≡◌, ◌∙◌, ◌+◌, ◌*◌, ◌<◌, ◌≤◌, ℕ, List, arith, ap, sym, refl, length}
 use Rattle.fv_plane.specs.declared.format.Shape.{Shape}
-use Rattle.fv_plane.specs.Bytes.{row_of_bytes, rows_of_bytes}
+use Rattle.fv_plane.specs.Picture.{row_of_bytes, rows_of_bytes, look_in, row_from}
 use Rattle.fv_plane.specs.Format.{largest_sample, planes, plane_width, plane_height, row_bytes, sample_bytes}
-use Rattle.fv_plane.specs.Look.{look_in, row_from}
 use Rattle.fv_plane.proofs.BytesLemmas.{row_of_bytes-same}
 use Rattle.fv_plane.proofs.FillLemmas.{filled_plane, filled_done}
 use Rattle.fv_plane.proofs.WholePlaneLemmas.{rows_listed, filled_rows}

@@ -1,5 +1,5 @@
 use Rattle.std.proofs.Common.{◌-◌, ◌≤◌}
-use Rattle.fv_plane.specs.Look.{look_in}
+use Rattle.fv_plane.specs.Picture.{look_in}
 use Rattle.fv_plane.proofs.FillLemmas.{Filled}
 use Rattle.fv_plane.proofs.WholePlaneLemmas.{rows_listed}
 use Rattle.clip_term.specs.Space.{space_at}

@@ -1,9 +1,8 @@
 use Rattle.std.proofs.Common.{rules, ◌≡◌, ◌∙◌, ℕ, ◌+◌, ◌*◌, ◌-◌, ◌<◌, List, length, drop, get_or, ap, arith, refl}
 use Rattle.std.proofs.lemmas.List.{length-take-le, length-drop}
 use Rattle.std.proofs.lemmas.List.Edits.{get_or-between}
-use Rattle.fv_plane.specs.Bytes.{bytes_of_row}
+use Rattle.fv_plane.specs.Picture.{bytes_of_row, row_of}
 use Rattle.fv_plane.specs.Format.{plane_height}
-use Rattle.fv_plane.specs.Picture.{row_of}
 use Rattle.flt_turn.proofs.BlockLemmas.{block_more, length_part, length_written}
 use Rattle.flt_turn.proofs.turn.read_block.Goals as goal
 

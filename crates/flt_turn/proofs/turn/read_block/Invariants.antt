@@ -1,7 +1,6 @@
 use Rattle.std.proofs.Common.{◌≡◌, ℕ, ◌+◌, ◌*◌, ◌<◌, length, get_or}
-use Rattle.fv_plane.specs.Bytes.{bytes_of_row}
+use Rattle.fv_plane.specs.Picture.{bytes_of_row, row_of}
 use Rattle.fv_plane.specs.Format.{plane_height}
-use Rattle.fv_plane.specs.Picture.{row_of}
 use Rattle.flt_turn.proofs.turn.read_block.Given as goal
 
 abbrev pub invariant-loop-i : goal.invariant-loop-i

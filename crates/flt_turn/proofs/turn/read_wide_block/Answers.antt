@@ -3,8 +3,7 @@ use Rattle.std.proofs.lemmas.Bool.{cases_lt}
 use Rattle.std.proofs.lemmas.List.{get_or_append_left, get_or-append_right}
 use Rattle.std.proofs.lemmas.List.Edits.{get_or-between}
 use Rattle.fv_plane.specs.Format.{plane_height}
-use Rattle.fv_plane.specs.Bytes.{bytes_of_row}
-use Rattle.fv_plane.specs.Picture.{row_of}
+use Rattle.fv_plane.specs.Picture.{bytes_of_row, row_of}
 use Rattle.fv_plane.proofs.CallerLemmas.{bytes_of_wide, is_wide}
 use Rattle.flt_turn.proofs.BlockLemmas.{block_more, length_part, length_written}
 use Rattle.flt_turn.proofs.TurnLemmas.{wide_value}

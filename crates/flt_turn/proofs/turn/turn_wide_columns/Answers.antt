@@ -1,7 +1,6 @@
 use Rattle.std.proofs.Common.{rules, ◌≡◌, ◌∙◌, ◌+◌, ◌*◌, ℕ, get_or, set, length, length-set}
-use Rattle.fv_plane.specs.Bytes.{wide_bytes}
+use Rattle.fv_plane.specs.Picture.{wide_bytes, row_of}
 use Rattle.fv_plane.specs.Format.{plane_height}
-use Rattle.fv_plane.specs.Picture.{row_of}
 use Rattle.fv_plane.proofs.CallerLemmas.{bytes_of_wide, is_wide}
 use Rattle.flt_turn.proofs.PartLemmas.{column_made, pair_inside, sample_put, turned_sample, wide-set}
 use Rattle.flt_turn.proofs.TurnLemmas.{wide_value}

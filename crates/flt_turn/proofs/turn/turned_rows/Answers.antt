@@ -1,7 +1,7 @@
 use Rattle.std.proofs.Common.{rules, ◌≡◌, ◌∙◌, ◌+◌, ◌*◌, ℕ, List, length, get_or, ap, sym}
 use Rattle.fv_plane.specs.declared.format.Shape.{Shape}
 use Rattle.fv_plane.specs.Format.{plane_height, sample_bytes}
-use Rattle.fv_plane.specs.Bytes.{row_of_bytes}
+use Rattle.fv_plane.specs.Picture.{row_of_bytes}
 use Rattle.flt_turn.proofs.TurnLemmas.{whole_put}
 use Rattle.flt_turn.proofs.turn.turned_rows.Goals as goal
 

@@ -3,7 +3,7 @@ use Rattle.std.proofs.lemmas.Result.{IfOk-weaker}
 use Rattle.std.proofs.lemmas.List.{length-replicate}
 use Rattle.std.proofs.lemmas.Bool.{eqb-false}
 use Rattle.fv_plane.specs.Format.{plane_width, plane_height, row_bytes, scale}
-use Rattle.fv_plane.specs.Bytes.{bytes_of_row, row_of_bytes, decoded_rows, wide_bytes, AreWhole}
+use Rattle.fv_plane.specs.Picture.{bytes_of_row, row_of_bytes, decoded_rows, wide_bytes, AreWhole}
 use Rattle.fv_plane.proofs.PictureLemmas.{bounded_row, scaled_small}
 use Rattle.fv_plane.proofs.CallerLemmas.{bytes_of_wide}
 use Rattle.fv_plane.proofs.FrameLemmas.{plane_small}

@@ -1,6 +1,6 @@
 use Rattle.std.proofs.Common.{rules, ◌≡◌, List, ℕ, [], ◌∷◌, drop, ap, ◌∙◌, arith, ◌<◌, inl, inr}
 use Rattle.std.specs.Arc.{arc_value}
-use Rattle.fv_plane.specs.Bytes.{decoded_rows, plane_in, chroma_in}
+use Rattle.fv_plane.specs.Picture.{decoded_rows, plane_in, chroma_in}
 use Rattle.std.specs.Prelude.{◌≢◌}
 use Rattle.fv_plane.specs.Format.{planes}
 use Rattle.fv_plane.proofs.PictureLemmas.{one_or_three}

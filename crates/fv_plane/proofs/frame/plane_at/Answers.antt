@@ -3,7 +3,7 @@ use Rattle.std.proofs.lemmas.List.{length-drop, get_or-drop}
 use Rattle.std.specs.Arc.{arc_value}
 use Rattle.fv_plane.specs.Format.{plane_width, plane_height, row_bytes}
 use Rattle.fv_rows.specs.Rows.{rows_of}
-use Rattle.fv_plane.specs.Bytes.{AreWhole}
+use Rattle.fv_plane.specs.Picture.{AreWhole}
 use Rattle.fv_plane.proofs.BytesLemmas.{whole_rows}
 use Rattle.fv_plane.proofs.frame.plane_at.Goals as goal
 

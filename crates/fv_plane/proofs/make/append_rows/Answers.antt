@@ -1,6 +1,6 @@
 use Rattle.std.proofs.Common.{rules, ◌≡◌, ◌++◌, ◌∙◌, ap, sym}
 use Rattle.fv_plane.specs.declared.format.Shape.{Shape}
-use Rattle.fv_plane.specs.Look.{Look}
+use Rattle.fv_plane.specs.Picture.{Look}
 use Rattle.fv_plane.specs.Made.{bytes_made}
 use Rattle.fv_plane.proofs.MadeLemmas.{more_made}
 use Rattle.fv_plane.proofs.make.append_rows.Goals as goal

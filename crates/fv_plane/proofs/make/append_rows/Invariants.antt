@@ -1,7 +1,6 @@
 use Rattle.std.proofs.Common.{◌≡◌, length}
-use Rattle.fv_plane.specs.Bytes.{bytes_of_rows}
+use Rattle.fv_plane.specs.Picture.{bytes_of_rows, plane_from}
 use Rattle.fv_plane.specs.Format.{plane_width, row_bytes}
-use Rattle.fv_plane.specs.Look.{plane_from}
 use Rattle.fv_plane.proofs.make.append_rows.Given as goal
 
 abbrev pub invariant-loop-y : goal.invariant-loop-y

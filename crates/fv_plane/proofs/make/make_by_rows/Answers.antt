@@ -1,8 +1,6 @@
 use Rattle.std.proofs.Common.{◌≡◌, ◌∙◌, List, ℕ, ap, drop, map, sym, subst}
 use Rattle.fv_plane.specs.declared.format.Shape.{Shape}
-use Rattle.fv_plane.specs.Bytes.{chroma_list, decoded_rows, frame_of}
-use Rattle.fv_plane.specs.Look.{Look, picture_from}
-use Rattle.fv_plane.specs.Picture.{Picture, IsPicture}
+use Rattle.fv_plane.specs.Picture.{chroma_list, decoded_rows, frame_of, Look, picture_from, Picture, IsPicture}
 use Rattle.fv_plane.proofs.BytesLemmas.{whole_first}
 use Rattle.fv_plane.proofs.WindowLemmas.{frame_listed, IsPicture-picture_from}
 use Rattle.fv_plane.proofs.make.make_by_rows.Goals as goal

@@ -3,11 +3,9 @@ use Rattle.std.proofs.lemmas.Result.{IfOk-weaker}
 use Rattle.std.specs.Arc.{arc_value}
 use Rattle.fv_rows.specs.Rows.{rows_of}
 use Rattle.fv_plane.specs.declared.format.Shape.{Shape}
-use Rattle.fv_plane.specs.Bytes.{decoded_rows, AreWhole, bytes_of_rows}
+use Rattle.fv_plane.specs.Picture.{decoded_rows, AreWhole, bytes_of_rows, Look, picture_from, plane_from, Picture}
 use Rattle.fv_plane.specs.Format.{plane_width, plane_height, row_bytes}
-use Rattle.fv_plane.specs.Look.{Look, picture_from, plane_from}
 use Rattle.fv_plane.specs.Made.{IsPlaneOf}
-use Rattle.fv_plane.specs.Picture.{Picture}
 use Rattle.fv_plane.proofs.BytesLemmas.{whole-same}
 use Rattle.fv_plane.proofs.MadeLemmas.{kept_listed, length-made, made_listed, made_whole}
 use Rattle.fv_plane.proofs.make.make_plane.Goals as goal

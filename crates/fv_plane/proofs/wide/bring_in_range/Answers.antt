@@ -1,6 +1,6 @@
 use Rattle.std.proofs.Common.{◌≡◌, ◌∙◌, ◌/◌, ◌==◌, ap, sym, false, length, map, arith, inl, inr, ne_eqb}
 use Rattle.std.specs.Prelude.{min}
-use Rattle.fv_plane.specs.Bytes.{wide_bytes, wide_samples}
+use Rattle.fv_plane.specs.Picture.{wide_bytes, wide_samples}
 use Rattle.fv_plane.specs.Format.{sample_bytes}
 use Rattle.fv_plane.proofs.BytesLemmas.{in_range-sixteen, in_range-wide, whole_samples}
 use Rattle.fv_plane.proofs.CallerLemmas.{in_range-narrow}

@@ -1,7 +1,7 @@
 -- The line tells the number of the frame's bytes.
 use Rattle.std.proofs.Common.{◌≡◌, ◌∙◌, ◌++◌, length, sym, ap, subst}
 use Rattle.fv_io.specs.Sink.{Puts, PutsPrefix}
-use Rattle.fv_plane.specs.Bytes.{bytes_of}
+use Rattle.fv_plane.specs.Picture.{bytes_of}
 use Rattle.fv_plane.proofs.CallerLemmas.{length-bytes_of}
 use Rattle.fv_session.specs.Answers.{answer_line, frame_text}
 use Rattle.fv_session.specs.declared.answer.Answer.TheVariants as a

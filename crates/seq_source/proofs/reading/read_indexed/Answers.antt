@@ -2,8 +2,7 @@
 use Rattle.std.proofs.Common.{◌≡◌, ◌+◌, ◌-◌, ◌<◌, ℕ, List, length, drop, Some, sym, ◌∙◌, ap, arith, rules}
 use Rattle.std.proofs.lemmas.List.{take_at}
 use Rattle.fv_plane.specs.Format.{frame_bytes}
-use Rattle.fv_plane.specs.Bytes.{picture_of, picture_in_range}
-use Rattle.fv_plane.specs.Picture.{Picture}
+use Rattle.fv_plane.specs.Picture.{picture_of, picture_in_range, Picture}
 use Rattle.fv_plane.proofs.CallerLemmas.{picture_of-take}
 use Rattle.seq_source.specs.FrameSource.{end_of}
 use Rattle.seq_source.proofs.FrameLemmas.{frame_at}

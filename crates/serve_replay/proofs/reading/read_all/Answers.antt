@@ -1,6 +1,6 @@
 -- At the end the text is the whole, and a text that is too long is the front of a longer one.
 use Rattle.std.proofs.Common.{◌∙◌, Ok, ap, ◌+◌, ◌-◌, ◌<◌, ◌≤◌, length, rules}
-use Rattle.serve_replay.specs.Texts.{longest}
+use Rattle.serve_replay.specs.Verdicts.{longest}
 use Rattle.serve_replay.proofs.ReadLemmas.{whole_text, too_long, room_left}
 use Rattle.serve_replay.proofs.reading.read_all.Goals as goal
 

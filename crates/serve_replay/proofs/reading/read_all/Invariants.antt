@@ -1,7 +1,7 @@
 -- The text and what is left are the whole.
 use Rattle.std.proofs.Common.{◌≡◌, ◌+◌, ◌-◌, ◌≤◌, List, ℕ, Some, length}
 use Rattle.fv_io.specs.Source.{KeepsSource, IsSteady}
-use Rattle.serve_replay.specs.Texts.{longest, with_rest}
+use Rattle.serve_replay.specs.Verdicts.{longest, with_rest}
 use Rattle.serve_replay.proofs.reading.read_all.Given as goal
 
 abbrev pub invariant-loop-text : goal.invariant-loop-text

@@ -1,6 +1,6 @@
 -- The line is that of the kind.
 use Rattle.std.proofs.lemmas.List.{append-nil}
-use Rattle.y4m_stream.specs.FaultNames.{fault_name}
+use Rattle.y4m_stream.specs.Stream.{fault_name}
 use Rattle.serve_text.proofs.SayLemmas.{no_detail, of_frame}
 use Rattle.serve_text.proofs.say.say_y4m.Goals as goal
 

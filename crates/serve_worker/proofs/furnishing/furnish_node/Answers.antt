@@ -2,7 +2,7 @@
 use Rattle.std.proofs.Common.{◌∙◌, OnOk, sym, ap, subst, arith}
 use Rattle.clip_graph.specs.Nodes.{application_of}
 use Rattle.clip_graph.specs.Plan.{Application, application_at}
-use Rattle.clip_term.specs.Ops.{source_info}
+use Rattle.clip_term.specs.Terms.{source_info}
 use Rattle.serve_worker.specs.Furnishing.{node_entries, Adds}
 use Rattle.serve_worker.proofs.FurnishingLemmas.{each_adds, none_adds, opened_none}
 use Rattle.serve_worker.proofs.furnishing.furnish_node.Goals as goal

@@ -1,6 +1,6 @@
 -- Worker after worker.
 use Rattle.std.proofs.Common.{◌∙◌}
-use Rattle.clip_term.specs.ClipTerm.{act_of}
+use Rattle.clip_term.specs.Terms.{act_of}
 use Rattle.serve_worker.specs.Furnishing.{filter_instance}
 use Rattle.serve_worker.proofs.FurnishingLemmas.{own_new, given_sources, given_leases}
 use Rattle.serve_worker.proofs.furnishing.give_each.Goals as goal

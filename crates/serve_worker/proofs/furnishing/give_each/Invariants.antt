@@ -1,6 +1,6 @@
 -- So many workers have an instance.
 use Rattle.std.proofs.Common.{◌≡◌, ◌++◌}
-use Rattle.clip_term.specs.ClipTerm.{act_of}
+use Rattle.clip_term.specs.Terms.{act_of}
 use Rattle.serve_worker.specs.Furnishing.{filter_instance, own_entries}
 use Rattle.serve_worker.proofs.furnishing.give_each.Given as goal
 

@@ -3,8 +3,7 @@ use Rattle.std.proofs.Common.{◌∷◌, [], ap, sym}
 use Rattle.std.specs.Option.{option_map}
 use Rattle.inst_table.specs.declared.place.Slot.TheVariants.{Free}
 use Rattle.inst_table.specs.Places.{shared_place}
-use Rattle.clip_term.specs.ClipTerm.{act_of}
-use Rattle.clip_term.specs.Ops.{SourcePart}
+use Rattle.clip_term.specs.Terms.{act_of, SourcePart}
 use Rattle.serve_worker.proofs.FurnishingLemmas.{moved_kept, moved_leases, moved_adds, put_kept, put_leases, filter_adds}
 use Rattle.serve_worker.proofs.furnishing.share.Goals as goal
 

@@ -1,6 +1,6 @@
 -- Each group's maker takes the frames, and makes the node's picture.
 use Rattle.std.proofs.Common.{◌∙◌, sym, ap, length, arith}
-use Rattle.clip_term.specs.ClipTerm.{act_of, plain, time, space, joined, soft, fields, choice}
+use Rattle.clip_term.specs.Terms.{act_of, plain, time, space, joined, soft, fields, choice}
 use Rattle.clip_term.specs.Choice.{run_act}
 use Rattle.clip_graph.specs.Plan.{Application, application_at, infos_at}
 use Rattle.serve_worker.proofs.MakeLemmas.{can_make, makes, plain_legal, plain_made, time_made, space_accepted, space_legal, space_made, join_ready, join_made, soft_ready, soft_made, field_ready, field_made, choice_ready, choice_made}

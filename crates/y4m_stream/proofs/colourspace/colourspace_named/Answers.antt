@@ -1,6 +1,6 @@
 use Rattle.std.proofs.Common.{sym, subst}
 use Rattle.std.specs.Prelude.{Option, IfSome}
-use Rattle.y4m_stream.specs.Colourspace.{Colourspace}
+use Rattle.y4m_stream.specs.Head.{Colourspace}
 use Rattle.y4m_stream.proofs.ColourLemmas.{HasDepth, named_legal}
 use Rattle.y4m_stream.proofs.colourspace.colourspace_named.Goals as goal
 

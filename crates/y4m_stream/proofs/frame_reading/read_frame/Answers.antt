@@ -1,8 +1,7 @@
 -- The bytes of a frame that was cut from bytes are these bytes in range.
 use Rattle.std.proofs.Common.{◌≡◌, ap, ◌∙◌}
 use Rattle.std.proofs.lemmas.Result.{IfOk-weaker}
-use Rattle.fv_plane.specs.Picture.{Picture}
-use Rattle.fv_plane.specs.Bytes.{bytes_of, picture_of}
+use Rattle.fv_plane.specs.Picture.{Picture, bytes_of, picture_of}
 use Rattle.fv_plane.proofs.CallerLemmas.{bytes_of-picture_of}
 use Rattle.y4m_stream.proofs.frame_reading.read_frame.Goals as goal
 

@@ -4,7 +4,7 @@ use Rattle.std.proofs.lemmas.List.{append_assoc, take_all, take-append-drop}
 use Rattle.std.proofs.lemmas.List.Concat.{flat_map-append}
 use Rattle.fv_io.proofs.CallerLemmas.{gets_more}
 use Rattle.fv_plane.specs.Format.{plane_height}
-use Rattle.fv_plane.specs.Bytes.{bytes_of_row, bytes_of_rows}
+use Rattle.fv_plane.specs.Picture.{bytes_of_row, bytes_of_rows}
 use Rattle.y4m_stream.specs.Planes.{PutsAllBut}
 use Rattle.fv_plane.proofs.CallerLemmas.{length-plane}
 use Rattle.y4m_stream.proofs.PutLemmas.{text_more, on_err}

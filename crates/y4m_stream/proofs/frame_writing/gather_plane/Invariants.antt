@@ -1,5 +1,5 @@
 use Rattle.std.proofs.Common.{◌≡◌, ◌≤◌, ◌++◌, length, take, get_or, []}
-use Rattle.fv_plane.specs.Bytes.{bytes_of_rows}
+use Rattle.fv_plane.specs.Picture.{bytes_of_rows}
 use Rattle.y4m_stream.specs.Planes.{PutsAllBut}
 use Rattle.y4m_stream.proofs.frame_writing.gather_plane.Given as goal
 

@@ -1,7 +1,7 @@
 -- A prefix of the line, or the line and a prefix of the planes.
 use Rattle.std.proofs.lemmas.Result.{on_err_weaker}
 use Rattle.fv_io.proofs.CallerLemmas.{gets_more, gets_after}
-use Rattle.fv_plane.specs.Bytes.{bytes_of}
+use Rattle.fv_plane.specs.Picture.{bytes_of}
 use Rattle.y4m_stream.proofs.PutLemmas.{on_err}
 use Rattle.y4m_stream.proofs.frame_writing.write_after.Goals as goal
 

@@ -5,7 +5,7 @@ use Rattle.std.proofs.lemmas.List.{append_assoc, take_all, take-append-drop}
 use Rattle.std.proofs.lemmas.List.Concat.{flat_map-append}
 use Rattle.std.proofs.lemmas.Result.{on_err_weaker, on_ok_weaker}
 use Rattle.fv_io.proofs.CallerLemmas.{gets_more}
-use Rattle.fv_plane.specs.Bytes.{bytes_of, bytes_of_rows}
+use Rattle.fv_plane.specs.Picture.{bytes_of, bytes_of_rows}
 use Rattle.y4m_stream.specs.Planes.{PutsAllBut, bytes_of_plane}
 use Rattle.y4m_stream.proofs.PutLemmas.{text_more, row_inside, on_err}
 use Rattle.y4m_stream.proofs.WaitingLemmas.{more_waits, fewer_wait, put_rest, cut_rest}

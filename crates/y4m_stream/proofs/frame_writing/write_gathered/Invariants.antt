@@ -1,6 +1,6 @@
 use Rattle.std.proofs.Common.{◌≡◌, ◌≤◌, ◌++◌, length, take}
 use Rattle.std.specs.List.{flat_map}
-use Rattle.fv_plane.specs.Bytes.{bytes_of_rows}
+use Rattle.fv_plane.specs.Picture.{bytes_of_rows}
 use Rattle.y4m_stream.specs.Planes.{PutsAllBut}
 use Rattle.y4m_stream.proofs.frame_writing.write_gathered.Given as goal
 

@@ -1,6 +1,6 @@
 -- The rows before were put, and a prefix of this one.
 use Rattle.std.proofs.Common.{◌≡◌, ◌<◌, ◌∙◌, ℕ, List, [], length, get_or, sym, ap, arith}
-use Rattle.fv_plane.specs.Bytes.{bytes_of_row}
+use Rattle.fv_plane.specs.Picture.{bytes_of_row}
 use Rattle.fv_plane.specs.Format.{plane_height}
 use Rattle.fv_plane.proofs.CallerLemmas.{length-plane}
 use Rattle.y4m_stream.proofs.PutLemmas.{put_cut, one_more, on_err}

@@ -1,6 +1,6 @@
 use Rattle.std.proofs.Common.{◌≡◌, ◌≤◌, take, get_or, []}
 use Rattle.fv_io.specs.Sink.{Puts}
-use Rattle.fv_plane.specs.Bytes.{bytes_of_rows}
+use Rattle.fv_plane.specs.Picture.{bytes_of_rows}
 use Rattle.y4m_stream.proofs.frame_writing.write_long_rows.Given as goal
 
 -- the rows above were put

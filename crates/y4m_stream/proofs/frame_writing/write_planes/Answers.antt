@@ -1,6 +1,6 @@
 -- The planes before were put, and a prefix of this one.
 use Rattle.std.proofs.Common.{◌<◌, ℕ, List, [], length, rules}
-use Rattle.fv_plane.specs.Bytes.{bytes_of_rows}
+use Rattle.fv_plane.specs.Picture.{bytes_of_rows}
 use Rattle.y4m_stream.proofs.PutLemmas.{put_cut, one_more, on_err}
 use Rattle.y4m_stream.proofs.frame_writing.write_planes.Goals as goal
 

@@ -1,7 +1,7 @@
 use Rattle.std.proofs.Common.{◌≡◌, ◌≤◌, take}
 use Rattle.std.specs.List.{flat_map}
 use Rattle.fv_io.specs.Sink.{Puts}
-use Rattle.fv_plane.specs.Bytes.{bytes_of_rows}
+use Rattle.fv_plane.specs.Picture.{bytes_of_rows}
 use Rattle.y4m_stream.proofs.frame_writing.write_planes.Given as goal
 
 -- the planes before were put

@@ -1,6 +1,6 @@
 -- The line that was found is the head's, and its parameters say the info.
 use Rattle.std.proofs.Common.{◌+◌, ◌∙◌, ap, sym, arith}
-use Rattle.y4m_stream.specs.Parameters.{info_of, parameter_fault}
+use Rattle.y4m_stream.specs.Head.{info_of, parameter_fault}
 use Rattle.y4m_stream.proofs.HeadLemmas.{uncounted}
 use Rattle.y4m_stream.proofs.head_reading.read_head.Goals as goal
 

@@ -3,9 +3,8 @@ use Rattle.std.proofs.Common.{◌≡◌, ◌+◌, ◌≤◌, ◌++◌, ℕ, List
 use Rattle.std.specs.List.{position_or_len}
 use Rattle.std.proofs.lemmas.Result.{err_from_is_err_and}
 use Rattle.fv_plane.specs.Format.{frame_bytes}
-use Rattle.y4m_stream.specs.Index.{HasIndexFault}
+use Rattle.y4m_stream.specs.Stream.{HasIndexFault, is_newline, head_fault, head_info}
 use Rattle.y4m_stream.specs.declared.fault.IndexFault.TheVariants.{Y4m}
-use Rattle.y4m_stream.specs.Stream.{is_newline, head_fault, head_info}
 use Rattle.y4m_stream.proofs.IndexLemmas.{is_index, left_is, indexes, explains}
 use Rattle.fv_plane.proofs.CallerLemmas.{some_bytes}
 use Rattle.y4m_stream.proofs.WindowLemmas.{same_fault}

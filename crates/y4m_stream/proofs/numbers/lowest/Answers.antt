@@ -1,5 +1,5 @@
 use Rattle.std.proofs.Common.{Some, arith, ap, sym, ◌∙◌}
-use Rattle.fv_plane.specs.Rate.{Rate}
+use Rattle.fv_plane.specs.Info.{Rate}
 use Rattle.y4m_stream.proofs.GcdLemmas.{reduced, lowest_is, default_rate}
 use Rattle.y4m_stream.proofs.numbers.lowest.Goals as goal
 

@@ -2,7 +2,7 @@
 use Rattle.std.proofs.Common.{sym, ◌∙◌, ap, rules}
 use Rattle.std.proofs.lemmas.Bool.{both_ways}
 use Rattle.fv_plane.specs.declared.format.Field.{Field}
-use Rattle.y4m_stream.specs.Parameters.{rate_of, par_of, colour_of, field_of}
+use Rattle.y4m_stream.specs.Head.{rate_of, par_of, colour_of, field_of}
 use Rattle.y4m_stream.proofs.SaysLemmas.{no_width, no_height, bad_width, bad_height, bad_rate, bad_par, bad_colour, info_is, bad_sides, too_large, no_fault, large_by}
 use Rattle.y4m_stream.proofs.parameters.read_parameters.Goals as goal
 

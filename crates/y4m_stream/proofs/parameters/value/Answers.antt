@@ -2,7 +2,7 @@ use Rattle.std.proofs.Common.{◌∙◌, ap, rules, tests}
 use Rattle.std.proofs.lemmas.Iterator.Consumers.{YieldsList-end}
 use Rattle.std.proofs.lemmas.Iterator.Splits.{YieldsList-from_slice_split}
 use Rattle.std.specs.Option.{option_copied}
-use Rattle.y4m_stream.specs.Parameters.{value}
+use Rattle.y4m_stream.specs.Head.{value}
 use Rattle.y4m_stream.specs.Stream.{is_space}
 use Rattle.y4m_stream.proofs.ParameterLemmas.{one_more}
 use Rattle.y4m_stream.proofs.parameters.value.Goals as goal

@@ -1,6 +1,6 @@
 use Rattle.std.proofs.Common.{◌≡◌, map}
 use Rattle.std.specs.Option.{option_copied}
-use Rattle.y4m_stream.specs.Parameters.{value}
+use Rattle.y4m_stream.specs.Head.{value}
 use Rattle.y4m_stream.proofs.parameters.value.Given as goal
 
 -- the value among the parameters so far

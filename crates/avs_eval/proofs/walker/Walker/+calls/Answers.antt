@@ -1,7 +1,7 @@
 -- ApplyRange, and what it calls.
 use Rattle.std.proofs.Common.{rules, ◌≡◌, ◌+◌, ◌≤◌, length, Some, arith}
 use Rattle.avs_values.specs.Views.{bound_view}
-use Rattle.avs_meaning.specs.Calls.{builtin, takes, fit_or_last}
+use Rattle.avs_meaning.specs.Expressions.{builtin, takes, fit_or_last}
 use Rattle.avs_meaning.specs.Faults.{script}
 use Rattle.avs_meaning.specs.declared.builtin.Builtin.TheVariants as b
 use Rattle.avs_state.specs.States.{state_of}

@@ -1,7 +1,7 @@
 -- The clip that was opened is listed with its source.
 use Rattle.std.proofs.Common.{◌≡◌, ◌∙◌, ◌+◌, length, Ok, ap, sym, arith, rules}
 use Rattle.std.specs.FinMap.{get}
-use Rattle.avs_meaning.specs.Outside.{clip_in}
+use Rattle.avs_meaning.specs.State.{clip_in}
 use Rattle.avs_files.proofs.OpenedLemmas.{opened_one, opened_more, length_more}
 use Rattle.avs_files.proofs.host.FileHostHost.clip.Goals as goal
 

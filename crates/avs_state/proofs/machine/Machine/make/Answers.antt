@@ -1,7 +1,6 @@
 use Rattle.std.proofs.Common.{rules, ◌≡◌, ◌∙◌, sym, ap, true, Err}
 use Rattle.clip_graph.specs.Plan.{infos_among}
-use Rattle.clip_term.specs.ClipTerm.{act_of}
-use Rattle.clip_term.specs.Terms.{check}
+use Rattle.clip_term.specs.Terms.{act_of, check}
 use Rattle.avs_meaning.specs.Filters as f
 use Rattle.avs_state.specs.States.{state_of}
 use Rattle.avs_state.proofs.RefusedLemmas.{refused}

@@ -1,7 +1,7 @@
 -- What is left gives what the whole gives, and the state has kept what it keeps.
 use Rattle.std.proofs.Common.{◌≡◌, ◌-◌, map, drop, IsTrue}
 use Rattle.avs_tree.specs.View.{expr_view, arm_view, statement_view, block_of, block_view, arms_of}
-use Rattle.avs_meaning.specs.Loops as m
+use Rattle.avs_meaning.specs.Statements as m
 use Rattle.avs_state.specs.States.{state_of}
 use Rattle.avs_meaning.specs.Statements as s
 use Rattle.avs_statements.specs.Turns as r

@@ -1,7 +1,7 @@
 use Rattle.std.proofs.Common.{◌≡◌, length, map}
 use denote.Enum.Bare.{sameb}
 use Rattle.avs_tree.specs.contracts.words.TypeWord.{the_type}
-use Rattle.avs_tree.specs.Words.{word_in, word_of_type}
+use Rattle.avs_tree.specs.Lexeme.{word_in, word_of_type}
 use Rattle.avs_tree.proofs.words.TypeWord.word.Given as goal
 
 abbrev pub invariant-loop-table : goal.invariant-loop-table

@@ -5,7 +5,7 @@ use Rattle.clip_graph.specs.declared.node.Node.{Node}
 use Rattle.clip_graph.specs.declared.graph.TheConstants.Graph.{MAX_NODES}
 use Rattle.clip_graph.specs.Nodes.{application_of, plan_of}
 use Rattle.std.specs.List.{All}
-use Rattle.clip_term.specs.ClipTerm.{act_of}
+use Rattle.clip_term.specs.Terms.{act_of}
 use Rattle.clip_graph.specs.Plan.{IsApplication, IsCounted, sources_in}
 use Rattle.clip_graph.proofs.GrowingLemmas.{IsPlan-nodes}
 use Rattle.clip_graph.proofs.graph.Graph.add.Goals as goal

@@ -1,7 +1,7 @@
 use Rattle.std.proofs.Common.{rules, ◌≡◌, ◌∙◌, ◌*◌, ℕ, List, ap, length, sym, arith}
 use Rattle.fv_plane.specs.declared.format.Shape.{Shape}
 use Rattle.fv_plane.specs.Format.{sample_bytes}
-use Rattle.fv_plane.specs.Bytes.{bytes_of_row}
+use Rattle.fv_plane.specs.Picture.{bytes_of_row}
 use Rattle.fv_plane.proofs.BytesLemmas.{length-bytes_of_row}
 use Rattle.flt_merge.specs.Rows.{rows_beside}
 use Rattle.flt_merge.proofs.StackLemmas.{beside_by, beside_listed, bytes_beside_are, heights_beside, planes_beside, row_of_all}

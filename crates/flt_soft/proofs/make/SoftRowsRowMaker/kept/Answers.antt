@@ -1,7 +1,6 @@
 use Rattle.std.proofs.Common.{rules, ◌≡◌, true, map, subst}
-use Rattle.fv_plane.specs.Look.{Look, look_in}
+use Rattle.fv_plane.specs.Picture.{Look, look_in, Picture}
 use Rattle.fv_plane.specs.Made.{IsPlaneOf}
-use Rattle.fv_plane.specs.Picture.{Picture}
 use Rattle.clip_term.specs.Soft.{soft_at}
 use Rattle.flt_soft.specs.Pictures.{keeps_plane, shape_of}
 use Rattle.flt_soft.proofs.PictureLemmas.{kept_plane}

@@ -1,8 +1,7 @@
 use Rattle.std.proofs.Common.{◌≡◌, ◌<◌, ◌∙◌, List, length, map, ap, sym, subst}
 use Rattle.fv_plane.specs.declared.format.Shape.{Shape}
-use Rattle.fv_plane.specs.Look.{look_in}
+use Rattle.fv_plane.specs.Picture.{look_in, Picture}
 use Rattle.fv_plane.specs.Made.{FitsLook}
-use Rattle.fv_plane.specs.Picture.{Picture}
 use Rattle.clip_term.specs.Soft.{soft_at}
 use Rattle.flt_soft.specs.Pictures.{shape_of}
 use Rattle.flt_soft.proofs.PictureLemmas.{first_shape, soft_bounded, some_pictures}

@@ -2,7 +2,7 @@ use Rattle.std.proofs.Common.{rules, ◌≡◌, ◌∙◌, ◌==◌, ◌*◌, sy
 use Rattle.std.proofs.lemmas.List.{get_or-replicate}
 use Rattle.fv_plane.specs.declared.format.Shape.{Shape}
 use Rattle.fv_plane.specs.Format.{scale}
-use Rattle.fv_plane.specs.Look.{look_in}
+use Rattle.fv_plane.specs.Picture.{look_in}
 use Rattle.clip_term.specs.declared.op.SpaceOp.TheVariants.{Greyscale}
 use Rattle.flt_space.proofs.KeptLemmas.{second_of}
 use Rattle.flt_space.proofs.RowLemmas.{made_row}

@@ -1,6 +1,6 @@
 use Rattle.std.proofs.Common.{rules, ◌≡◌, ◌-◌, ◌∙◌, true, false, ap, sym, arith}
 use Rattle.fv_plane.specs.Format.{plane_width, plane_height}
-use Rattle.fv_plane.specs.Look.{across, down}
+use Rattle.fv_plane.specs.Picture.{across, down}
 use Rattle.fv_plane.proofs.CallerLemmas.{some_rows}
 use Rattle.clip_term.specs.Refusals.{nat_of}
 use Rattle.clip_term.specs.Space.{is_within}

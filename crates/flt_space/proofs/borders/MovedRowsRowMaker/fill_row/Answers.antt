@@ -1,6 +1,6 @@
 use Rattle.std.proofs.Common.{rules, ◌≡◌, ◌∙◌, ◌*◌, ◌==◌, false, length, ap, sym, subst}
 use Rattle.fv_plane.specs.declared.format.Shape.{Shape}
-use Rattle.fv_plane.specs.Bytes.{wide_bytes}
+use Rattle.fv_plane.specs.Picture.{wide_bytes}
 use Rattle.fv_plane.specs.Format.{plane_width}
 use Rattle.fv_plane.proofs.CallerLemmas.{bytes_of_narrow, bytes_of_wide, two_bytes}
 use Rattle.clip_term.specs.Refusals.{paint}

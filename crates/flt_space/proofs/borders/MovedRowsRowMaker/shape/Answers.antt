@@ -1,6 +1,6 @@
 use Rattle.std.proofs.Common.{sym, subst}
 use Rattle.fv_plane.specs.declared.format.Shape.{Shape}
-use Rattle.fv_plane.specs.Look.{look_in}
+use Rattle.fv_plane.specs.Picture.{look_in}
 use Rattle.fv_plane.specs.Made.{FitsLook}
 use Rattle.clip_term.specs.Space.{space_at}
 use Rattle.flt_space.proofs.RowLemmas.{looks_fit}

@@ -1,8 +1,7 @@
 use Rattle.std.proofs.Common.{◌<◌, ◌∙◌, ap, sym, arith}
 use Rattle.fv_plane.specs.declared.format.Shape.{Shape}
-use Rattle.fv_plane.specs.Bytes.{bytes_of_row}
+use Rattle.fv_plane.specs.Picture.{bytes_of_row, look_in, row_from}
 use Rattle.fv_plane.specs.Format.{planes, plane_width, plane_height}
-use Rattle.fv_plane.specs.Look.{look_in, row_from}
 use Rattle.clip_term.specs.declared.op.SpaceOp.TheVariants.{ConvertBits}
 use Rattle.std.specs.Prelude.{pos}
 use Rattle.clip_term.specs.Space.{space_at}

@@ -1,5 +1,5 @@
 use Rattle.clip_term.proofs.BoundedLemmas.{converted_few}
-use Rattle.fv_plane.specs.Look.{look_in}
+use Rattle.fv_plane.specs.Picture.{look_in}
 use Rattle.flt_space.proofs.depth.ConvertedRowsRowMaker.shape.Goals as goal
 
 pub returns-clause-fits : goal.returns-clause-fits

@@ -4,7 +4,7 @@ use Rattle.fv_plane.specs.declared.format.Shape.{Shape}
 use Rattle.fv_plane.specs.Made.{FitsLook}
 use Rattle.std.proofs.Common.{sym}
 use Rattle.clip_term.specs.Space.{space_at}
-use Rattle.fv_plane.specs.Look.{look_in}
+use Rattle.fv_plane.specs.Picture.{look_in}
 use Rattle.flt_space.proofs.rows.FilteredRowsRowMaker.shape.Goals as goal
 
 pub returns-clause-fits : goal.returns-clause-fits

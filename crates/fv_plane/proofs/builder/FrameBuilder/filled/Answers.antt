@@ -1,6 +1,5 @@
 use Rattle.std.proofs.Common.{arith, sym, subst}
-use Rattle.fv_plane.specs.Picture.{Picture, IsPicture}
-use Rattle.fv_plane.specs.Bytes.{frame_of, chroma_list}
+use Rattle.fv_plane.specs.Picture.{Picture, IsPicture, frame_of, chroma_list}
 use Rattle.fv_plane.proofs.PictureLemmas.{IsPicture-blank}
 use Rattle.fv_plane.proofs.FrameLemmas.{frame_is}
 use Rattle.fv_plane.proofs.BytesLemmas.{whole_first}

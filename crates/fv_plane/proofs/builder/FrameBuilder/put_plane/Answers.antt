@@ -1,5 +1,5 @@
 use Rattle.std.proofs.Common.{◌≡◌, [], ◌∷◌, get_or, set, map, ◌∙◌, ap, sym, subst}
-use Rattle.fv_plane.specs.Bytes.{decoded_rows, chroma_list, AreWhole, IsStored}
+use Rattle.fv_plane.specs.Picture.{decoded_rows, chroma_list, AreWhole, IsStored}
 use Rattle.fv_plane.proofs.FrameLemmas.{shared_like, shared_whole, frame_share, IsPicture-share, IsStored-new}
 use Rattle.fv_plane.proofs.builder.FrameBuilder.put_plane.Goals as goal
 use Rattle.fv_plane.proofs.builder.FrameBuilder.put_plane.Goals.{In_ok-shared, After-put_plane_in}

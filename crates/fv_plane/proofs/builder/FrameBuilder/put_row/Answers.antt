@@ -1,6 +1,5 @@
 use Rattle.std.proofs.Common.{◌∙◌, subst}
-use Rattle.fv_plane.specs.Picture.{Picture, IsPicture}
-use Rattle.fv_plane.specs.Bytes.{IsStored}
+use Rattle.fv_plane.specs.Picture.{Picture, IsPicture, IsStored}
 use Rattle.fv_plane.proofs.FrameLemmas.{one_row}
 use Rattle.fv_plane.proofs.builder.FrameBuilder.put_row.Goals as goal
 

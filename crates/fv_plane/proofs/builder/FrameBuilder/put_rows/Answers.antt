@@ -1,6 +1,5 @@
 use Rattle.std.proofs.Common.{◌≡◌, ◌∷◌, map, ◌∙◌, ap, arith}
-use Rattle.fv_plane.specs.Picture.{with_rows}
-use Rattle.fv_plane.specs.Bytes.{decoded_rows, chroma_list, rows_of_bytes, IsStored}
+use Rattle.fv_plane.specs.Picture.{with_rows, decoded_rows, chroma_list, rows_of_bytes, IsStored}
 use Rattle.fv_plane.proofs.FrameLemmas.{whole_rows, whole_put, frame_put, IsPicture-put, IsStored-new}
 use Rattle.fv_plane.proofs.builder.FrameBuilder.put_rows.Goals as goal
 use Rattle.fv_plane.proofs.builder.FrameBuilder.put_rows.Goals.{After-put_rows_in}

@@ -1,8 +1,7 @@
 use Rattle.std.proofs.Common.{sym, ap, subst, get_or, []}
 use Rattle.fv_plane.specs.declared.format.Shape.{Shape}
 use Rattle.fv_plane.specs.Format.{half_shape}
-use Rattle.fv_plane.specs.Picture.{Picture, IsPicture}
-use Rattle.fv_plane.specs.Bytes.{chroma_list, IsStored}
+use Rattle.fv_plane.specs.Picture.{Picture, IsPicture, chroma_list, IsStored}
 use Rattle.fv_plane.proofs.BytesLemmas.{whole_first, whole-same}
 use Rattle.fv_plane.proofs.FieldLemmas.{IsPicture-field_in, frame_of_field}
 use Rattle.fv_plane.proofs.frame.Frame.field.Goals as goal

@@ -1,8 +1,6 @@
 use Rattle.std.proofs.Common.{rules, ◌≡◌, ◌∙◌, sym, ap, subst, map}
 use Rattle.std.specs.Prelude.{reverse}
-use Rattle.fv_plane.specs.Picture.{Picture, IsPicture}
-use Rattle.fv_plane.specs.Bytes.{chroma_list, frame_of, IsStored}
-use Rattle.fv_plane.specs.Look.{upside_down}
+use Rattle.fv_plane.specs.Picture.{Picture, IsPicture, chroma_list, frame_of, IsStored, upside_down}
 use Rattle.fv_plane.proofs.FlipLemmas.{frame_flipped, stored_flipped, IsPicture-upside_down}
 use Rattle.fv_plane.proofs.frame.Frame.flipped.Goals as goal
 

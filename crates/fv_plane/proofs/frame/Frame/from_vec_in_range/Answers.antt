@@ -1,8 +1,7 @@
 use Rattle.std.proofs.Common.{◌≡◌, ◌∙◌, List, ℕ, length, take, drop, arith, sym, subst, rules}
 use Rattle.std.proofs.lemmas.List.{length-drop, length-take-le}
 use Rattle.fv_plane.specs.Format.{frame_bytes}
-use Rattle.fv_plane.specs.Picture.{Picture, IsPicture}
-use Rattle.fv_plane.specs.Bytes.{picture_in_range, frame_of, chroma_list}
+use Rattle.fv_plane.specs.Picture.{Picture, IsPicture, picture_in_range, frame_of, chroma_list}
 use Rattle.fv_rows.proofs.RowLemmas.{bounded_all}
 use Rattle.fv_plane.proofs.CutLemmas.{IsPicture-cut, cut-take}
 use Rattle.fv_plane.proofs.BytesLemmas.{whole_first}

@@ -1,6 +1,5 @@
 use Rattle.std.proofs.Common.{List, ℕ, Option, [], get_or, ap, subst}
-use Rattle.fv_plane.specs.Picture.{Picture}
-use Rattle.fv_plane.specs.Bytes.{AreWhole, IsStored, plane_list}
+use Rattle.fv_plane.specs.Picture.{Picture, AreWhole, IsStored, plane_list}
 use Rattle.fv_plane.proofs.BytesLemmas.{whole-same}
 use Rattle.fv_plane.proofs.frame.Frame.plane.Goals as goal
 

@@ -3,8 +3,7 @@ use Rattle.std.proofs.lemmas.Nat.{mul-le}
 use Rattle.std.proofs.lemmas.Result.{IfOk-weaker}
 use Rattle.fv_plane.specs.Format.{row_bytes, plane_width, plane_height, sample_bytes, window_shape}
 use Rattle.fv_rows.specs.Rows.{IsPlane, rows_part, width_of}
-use Rattle.fv_plane.specs.Bytes.{decoded_rows, AreWhole}
-use Rattle.fv_plane.specs.Look.{across, down, picture_in}
+use Rattle.fv_plane.specs.Picture.{decoded_rows, AreWhole, across, down, picture_in}
 use Rattle.fv_plane.proofs.CallerLemmas.{some_rows}
 use Rattle.fv_plane.proofs.FrameLemmas.{stored_plane}
 use Rattle.fv_plane.proofs.WindowLemmas.{inside_across, inside_down, part-shown, part_listed, whole-part_of_rows}

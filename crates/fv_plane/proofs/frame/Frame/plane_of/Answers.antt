@@ -2,9 +2,7 @@ use Rattle.std.proofs.Common.{rules, ◌≡◌, ℕ, List, [], None, refl, sym, 
 use Rattle.fv_plane.specs.declared.format.PixelType.TheVariants.{Y8}
 use Rattle.fv_plane.specs.declared.format.Shape.{Shape}
 use Rattle.fv_plane.specs.Format.{plane_width, plane_height, shape_of_plane}
-use Rattle.fv_plane.specs.Picture.{Picture, IsPicture}
-use Rattle.fv_plane.specs.Bytes.{decoded_rows, frame_of, AreWhole}
-use Rattle.fv_plane.specs.Look.{plane_alone}
+use Rattle.fv_plane.specs.Picture.{Picture, IsPicture, decoded_rows, frame_of, AreWhole, plane_alone}
 use Rattle.fv_plane.proofs.BytesLemmas.{decoded-same, whole_first, whole-same, whole_none}
 use Rattle.fv_plane.proofs.WindowLemmas.{frame_listed, no_chroma, IsPicture-plane_alone, alone_listed}
 use Rattle.fv_plane.proofs.frame.Frame.plane_of.Goals as goal

@@ -2,8 +2,7 @@ use Rattle.std.proofs.Common.{◌≡◌, ◌%◌, ◌∙◌, ap, arith, get_or, 
 use Rattle.std.proofs.lemmas.Result.{IfOk-weaker}
 use Rattle.fv_plane.specs.Format.{half_shape, row_bytes, plane_height}
 use Rattle.fv_rows.specs.Rows.{IsPlane, every_second}
-use Rattle.fv_plane.specs.Bytes.{decoded_rows, AreWhole}
-use Rattle.fv_plane.specs.Look.{field_in}
+use Rattle.fv_plane.specs.Picture.{decoded_rows, AreWhole, field_in}
 use Rattle.fv_plane.proofs.CallerLemmas.{some_rows}
 use Rattle.fv_plane.proofs.FrameLemmas.{stored_plane}
 use Rattle.fv_plane.proofs.FieldLemmas.{even_height, second_shown, whole-second}

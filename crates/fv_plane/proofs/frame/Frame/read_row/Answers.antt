@@ -1,7 +1,6 @@
 use Rattle.std.proofs.Common.{◌≡◌, ◌∙◌, ◌*◌, ℕ, List, length, ap, arith}
 use Rattle.fv_plane.specs.Format.{plane_width}
-use Rattle.fv_plane.specs.Picture.{row_of}
-use Rattle.fv_plane.specs.Bytes.{wide_samples}
+use Rattle.fv_plane.specs.Picture.{row_of, wide_samples}
 use Rattle.fv_plane.proofs.WideLemmas.{samples-bytes}
 use Rattle.fv_plane.proofs.CallerLemmas.{bytes_of_wide, is_wide}
 use Rattle.fv_plane.proofs.frame.Frame.read_row.Goals as goal

@@ -1,6 +1,5 @@
 use Rattle.std.proofs.Common.{◌≡◌, ◌∙◌, ◌+◌, ◌*◌, ◌/◌, ◌%◌, ◌==◌, ℕ, List, false, get_or, ap, sym, arith, ne_eqb}
-use Rattle.fv_plane.specs.Picture.{Picture, row_of}
-use Rattle.fv_plane.specs.Bytes.{wide_bytes}
+use Rattle.fv_plane.specs.Picture.{Picture, row_of, wide_bytes}
 use Rattle.fv_plane.proofs.WideLemmas.{wide_bytes-at}
 use Rattle.fv_plane.proofs.CallerLemmas.{bytes_of_wide, bytes_of_narrow}
 use Rattle.fv_plane.proofs.frame.Frame.sample.Goals as goal

@@ -1,10 +1,8 @@
 use Rattle.std.proofs.Common.{◌≡◌, sym, ap, ◌∙◌, subst, get_or, []}
 use Rattle.fv_plane.specs.declared.format.Shape.{Shape}
 use Rattle.fv_plane.specs.Format.{window_at, window_shape}
-use Rattle.fv_plane.specs.Picture.{Picture, IsPicture}
-use Rattle.fv_plane.specs.Bytes.{frame_of, chroma_list, IsStored}
+use Rattle.fv_plane.specs.Picture.{Picture, IsPicture, frame_of, chroma_list, IsStored, picture_in}
 use Rattle.fv_plane.proofs.BytesLemmas.{whole_first, whole-same}
-use Rattle.fv_plane.specs.Look.{picture_in}
 use Rattle.fv_plane.proofs.WindowLemmas.{frame_listed, IsPicture-picture_in}
 use Rattle.fv_plane.proofs.frame.Frame.window.Goals as goal
 

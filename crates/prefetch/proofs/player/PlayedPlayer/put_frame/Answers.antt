@@ -1,7 +1,7 @@
 use Rattle.std.proofs.Common.{◌≡◌, ◌∙◌, ℕ, List, sym, ap, subst}
 use Rattle.std.proofs.lemmas.Result.{on_ok_weaker, on_err_weaker}
 use Rattle.fv_io.specs.Sink.{Puts, PutsPrefix}
-use Rattle.fv_plane.specs.Bytes.{bytes_of}
+use Rattle.fv_plane.specs.Picture.{bytes_of}
 use Rattle.fv_session.specs.Answers.{frame_text}
 use Rattle.prefetch.specs.Windows.{given}
 use Rattle.serve_core.specs.CoreValue.{CoreValue}
