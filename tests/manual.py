@@ -40,8 +40,8 @@ TOOLS = ("ffmpeg", "ffprobe", "x264", "mpv", "mpeg2enc", "y4mscaler", "yuvfps", 
 SECONDS = 60
 # The crates' own lists of what a user can meet.
 BUILTINS = ("crates/avs_meaning/src/builtin.rt", "crates/clip_term/src/filter.rt", "crates/avs_values/src/plain_fn.rt")
-FAULTS = [f"crates/{it}.antt" for it in ("avs_meaning/specs/FaultNames", "clip_term/specs/FaultNames",
-                                        "y4m_stream/specs/FaultNames", "avs_lex/specs/Fault")]
+FAULTS = [f"crates/{it}.antt" for it in ("avs_meaning/specs/Faults", "clip_term/specs/Refusals",
+                                        "y4m_stream/specs/Stream", "avs_lex/specs/Tokens")]
 wrong = []
 skipped = set()
 incomplete = set()  # files of which a command was skipped that makes something
@@ -382,7 +382,7 @@ def names_in(paths):
     """The names that tables of the sources give: of functions in `=> \"Name\"`, of errors in `codes \"Name\"`."""
     made = set()
     for path in paths:
-        made |= set(re.findall(r'(?:=>|codes) "(\w+)"', read(path)))
+        made |= set(re.findall(r'(?:=>|_name .*codes) "(\w+)"', read(path)))
     return made
 
 

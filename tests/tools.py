@@ -162,6 +162,25 @@ def check_reading_list():
     same("the table of definitions in docs/proved.md: is it that of docs/reading_list.py", (done.returncode, done.stderr), (0, ""))
 
 
+def check_named_files():
+    """Each file of definitions that a text of the repository names is there, in the crate that it names or in its own."""
+    crates = os.path.join(ROOT, "crates")
+    there = {crate: set(os.listdir(at)) for crate in os.listdir(crates) if os.path.isdir(at := os.path.join(crates, crate, "specs"))}
+    anywhere = set().union(*there.values())
+    texts = [os.path.join(ROOT, "README.md")]
+    for top in ["docs", *(f"crates/{crate}" for crate in there)]:
+        for at, folders, names in os.walk(os.path.join(ROOT, top)):
+            folders[:] = [it for it in folders if it not in ("out", "proofs")]
+            texts += [os.path.join(at, it) for it in names if it.endswith((".md", ".rt", ".antt"))]
+    for path in texts:
+        with open(path, encoding="utf-8") as file:
+            text = file.read()
+        own = re.match(r"crates/(\w+)/", os.path.relpath(path, ROOT))
+        for crate, name in re.findall(r"(?:(\w+)/)?specs/(\w+\.antt)", text):
+            known = there.get(crate or (own[1] if own else ""), anywhere)
+            same(f"{os.path.relpath(path, ROOT)}: {name} of specs is there", name in known, True)
+
+
 def main():
     if "AVSSERVE" not in os.environ:
         subprocess.run([os.path.join(ROOT, "build")], check=True, stdout=subprocess.DEVNULL)
@@ -170,6 +189,7 @@ def main():
     check_syntax()
     check_install()
     check_reading_list()
+    check_named_files()
     for it in wrong:
         print(f"tools: {it}")
     if not wrong:

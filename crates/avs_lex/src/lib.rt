@@ -1,7 +1,7 @@
 //! The tokens of a script in the language of AviSynth+.
 //!
 //! `lex` answers exactly the tokens that the definition `Tokens` gives (`specs/Tokens.antt`), or its first fault, `LexFault`;
-//! `IsTokenList` (`specs/TokenList.antt`) is what the parser needs of them. `laws` says what holds of the definition: one
+//! `IsTokenList`, beside it, is what the parser needs of them. `laws` says what holds of the definition: one
 //! reading for each text, the longest tokens, what a `BadChar` and a nested comment are, and that what is written is read.
 #![tactic(auto)]
 

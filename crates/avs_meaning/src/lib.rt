@@ -2,8 +2,8 @@
 //!
 //! `specs/Meaning.antt` gives each script its clip, or the first fault. It goes over the tree of the script
 //! (`specs/Expressions.antt`, `specs/Statements.antt`) with a state (`specs/State.antt`). What the outside tells, texts as
-//! trees among it, is a parameter (`specs/Outside.antt`). `Builtin::named` finds the built-in
-//! functions of `specs/Table.antt`, and `specs/FilterRows.antt` has what each filter takes and does with it.
+//! trees among it, is a parameter. `Builtin::named` finds the built-in
+//! functions of `specs/Table.antt`, which also has what each filter takes and does with it.
 #![tactic(auto)]
 
 mod builtin;

@@ -1,10 +1,10 @@
 //! The trees of scripts in the language of AviSynth+, and the grammar that gives them.
 //!
 //! `symbol_of` and `content` answer exactly what the grammar sees of a token, its `Lexeme` (`specs/Lexeme.antt`); the words of
-//! the language are the tables of `specs/Words.antt`. `IsScript` (`specs/Script.antt`) says which tree the tokens of a script
+//! the language are tables beside it. `IsScript` (`specs/Grammar.antt`) says which tree the tokens of a script
 //! have, and `HasTree` that it is within the limit of nesting.
 //!
-//! The machine that reads a script one token a turn (`specs/Machine.antt`, `specs/ExprMachine.antt`) is the left quotient of
+//! The machine that reads a script one token a turn (`specs/Machine.antt`) is the left quotient of
 //! the grammar, and holds the tree of what was read. `Answers` (`specs/Place.antt`) says of its verdict, in the words of the
 //! grammar alone, what the place of a fault is; `laws` say that the verdict is right.
 #![tactic(auto)]

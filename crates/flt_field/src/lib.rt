@@ -1,7 +1,7 @@
 //! Filters on fields, which are the even and the odd rows of a frame.
 //!
 //! The maker's contract says that the frame it makes is the picture whose samples the definition of the filter lists
-//! (`clip_term/specs/Field.antt`). The one error is `AllocError`.
+//! (`clip_term/specs/Time.antt`). The one error is `AllocError`.
 #![tactic(auto)]
 
 mod input;

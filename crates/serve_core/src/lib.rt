@@ -4,7 +4,7 @@
 //! number of workers. The calls that close what another opened (`leave`, `abandon`, `deliver`, `fail`) take no memory.
 //!
 //! In a window the journal is a run of the machine of `serve_machine`, and leads to the core (`specs/Runs.antt`). So what
-//! holds of every run holds of each core, and over a told book of its frames too (`specs/Told.antt`).
+//! holds of every run holds of each core, and over a told book of its frames too (`specs/Runs.antt`).
 #![tactic(auto)]
 
 mod answers;

@@ -3,7 +3,7 @@
 //! `info_text` is exactly the text that `specs/InfoText.antt` gives. Without memory, `put_clip_line` puts its first line,
 //! and `put_report` exactly the text of `specs/Report.antt`, a line for each node. Each stop has an exit status and one
 //! line (`specs/Lines.antt`); a report or a journal that was cut short has the line of a failed write after it
-//! (`specs/Reports.antt`).
+//! (`specs/Report.antt`).
 #![tactic(auto)]
 
 mod counts;
