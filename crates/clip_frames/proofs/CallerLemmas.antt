@@ -9,8 +9,7 @@ use Rattle.fv_plane.specs.declared.key.Key.{Key}
 use Rattle.clip_term.specs.declared.op.Op.{Op}
 use Rattle.clip_term.specs.declared.op.Op.TheVariants as op
 use Rattle.clip_term.specs.Terms.{act_of}
-use Rattle.clip_graph.specs.Plan.{Application, is_source, IsPlan}
-use Rattle.clip_graph.specs.Unfolding.{IsKeyBelow, input_keys}
+use Rattle.clip_graph.specs.Plan.{Application, is_source, IsPlan, IsKeyBelow, input_keys}
 use Rattle.clip_graph.proofs.UnfoldingLemmas.{inputs_are_keys}
 
 -- FRAMES

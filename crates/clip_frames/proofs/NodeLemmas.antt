@@ -11,8 +11,7 @@ use Rattle.clip_term.specs.declared.op.Origin.{Origin}
 use Rattle.clip_term.specs.Refusals.{info_at}
 use Rattle.clip_term.specs.Terms.{Act, AreLawful, IsAsked, IsSound, asked, check}
 use Rattle.clip_term.proofs.AskedLemmas.{asks_in_range}
-use Rattle.clip_graph.specs.Plan.{Application, application_at, infos_among, infos_at, IsPlan}
-use Rattle.clip_graph.specs.Unfolding.{key_of}
+use Rattle.clip_graph.specs.Plan.{Application, application_at, infos_among, infos_at, IsPlan, key_of}
 use Rattle.clip_graph.proofs.UnfoldingLemmas.{lawful_is}
 use Rattle.clip_frames.specs.Asked.{IsShown}
 

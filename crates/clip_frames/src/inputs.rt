@@ -5,8 +5,7 @@ ghost use Rattle.clip_term.specs.Terms.{act_of, time, asked};
 ghost use Rattle.clip_term.specs.Refusals.{info_at};
 ghost use Rattle.clip_term.specs.Time.{from_input, source_number, spliced, field_asked};
 ghost use Rattle.clip_term.specs.Soft.{soft_asked};
-ghost use Rattle.clip_graph.specs.Plan.{infos_among};
-ghost use Rattle.clip_graph.specs.Unfolding.{IsKeyBelow, input_keys};
+ghost use Rattle.clip_graph.specs.Plan.{infos_among, IsKeyBelow, input_keys};
 ghost use Rattle.clip_frames.specs.Asked.{IsShown, key_among, key_in_range};
 
 use clip_graph::Graph;

@@ -9,8 +9,7 @@ use Rattle.clip_term.specs.Terms.{ClipTerm, applied, no_terms, and_term}
 use Rattle.clip_graph.specs.declared.node.Node.{Node}
 use Rattle.clip_graph.specs.declared.graph.TheConstants.Graph.{MAX_NODES}
 use Rattle.clip_graph.specs.Nodes.{application_of, plan_of}
-use Rattle.clip_graph.specs.Plan.{Application, application_at, no_application, infos_among, deepest, is_source, sources_in, IsApplication, IsPlan}
-use Rattle.clip_graph.specs.Unfolding.{terms_by, term_within, TermsStay}
+use Rattle.clip_graph.specs.Plan.{Application, application_at, no_application, infos_among, deepest, is_source, sources_in, IsApplication, IsPlan, terms_by, term_within, TermsStay}
 
 -- the places before this one
 abbrev pub Lower : ℕ → List ℕ → Type 0

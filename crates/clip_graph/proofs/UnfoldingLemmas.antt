@@ -12,8 +12,7 @@ use Rattle.clip_term.specs.Refusals.{info_at}
 use Rattle.clip_term.proofs.PictureLemmas.{makes_pictures}
 use Rattle.clip_term.proofs.SoundLemmas.{sound_lawful}
 use Rattle.clip_term.proofs.AskedLemmas.{asks_in_range}
-use Rattle.clip_graph.specs.Plan.{Application, application_at, infos_among, infos_at, IsPlan}
-use Rattle.clip_graph.specs.Unfolding.{terms_by, term_within, term_at, key_of, key_picture, PlacesAreTerms, IsKeyBelow, InputsAreKeys, Unfolds}
+use Rattle.clip_graph.specs.Plan.{Application, application_at, infos_among, infos_at, IsPlan, terms_by, term_within, term_at, key_of, key_picture, PlacesAreTerms, IsKeyBelow, InputsAreKeys, Unfolds}
 
 clips_same : (f g : ℕ → ClipTerm) (is : List ℕ) → ((j : ℕ) → j < length is → f (get_or is j 0) ≡ g (get_or is j 0)) → terms_by f is ≡ terms_by g is
 clips_same f g [] same = refl

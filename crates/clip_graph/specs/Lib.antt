@@ -1,4 +1,3 @@
-pub mod Plan
 pub mod Added
-pub mod Unfolding
+pub mod Plan
 pub mod Nodes

@@ -1,5 +1,5 @@
 // Laws of the definitions, each the contract of a function with an empty body.
-ghost use Rattle.clip_graph.specs.Unfolding.{InputsAreKeys, PlacesAreTerms, TermsStay, Unfolds};
+ghost use Rattle.clip_graph.specs.Plan.{InputsAreKeys, PlacesAreTerms, TermsStay, Unfolds};
 
 /// A node stands for a sound clip term, and its info is that of the term.
 pub fn places_are_terms()

@@ -12,8 +12,7 @@ use Rattle.clap.specs.Simple.{App, Shape, built, built_leaf, entered, inherited,
 use Rattle.clap.specs.Faults.{built_fault, default_fault, defaults_fault, entered_fault, settle_fault, fault_of, flags_fault, level_fault, turn_fault, walk_fault}
 use Rattle.clap.specs.declared.error.kind.ErrorKind.TheVariants.{UnknownArgument, InvalidSubcommand, MissingSubcommand}
 use Rattle.clap.proofs.FaultLemmas.{stopped_fault}
-use Rattle.command_line.specs.Words.{Text, Options, Given, Kind, operand, end_of_options, long, short, kind_of, takes_value, given_by}
-use Rattle.command_line.specs.Command.{cached_options, command_in, info_with, named, render_options, render_with, replay_with, self_test_with, session_with}
+use Rattle.command_line.specs.Command.{Text, Options, Given, Kind, operand, end_of_options, long, short, kind_of, takes_value, given_by, cached_options, command_in, info_with, named, render_options, render_with, replay_with, self_test_with, session_with}
 use Rattle.command_line.specs.Parser.{cached_app, command_of_rows, operand_app, parser_app, render_app, values_in}
 use Rattle.command_line.specs.declared.command.Command.{Command}
 use Rattle.command_line.proofs.LookLemmas.{Looks, looks, first_char}

@@ -4,7 +4,7 @@ use Rattle.std.specs.Str.{IsUtf8}
 use Rattle.std.specs.List.{All}
 use Rattle.clap.specs.Walk.{Row, Waiting, idle, option, positional, settled_rows}
 use Rattle.clap.specs.Simple.{Shape}
-use Rattle.command_line.specs.Words.{Text, Options, Given, Kind, operand, end_of_options, long, short, kind_of, takes_value, an_operand, given_after, option_given, word_given, value_given}
+use Rattle.command_line.specs.Command.{Text, Options, Given, Kind, operand, end_of_options, long, short, kind_of, takes_value, an_operand, given_after, option_given, word_given, value_given}
 use Rattle.command_line.specs.Parser.{rows_by, with_one}
 use Rattle.command_line.proofs.LookLemmas.{Looks, looks}
 use Rattle.command_line.proofs.WalkLemmas as w

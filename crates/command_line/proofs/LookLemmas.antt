@@ -5,7 +5,7 @@ use Rattle.std.specs.Str.{IsUtf8, chars, bytes_eq, encode_utf8_all}
 use Rattle.std.proofs.lemmas.Str.{chars-encodes}
 use Rattle.std.proofs.lemmas.Bool.Decides.{Decides-eqb}
 use Rattle.clap.specs.Lexer.{long_of, short_of}
-use Rattle.command_line.specs.Words.{Text, Kind, operand, end_of_options, long, short, kind_of, kind_after_dash, kind_after_dashes}
+use Rattle.command_line.specs.Command.{Text, Kind, operand, end_of_options, long, short, kind_of, kind_after_dash, kind_after_dashes}
 
 -- the word is `--`
 abbrev pub is_dashes : Text → Bool

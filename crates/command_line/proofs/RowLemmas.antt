@@ -9,7 +9,7 @@ use Rattle.clap.specs.Matches.{matched_of, raw_values}
 use Rattle.clap.specs.declared.parser.matches.Found.{Found}
 use Rattle.clap.proofs.WalkLemmas.{raw_values-rows}
 use Rattle.clap.specs.Walk.{Row, rows_of}
-use Rattle.command_line.specs.Words.{Text, Given, values_of}
+use Rattle.command_line.specs.Command.{Text, Given, values_of}
 use Rattle.command_line.specs.Parser.{texts_of, values_in, with_one, rows_by}
 
 -- one more name with a value comes last

@@ -11,7 +11,7 @@ use Rattle.clap.specs.Walk.{Held, Row, Rule, Waiting, idle, option, positional, 
 use Rattle.clap.specs.Simple.{Shape, filled, with_index}
 use Rattle.clap.specs.Faults.{check_fault, defaults_fault, flags_fault, settle_fault, turn_fault, walk_fault}
 use Rattle.clap.specs.declared.error.kind.ErrorKind.TheVariants.{UnknownArgument, TooManyValues, InvalidValue}
-use Rattle.command_line.specs.Words.{Text, Options, Given, operand, end_of_options, long, short, takes_value, an_operand, and_then}
+use Rattle.command_line.specs.Command.{Text, Options, Given, operand, end_of_options, long, short, takes_value, an_operand, and_then}
 use Rattle.command_line.specs.Parser.{operand_rule, valued_rule, flag_rule, rows_by, with_one}
 use Rattle.command_line.proofs.LookLemmas.{Looks, first_char}
 use Rattle.command_line.proofs.RowLemmas.{rows_snoc}

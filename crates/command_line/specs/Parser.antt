@@ -7,8 +7,7 @@ use Rattle.clap.specs.declared.builder.action.ArgAction.TheVariants.{Append}
 use Rattle.clap.specs.declared.builder.value_parser.Reading.TheVariants as reading
 use Rattle.clap.specs.declared.parser.matches.ValueSource.TheVariants.{CommandLine}
 use Rattle.command_line.specs.declared.command.Command.{Command}
-use Rattle.command_line.specs.Words.{Text, Given}
-use Rattle.command_line.specs.Command.{named}
+use Rattle.command_line.specs.Command.{Text, Given, named}
 
 -- ---- the declaration
 

@@ -5,8 +5,7 @@ ghost use Rattle.std.specs.Str.{IsUtf8};
 ghost use Rattle.clap.specs.Matches.{found_of};
 ghost use Rattle.clap.specs.Simple.{subcommand_rows_of};
 ghost use Rattle.clap.specs.Walk.{rows_of};
-ghost use Rattle.command_line.specs.Command.{command_in, options_with, render_with, info_with, self_test_with, cached_with, session_with, replay_with};
-ghost use Rattle.command_line.specs.Command.{flag_among, tells_by, only, both};
+ghost use Rattle.command_line.specs.Command.{command_in, options_with, render_with, info_with, self_test_with, cached_with, session_with, replay_with, flag_among, tells_by, only, both};
 ghost use Rattle.command_line.specs.Parser.{texts_of, values_in, command_of_rows};
 
 use crate::command::{Command, RenderOptions, Tells};

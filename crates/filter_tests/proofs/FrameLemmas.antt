@@ -6,8 +6,7 @@ use Rattle.std.proofs.lemmas.List.{map-append, map_more, take_all}
 use Rattle.fv_plane.specs.declared.format.Shape.{Shape}
 use Rattle.fv_plane.specs.declared.key.Key.{Key}
 use Rattle.fv_plane.specs.Picture.{Picture}
-use Rattle.clip_graph.specs.Plan.{Application, application_at}
-use Rattle.clip_graph.specs.Unfolding.{AreOfKeys}
+use Rattle.clip_graph.specs.Plan.{Application, application_at, AreOfKeys}
 
 -- one frame more
 pub of_keys_more : (plan : List Application) (keys : List Key) (i : ℕ) (key : Key) (old new : List Picture) (frame : Picture) → Some key ≡ slice_get keys i → new ≡ old ++ frame ∷ []

@@ -2,8 +2,7 @@
 ghost use Rattle.std.specs.Prelude.{◌≡◌, length, IfOk};
 ghost use Rattle.fv_plane.specs.Format.{IsLegal};
 ghost use Rattle.fv_plane.specs.Info.{IsLawful};
-ghost use Rattle.clip_graph.specs.Plan.{application_at};
-ghost use Rattle.clip_graph.specs.Unfolding.{IsKeyBelow};
+ghost use Rattle.clip_graph.specs.Plan.{application_at, IsKeyBelow};
 ghost use Rattle.clip_term.specs.Terms.{term_of, IsSoundTerm};
 ghost use Rattle.clip_reference.specs.Sources.{HasSources};
 

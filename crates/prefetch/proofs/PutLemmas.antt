@@ -12,8 +12,7 @@ use Rattle.fv_io.specs.Told.{with_piece}
 use Rattle.fv_io.proofs.CallerLemmas.{with_piece_twice, with_no_piece, gets_more, gets_after}
 use Rattle.fv_plane.specs.Picture.{bytes_of, Picture, IsPicture}
 use Rattle.y4m_stream.specs.Stream.{frame_text, frames_text}
-use Rattle.clip_graph.specs.Plan.{Application}
-use Rattle.clip_graph.specs.Unfolding.{key_picture}
+use Rattle.clip_graph.specs.Plan.{Application, key_picture}
 use Rattle.serve_machine.specs.Events.{frame_key}
 use Rattle.prefetch.specs.Windows.{PutsFrames, PutsPictures, given, pictures_text, pictures_from}
 

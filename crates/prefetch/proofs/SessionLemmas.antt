@@ -6,8 +6,7 @@ use Rattle.std.specs.Map.{keys_of}
 use Rattle.fv_io.specs.declared.source.Source as of_source
 use Rattle.fv_plane.specs.Picture.{bytes_of, Picture}
 use Rattle.fv_plane.specs.declared.key.Key.{Key}
-use Rattle.clip_graph.specs.Plan.{Application}
-use Rattle.clip_graph.specs.Unfolding.{key_picture}
+use Rattle.clip_graph.specs.Plan.{Application, key_picture}
 use Rattle.serve_machine.specs.Events.{frame_key, WindowEvents}
 use Rattle.serve_core.specs.declared.answers.Finished.{Finished}
 use Rattle.serve_core.specs.CoreValue.{CoreValue}

@@ -14,8 +14,7 @@ use Rattle.fv_plane.specs.declared.format.Info.{Info}
 use Rattle.y4m_stream.specs.Head.{head}
 use Rattle.y4m_stream.specs.Stream.{frames_text, stream}
 use Rattle.clip_term.specs.Terms.{Act, source}
-use Rattle.clip_graph.specs.Plan.{Application, application_at, is_source}
-use Rattle.clip_graph.specs.Unfolding.{key_picture}
+use Rattle.clip_graph.specs.Plan.{Application, application_at, is_source, key_picture}
 use Rattle.inst_table.specs.declared.place.Place.{Place}
 use Rattle.inst_table.specs.declared.place.Slot.{Slot}
 use Rattle.inst_table.specs.Places.{shared_place}

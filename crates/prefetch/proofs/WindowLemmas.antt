@@ -4,8 +4,7 @@ use Rattle.std.specs.Prelude.{All}
 use Rattle.std.proofs.lemmas.List.Elements.{All-nil, All-cons}
 use Rattle.fv_plane.specs.declared.format.Shape.{Shape}
 use Rattle.fv_plane.specs.Picture.{Picture}
-use Rattle.clip_graph.specs.Plan.{Application, IsPlan}
-use Rattle.clip_graph.specs.Unfolding.{key_picture}
+use Rattle.clip_graph.specs.Plan.{Application, IsPlan, key_picture}
 use Rattle.inst_table.specs.declared.held.Held.{Ghosts as HeldGhosts}
 use Rattle.serve_machine.specs.declared.event.WindowStop.{WindowStop}
 use Rattle.serve_machine.specs.Events.{frame_key}

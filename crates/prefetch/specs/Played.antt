@@ -3,8 +3,7 @@ use Rattle.std.specs.Prelude.{◌≡◌, ℕ, ◌<◌, List, [], ◌∷◌, ◌+
 use Rattle.std.specs.Map.{keys_of}
 use Rattle.fv_io.specs.declared.source.Source as of_source
 use Rattle.fv_plane.specs.Picture.{bytes_of, Picture}
-use Rattle.clip_graph.specs.Plan.{Application, application_at}
-use Rattle.clip_graph.specs.Unfolding.{key_picture}
+use Rattle.clip_graph.specs.Plan.{Application, application_at, key_picture}
 use Rattle.serve_machine.specs.declared.event.WindowStop.{WindowStop}
 use Rattle.serve_machine.specs.Events.{frame_key, WindowEvents}
 use Rattle.serve_core.specs.CoreValue.{CoreValue}

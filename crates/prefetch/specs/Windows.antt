@@ -9,8 +9,7 @@ use Rattle.fv_plane.specs.Picture.{Clip, Picture, bytes_of, IsPicture}
 use Rattle.fv_plane.specs.declared.format.Info.{Info}
 use Rattle.fv_plane.specs.declared.key.Key.{Key}
 use Rattle.y4m_stream.specs.Stream.{frames_text}
-use Rattle.clip_graph.specs.Plan.{Application, application_at}
-use Rattle.clip_graph.specs.Unfolding.{key_picture}
+use Rattle.clip_graph.specs.Plan.{Application, application_at, key_picture}
 use Rattle.avs_meaning.specs.State.{Numbers, frames_or, workers as workers_asked, window as window_asked}
 use Rattle.inst_table.specs.declared.held.Held.{Ghosts as HeldGhosts}
 use Rattle.serve_machine.specs.Events.{frame_key, WindowEvents}

@@ -13,7 +13,7 @@ use Rattle.avs_tree.specs.Place.{verdict}
 use Rattle.avs_parse.specs.Load.{tokens_of, script_of}
 use Rattle.avs_values.specs.Binding.{bind}
 use Rattle.clip_term.specs.Terms.{info_of, infos_of, term_sample, term_samples}
-use Rattle.clip_graph.specs.Unfolding.{term_within}
+use Rattle.clip_graph.specs.Plan.{term_within}
 use Rattle.avs_meaning.specs.Arguments.{named, expression_in}
 use Rattle.avs_meaning.specs.Expressions.{call_within}
 use Rattle.avs_meaning.specs.Statements.{is_past, turn}

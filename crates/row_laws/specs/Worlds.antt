@@ -6,8 +6,7 @@ use Rattle.fv_plane.specs.Picture.{Picture}
 use Rattle.y4m_stream.specs.Stream.{stream}
 use Rattle.avs_values.specs.Values.{Text}
 use Rattle.avs_parse.specs.Load.{script_of}
-use Rattle.clip_graph.specs.Plan.{application_at}
-use Rattle.clip_graph.specs.Unfolding.{key_picture}
+use Rattle.clip_graph.specs.Plan.{application_at, key_picture}
 use Rattle.avs_meaning.specs.Meaning.{Meaning, clip, wrong}
 use Rattle.avs_meaning.specs.State.{Outside, outside_of}
 

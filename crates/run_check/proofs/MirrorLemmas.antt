@@ -7,12 +7,11 @@ use Rattle.std.specs.List.{list_all}
 use Rattle.std.specs.HashSet.{contains}
 use Rattle.std.proofs.lemmas.Bool.{and_parts, ltb-true, eqb-true, eqb-false, eq-eqb, ne_eqb}
 use Rattle.lru.specs.LruCache.{LruCache, lru_cache, promoted, put_entries, last_entry}
-use Rattle.clip_graph.specs.Plan.{Application}
+use Rattle.clip_graph.specs.Plan.{Application, input_keys}
 use Rattle.serve_machine.specs.Law.{worker_at}
 use Rattle.fv_plane.specs.declared.key.Key.{Key}
 use Rattle.frame_cache.specs.Cached.{same_key, at_key, has_key, without_key, fronted, Differ, dropped_key}
 use Rattle.std.proofs.lemmas.List.{take_all, drop_more, drop_all}
-use Rattle.clip_graph.specs.Unfolding.{input_keys}
 use Rattle.frame_cache.proofs.CallerLemmas.{same_keys, at_fronted, some_push, some_without, gone}
 use Rattle.run_check.specs.Leases.{AreLeases}
 use Rattle.serve_machine.specs.declared.event.Event.TheVariants.{Hit, Publish}

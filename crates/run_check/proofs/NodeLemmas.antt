@@ -4,8 +4,7 @@ use Rattle.std.specs.Prelude.{nat_lt}
 use Rattle.std.proofs.lemmas.Bool.{ltb-true}
 use Rattle.std.proofs.lemmas.List.{get_or_past}
 use Rattle.fv_plane.specs.declared.key.Key.{Key}
-use Rattle.clip_graph.specs.Plan.{Application, application_at, no_application, is_source}
-use Rattle.clip_graph.specs.Unfolding.{IsKeyBelow}
+use Rattle.clip_graph.specs.Plan.{Application, application_at, no_application, is_source, IsKeyBelow}
 use Rattle.frame_cache.proofs.CallerLemmas.{left_true, right_true}
 use Rattle.serve_machine.specs.Events.{mode_at}
 use Rattle.serve_machine.specs.Machine.{is_key}

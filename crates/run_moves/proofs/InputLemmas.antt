@@ -8,8 +8,7 @@ use Rattle.clip_term.specs.declared.op.Origin.{Origin}
 use Rattle.clip_term.specs.Refusals.{info_at}
 use Rattle.clip_term.specs.Terms.{asked, IsSound, AreLawful, IsAsked}
 use Rattle.clip_term.proofs.AskedLemmas.{asks_in_range}
-use Rattle.clip_graph.specs.Plan.{Application, application_at, infos_among, infos_at, deepest, IsPlan}
-use Rattle.clip_graph.specs.Unfolding.{key_of, input_keys, IsKeyBelow}
+use Rattle.clip_graph.specs.Plan.{Application, application_at, infos_among, infos_at, deepest, IsPlan, key_of, input_keys, IsKeyBelow}
 use Rattle.clip_graph.proofs.UnfoldingLemmas.{lawful_is, inputs_are_keys}
 
 -- the depth of a node

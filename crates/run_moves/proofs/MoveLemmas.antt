@@ -9,7 +9,7 @@ use Rattle.std.proofs.lemmas.List.{append-nil, length-take}
 use Rattle.std.proofs.lemmas.Option.{slice_get_within, slice_get-get_or}
 use Rattle.std.proofs.Math.ListN.{length-set}
 use Rattle.fv_plane.specs.declared.key.Key.{Key}
-use Rattle.clip_graph.specs.Unfolding.{input_keys}
+use Rattle.clip_graph.specs.Plan.{input_keys}
 use Rattle.frame_cache.specs.Cached.{same_key, at_key, has_key, dropped_key}
 use Rattle.frame_cache.proofs.CallerLemmas.{key_itself, some_dropped}
 use Rattle.inst_table.specs.declared.place.Place.{Place}

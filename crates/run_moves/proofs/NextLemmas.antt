@@ -4,8 +4,7 @@ use Rattle.std.specs.List.{AllByRecursion}
 use Rattle.std.proofs.lemmas.Bool.{eqb-true}
 use Rattle.std.proofs.lemmas.List.{append-nil}
 use Rattle.fv_plane.specs.declared.key.Key.{Key}
-use Rattle.clip_graph.specs.Plan.{Application, IsPlan}
-use Rattle.clip_graph.specs.Unfolding.{input_keys}
+use Rattle.clip_graph.specs.Plan.{Application, IsPlan, input_keys}
 use Rattle.serve_machine.specs.declared.event.Event.{Event}
 use Rattle.serve_machine.specs.declared.event.Event.TheVariants.{Hit, Claim, Enter, Leave, Publish, Abandon, Take, Deliver}
 use Rattle.serve_machine.specs.Events.{IsKey, same_key, has, frame_key, mode_at, instance_of, has_got, has_got_all}

@@ -4,8 +4,7 @@ use Rattle.std.specs.List.{AllByRecursion, list_any}
 use Rattle.std.specs.Map.{lookup}
 use Rattle.std.proofs.lemmas.Bool.{ltb-true, cases_lt}
 use Rattle.fv_plane.specs.declared.key.Key.{Key}
-use Rattle.clip_graph.specs.Plan.{Application, IsPlan}
-use Rattle.clip_graph.specs.Unfolding.{input_keys}
+use Rattle.clip_graph.specs.Plan.{Application, IsPlan, input_keys}
 use Rattle.frame_cache.specs.Cached.{at_key}
 use Rattle.inst_table.specs.declared.place.Place.{Place}
 use Rattle.inst_table.specs.Places.{same_place}

@@ -10,8 +10,7 @@ use Rattle.std.proofs.lemmas.List.Elements.{All-nil, All-cons, All-head, All-tai
 use Rattle.fv_plane.specs.declared.key.Key.{Key}
 use Rattle.fv_plane.specs.Picture.{Picture}
 use Rattle.clip_term.specs.Terms.{asked}
-use Rattle.clip_graph.specs.Plan.{Application, application_at, is_source, IsPlan}
-use Rattle.clip_graph.specs.Unfolding.{input_keys, key_picture, IsKeyBelow}
+use Rattle.clip_graph.specs.Plan.{Application, application_at, is_source, IsPlan, input_keys, key_picture, IsKeyBelow}
 use Rattle.clip_graph.proofs.UnfoldingLemmas.{inputs_are_keys}
 use Rattle.frame_cache.specs.Cached.{without_key, fronted, dropped_key}
 use Rattle.inst_table.specs.declared.held.Held.{Ghosts}

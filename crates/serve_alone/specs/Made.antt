@@ -3,8 +3,7 @@ use Rattle.std.specs.Prelude.{◌≡◌, ◌⊎◌, ℕ, ◌-◌, ◌<◌, ◌�
 use Rattle.std.specs.Map.{keys_of}
 use Rattle.fv_plane.specs.Picture.{Picture}
 use Rattle.fv_plane.specs.declared.key.Key.{Key}
-use Rattle.clip_graph.specs.Plan.{Application}
-use Rattle.clip_graph.specs.Unfolding.{input_keys, key_picture, AreOfKeys}
+use Rattle.clip_graph.specs.Plan.{Application, input_keys, key_picture, AreOfKeys}
 use Rattle.frame_cache.specs.Cached.{without_key}
 use Rattle.inst_table.specs.declared.held.Held.{Ghosts}
 use Rattle.inst_table.specs.Lent.{Lent}

@@ -1,6 +1,6 @@
 // The production of a key: a hit, or its inputs and then itself.
 ghost use Rattle.std.specs.Prelude.{◌≡◌, ◌+◌, ◌<◌, Some, true, IfOk, IfErr};
-ghost use Rattle.clip_graph.specs.Unfolding.{input_keys, AreOfKeys};
+ghost use Rattle.clip_graph.specs.Plan.{input_keys, AreOfKeys};
 ghost use Rattle.frame_cache.specs.Cached.{at_key};
 ghost use Rattle.inst_table.specs.Places.{slot_at};
 ghost use Rattle.inst_table.specs.declared.place.Slot.TheVariants.{Leased};

@@ -4,8 +4,7 @@ use Rattle.std.specs.Prelude.{option_map, option_and_then}
 use Rattle.std.proofs.lemmas.Bool.{leb-true}
 use Rattle.std.specs.Str.Parse.{digits_value}
 use Rattle.std.specs.Str.{bytes_eq}
-use Rattle.command_line.specs.Words.{Text, values_of, given_by}
-use Rattle.command_line.specs.Command.{is_number, in_range, number_in, only, number_among, flag_among, options_with, render_with, info_with, self_test_with, cached_with, session_with, replay_with, both, tells_by, render_options, cached_options, command_by, command_in}
+use Rattle.command_line.specs.Command.{Text, values_of, given_by, is_number, in_range, number_in, only, number_among, flag_among, options_with, render_with, info_with, self_test_with, cached_with, session_with, replay_with, both, tells_by, render_options, cached_options, command_by, command_in}
 use Rattle.command_line.specs.declared.command.Command.{Command}
 use Rattle.command_line.specs.declared.command.Command.TheVariants as c
 use Rattle.command_line.specs.declared.command.RenderOptions.{RenderOptions}

@@ -16,8 +16,7 @@ use Rattle.y4m_stream.specs.Stream.{frames_text, stream}
 use Rattle.seq_source.specs.FrameSource.{FrameSource, frames_of as frames_in}
 use Rattle.seq_source.proofs.CallerLemmas.{clip_told}
 use Rattle.clip_term.specs.Terms.{Act, source}
-use Rattle.clip_graph.specs.Plan.{Application, application_at, IsPlan}
-use Rattle.clip_graph.specs.Unfolding.{key_picture}
+use Rattle.clip_graph.specs.Plan.{Application, application_at, IsPlan, key_picture}
 use Rattle.serve_worker.specs.Sources.{AreSources, source_infos}
 use Rattle.inst_table.specs.declared.place.Place.{Place}
 use Rattle.inst_table.specs.declared.place.Slot.{Slot}

@@ -21,8 +21,7 @@ use Rattle.fv_session.specs.declared.request.Request.TheVariants.{Frame, Info, Q
 use Rattle.fv_session.specs.declared.request.SessionFault.{SessionFault}
 use Rattle.fv_session.specs.declared.request.SessionFault.TheVariants as of_fault
 use Rattle.seq_source.specs.FrameSource.{FrameSource}
-use Rattle.clip_graph.specs.Plan.{Application, application_at, IsPlan}
-use Rattle.clip_graph.specs.Unfolding.{key_picture}
+use Rattle.clip_graph.specs.Plan.{Application, application_at, IsPlan, key_picture}
 use Rattle.inst_table.proofs.CallerLemmas.{test}
 use Rattle.inst_table.specs.declared.place.Place.{Place}
 use Rattle.inst_table.specs.declared.place.Slot.{Slot}

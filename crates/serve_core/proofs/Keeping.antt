@@ -11,8 +11,7 @@ use Rattle.std.proofs.Math.Seq.{take-length}
 use Rattle.fv_plane.specs.declared.format.Info.{Info}
 use Rattle.fv_plane.specs.declared.key.Key.{Key}
 use Rattle.fv_plane.specs.Picture.{Picture}
-use Rattle.clip_graph.specs.Plan.{Application}
-use Rattle.clip_graph.specs.Unfolding.{input_keys}
+use Rattle.clip_graph.specs.Plan.{Application, input_keys}
 use Rattle.frame_cache.specs.Cached.{same_key, at_key, has_key, without_key, fronted, put_first, dropped_key}
 use Rattle.frame_cache.proofs.CallerLemmas.{test, same_keys, present, at_fronted, at_put_other, none_put, some_without, some_push, length_without, differ_push, differ_without, gone}
 use Rattle.inst_table.specs.declared.place.Place.{Place}

@@ -6,8 +6,7 @@ use Rattle.fv_plane.specs.declared.format.Info.{Info}
 use Rattle.fv_plane.specs.declared.key.Key.{Key}
 use Rattle.fv_plane.specs.Picture.{look_in, picture_from, Picture}
 use Rattle.clip_term.specs.Terms.{Act, source, asked}
-use Rattle.clip_graph.specs.Plan.{Application, application_at, infos_at, is_source, IsPlan, IsCounted}
-use Rattle.clip_graph.specs.Unfolding.{key_of, input_keys, key_made, key_picture, IsKeyBelow}
+use Rattle.clip_graph.specs.Plan.{Application, application_at, infos_at, is_source, IsPlan, IsCounted, key_of, input_keys, key_made, key_picture, IsKeyBelow}
 use Rattle.clip_graph.proofs.UnfoldingLemmas.{unfolds, inputs_are_keys}
 use Rattle.clip_term.proofs.ListedLemmas.{listed}
 use Rattle.inst_table.specs.Places.{shared_place}

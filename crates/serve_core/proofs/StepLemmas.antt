@@ -10,8 +10,7 @@ use Rattle.std.proofs.lemmas.List.{length-map, length-take, map-set, take_all}
 use Rattle.std.proofs.lemmas.Option.{slice_get-map}
 use Rattle.fv_plane.specs.Picture.{Picture}
 use Rattle.fv_plane.specs.declared.key.Key.{Key}
-use Rattle.clip_graph.specs.Plan.{Application, application_at}
-use Rattle.clip_graph.specs.Unfolding.{input_keys}
+use Rattle.clip_graph.specs.Plan.{Application, application_at, input_keys}
 use Rattle.frame_cache.specs.Cached.{same_key, at_key, has_key, without_key, dropped_key}
 use Rattle.frame_cache.proofs.CallerLemmas.{test, left_true, right_true, key_itself, none_dropped, some_dropped}
 use Rattle.inst_table.specs.declared.place.Place.{Place}

@@ -6,8 +6,7 @@ use Rattle.std.specs.Map.{keys_of}
 use Rattle.std.proofs.lemmas.List.{length-map}
 use Rattle.fv_plane.specs.Picture.{Picture}
 use Rattle.fv_plane.specs.declared.key.Key.{Key}
-use Rattle.clip_graph.specs.Plan.{Application}
-use Rattle.clip_graph.specs.Unfolding.{key_picture}
+use Rattle.clip_graph.specs.Plan.{Application, key_picture}
 use Rattle.frame_cache.specs.Cached.{same_key, at_key, Differ}
 use Rattle.frame_cache.proofs.CallerLemmas.{test, same_keys, key_itself, nowhere}
 use Rattle.serve_machine.specs.Events.{frame_key}

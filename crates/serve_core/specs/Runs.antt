@@ -3,7 +3,7 @@ use Rattle.std.specs.Prelude.{◌≡◌, ℕ, ◌≤◌, List, length, map, opti
 use Rattle.std.specs.List.{IsDistinct}
 use Rattle.std.specs.Map.{keys_of}
 use Rattle.fv_plane.specs.declared.key.Key.{Key}
-use Rattle.clip_graph.specs.Plan.{Application, IsPlan}
+use Rattle.clip_graph.specs.Plan.{Application, IsPlan, key_picture}
 use Rattle.frame_cache.specs.Cached.{same_key}
 use Rattle.inst_table.specs.declared.place.Place.{Place}
 use Rattle.inst_table.specs.declared.place.Slot.{Slot}
@@ -14,7 +14,6 @@ use Rattle.serve_machine.specs.Law.{seen, bare, keys_machine, start_of, IsRefine
 use Rattle.serve_core.specs.CoreValue.{CoreValue}
 use Rattle.serve_core.specs.Sources.{place_of}
 use Rattle.fv_plane.specs.Picture.{Picture}
-use Rattle.clip_graph.specs.Unfolding.{key_picture}
 use Rattle.serve_core.specs.Stands.{Stands}
 use Rattle.serve_machine.specs.Events.{WindowEvents}
 use Rattle.serve_machine.specs.Journals.{after_window}

@@ -4,8 +4,7 @@ use Rattle.fv_io.specs.Faults.{HasRisen}
 use Rattle.fv_plane.specs.Picture.{Picture}
 use Rattle.fv_plane.specs.declared.key.Key.{Key}
 use Rattle.clip_term.specs.Terms.{Act, SourcePart, source_part}
-use Rattle.clip_graph.specs.Plan.{Application, application_at, IsPlan}
-use Rattle.clip_graph.specs.Unfolding.{key_picture}
+use Rattle.clip_graph.specs.Plan.{Application, application_at, IsPlan, key_picture}
 use Rattle.frame_cache.specs.Cached.{Cached, at_key}
 use Rattle.inst_table.specs.declared.place.Place.{Place}
 use Rattle.inst_table.specs.declared.place.Slot.{Slot}

@@ -3,8 +3,7 @@ use Rattle.std.specs.Prelude.{◌≡◌, ℕ, ◌<◌, true, false, List, Option
 use Rattle.fv_io.specs.Faults.{HasRisen}
 use Rattle.fv_plane.specs.Picture.{Picture, IsPicture}
 use Rattle.fv_plane.specs.declared.key.Key.{Key}
-use Rattle.clip_graph.specs.Plan.{Application, application_at, is_source}
-use Rattle.clip_graph.specs.Unfolding.{key_made}
+use Rattle.clip_graph.specs.Plan.{Application, application_at, is_source, key_made}
 use Rattle.serve_machine.specs.declared.event.WindowStop.{WindowStop}
 use Rattle.serve_machine.specs.declared.event.WindowStop.TheVariants.{Read, Changed, Memory}
 use Rattle.serve_core.specs.Sources.{shape_at}

@@ -1,8 +1,7 @@
 // What a worker asks of the instances of a graph's nodes.
 ghost use Rattle.std.specs.Prelude.{◌≡◌, ◌≤◌, false, List, Option, IfOk, IfErr, IsErrOf};
 ghost use Rattle.fv_plane.specs.Picture.{Picture};
-ghost use Rattle.clip_graph.specs.Plan.{application_at, is_source};
-ghost use Rattle.clip_graph.specs.Unfolding.{AreOfKeys, input_keys};
+ghost use Rattle.clip_graph.specs.Plan.{application_at, is_source, AreOfKeys, input_keys};
 ghost use Rattle.serve_machine.specs.Events.{IsKey};
 ghost use Rattle.serve_core.specs.Sources.{opened_at};
 ghost use Rattle.serve_core.specs.Works.{IsMade, MakeStops};

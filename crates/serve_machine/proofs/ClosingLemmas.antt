@@ -5,8 +5,7 @@ use Rattle.std.specs.List.{AllByRecursion}
 use Rattle.std.proofs.lemmas.List.{append-nil}
 use Rattle.std.proofs.lemmas.List.Elements.{All-weaker, recursion_from_All}
 use Rattle.fv_plane.specs.declared.key.Key.{Key}
-use Rattle.clip_graph.specs.Plan.{Application, IsPlan}
-use Rattle.clip_graph.specs.Unfolding.{input_keys, IsKeyBelow}
+use Rattle.clip_graph.specs.Plan.{Application, IsPlan, input_keys, IsKeyBelow}
 use Rattle.clip_graph.proofs.UnfoldingLemmas.{inputs_are_keys}
 use Rattle.serve_machine.specs.declared.event.Event.{Event}
 use Rattle.serve_machine.specs.declared.event.Event.TheVariants.{Enter, Leave, Publish, Abandon, Take, Deliver}

@@ -5,8 +5,7 @@ use Rattle.std.specs.Map.{lookup, set_value}
 use Rattle.std.proofs.lemmas.Bool.{eqb-true, ltb-true, ltb-false}
 use Rattle.std.proofs.lemmas.Option.{slice_get_within}
 use Rattle.fv_plane.specs.declared.key.Key.{Key}
-use Rattle.clip_graph.specs.Plan.{Application}
-use Rattle.clip_graph.specs.Unfolding.{input_keys}
+use Rattle.clip_graph.specs.Plan.{Application, input_keys}
 use Rattle.frame_cache.specs.Cached.{same_key, at_key, Differ}
 use Rattle.frame_cache.proofs.CallerLemmas.{test, left_true, right_true, differ_push, differ_without}
 use Rattle.inst_table.specs.declared.place.Place.{Place}

@@ -6,8 +6,7 @@ use Rattle.std.specs.List.{IsDistinct}
 use Rattle.std.proofs.lemmas.Bool.{ltb-true, ltb-false}
 use Rattle.std.proofs.lemmas.List.{length-take}
 use Rattle.fv_plane.specs.declared.key.Key.{Key}
-use Rattle.clip_graph.specs.Plan.{Application}
-use Rattle.clip_graph.specs.Unfolding.{input_keys}
+use Rattle.clip_graph.specs.Plan.{Application, input_keys}
 use Rattle.frame_cache.specs.Cached.{same_key, at_key, has_key, without_key, fronted, Differ}
 use Rattle.frame_cache.proofs.CallerLemmas.{test, left_true, right_true, same_keys, at_fronted, at_take, none_take, some_without, some_push, length_without, others, nowhere, differ_push, differ_without, gone}
 use Rattle.serve_machine.specs.declared.event.Event.{Event}

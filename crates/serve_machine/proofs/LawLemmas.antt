@@ -3,7 +3,7 @@ use Rattle.std.proofs.Common.{◌≡◌, ℕ, zero, suc, true, false, List, [], 
 use Rattle.std.specs.Prelude.{is_some}
 use Rattle.std.specs.List.{IsDistinct}
 use Rattle.fv_plane.specs.declared.key.Key.{Key}
-use Rattle.clip_graph.specs.Unfolding.{key_picture}
+use Rattle.clip_graph.specs.Plan.{key_picture}
 use Rattle.clip_graph.proofs.UnfoldingLemmas.{unfolds}
 use Rattle.frame_cache.specs.Cached.{Differ}
 use Rattle.frame_cache.proofs.CallerLemmas.{test}

@@ -6,7 +6,7 @@ use Rattle.std.specs.List.{list_any}
 use Rattle.std.proofs.lemmas.List.{map-set}
 use Rattle.std.proofs.lemmas.Option.{slice_get-map}
 use Rattle.fv_plane.specs.declared.key.Key.{Key}
-use Rattle.clip_graph.specs.Unfolding.{input_keys}
+use Rattle.clip_graph.specs.Plan.{input_keys}
 use Rattle.frame_cache.specs.Cached.{same_key, at_key, has_key, without_key}
 use Rattle.frame_cache.proofs.CallerLemmas.{test, left_true, right_true}
 use Rattle.serve_machine.specs.declared.event.Event.{Event}

@@ -2,8 +2,7 @@
 use Rattle.std.proofs.Common.{◌≡◌, ◌⊎◌, ℕ, ◌<◌, ◌==◌, true, false, if◌then◌else◌, List, [], ◌∷◌, ◌++◌, Option, Some, None, sym, refl, ◌∙◌, subst, inl, inr, ⊎_elim}
 use Rattle.std.specs.List.{AllByRecursion}
 use Rattle.fv_plane.specs.declared.key.Key.{Key}
-use Rattle.clip_graph.specs.Plan.{Application}
-use Rattle.clip_graph.specs.Unfolding.{input_keys}
+use Rattle.clip_graph.specs.Plan.{Application, input_keys}
 use Rattle.frame_cache.specs.Cached.{same_key}
 use Rattle.frame_cache.proofs.CallerLemmas.{same_keys, key_itself}
 use Rattle.serve_machine.specs.declared.event.Event.{Event}

@@ -6,7 +6,7 @@ use Rattle.std.specs.Map.{keys_of}
 use Rattle.std.proofs.lemmas.Bool.{eqb-true}
 use Rattle.std.proofs.lemmas.List.{length-map}
 use Rattle.fv_plane.specs.declared.key.Key.{Key}
-use Rattle.clip_graph.specs.Unfolding.{input_keys}
+use Rattle.clip_graph.specs.Plan.{input_keys}
 use Rattle.frame_cache.specs.Cached.{same_key, at_key, has_key, fronted, Differ}
 use Rattle.frame_cache.proofs.CallerLemmas.{test, left_true, right_true, same_keys, key_itself, swapped, at_fronted, some_without, some_push, others}
 use Rattle.inst_table.specs.declared.place.Place.{Place}

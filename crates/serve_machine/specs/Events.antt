@@ -7,8 +7,7 @@ use Rattle.serve_machine.specs.declared.event.WindowStop.{WindowStop}
 use Rattle.serve_machine.specs.declared.event.WindowStop.TheVariants.{Read, Changed, Memory}
 use Rattle.serve_machine.specs.declared.windows.Windowed.{Windowed}
 use Rattle.serve_machine.specs.declared.windows.Record.{Record}
-use Rattle.clip_graph.specs.Plan.{Application, application_at, is_source}
-use Rattle.clip_graph.specs.Unfolding.{IsKeyBelow}
+use Rattle.clip_graph.specs.Plan.{Application, application_at, is_source, IsKeyBelow}
 
 abbrev pub worker_of : Event → ℕ
 worker_of (Hit w k) = w

@@ -4,7 +4,7 @@ use Rattle.std.specs.List.{list_any, list_all}
 use Rattle.std.specs.Map.{lookup, set_value}
 use Rattle.std.specs.Option.{option_map_or}
 use Rattle.fv_plane.specs.declared.key.Key.{Key}
-use Rattle.clip_graph.specs.Plan.{Application, application_at}
+use Rattle.clip_graph.specs.Plan.{Application, application_at, input_keys}
 use Rattle.frame_cache.specs.Cached.{same_key, at_key, has_key, without_key, fronted, dropped_key}
 use Rattle.inst_table.specs.declared.place.Place.{Place}
 use Rattle.inst_table.specs.Places.{place_at, same_place}
@@ -13,7 +13,6 @@ use Rattle.serve_machine.specs.Events.{mode_at, worker_of, frame_key, instance_o
 use Rattle.serve_machine.specs.declared.event.Event.{Event}
 use Rattle.serve_machine.specs.declared.event.Event.TheVariants.{Hit, Claim, Enter, Leave, Evict, Publish, Abandon, Take, Deliver, Fail}
 use Rattle.serve_machine.specs.declared.event.WindowStop.TheVariants.{Read, Changed, Memory}
-use Rattle.clip_graph.specs.Unfolding.{input_keys}
 
 -- what a window does not change: the outputs are `count` frames of the root from `first` on, and `opening` are the keys
 -- that were cached when the window began; between windows there is no output

@@ -1,8 +1,7 @@
 -- The events that one worker alone makes, and the keys that are cached after them, the most recently used first.
 use Rattle.std.specs.Prelude.{ℕ, zero, suc, ◌+◌, ◌-◌, ◌==◌, if◌then◌else◌, min, List, [], ◌∷◌, ◌++◌, take, Option, Some, None, slice_get}
 use Rattle.fv_plane.specs.declared.key.Key.{Key}
-use Rattle.clip_graph.specs.Plan.{Application}
-use Rattle.clip_graph.specs.Unfolding.{input_keys}
+use Rattle.clip_graph.specs.Plan.{Application, input_keys}
 use Rattle.serve_machine.specs.declared.event.Event.{Event}
 use Rattle.serve_machine.specs.declared.event.Event.TheVariants.{Hit, Claim, Enter, Leave, Evict, Publish, Take, Deliver}
 use Rattle.serve_machine.specs.Events.{frame_key, has, without, mode_at, instance_of, WindowEvents}

@@ -2,8 +2,7 @@
 use Rattle.std.proofs.Common.{◌≡◌, ℕ, ◌≤◌, ◌==◌, true, false, if◌then◌else◌, List, [], ◌∷◌, ◌++◌, map, Option, Some, None, Result, Ok, Err, IfSome, IfOk, IfErr, sym, refl, ap, ◌∙◌, subst, append_assoc, append-nil, ne_eqb, eq-eqb}
 use Rattle.fv_plane.specs.Picture.{Picture}
 use Rattle.fv_plane.specs.declared.key.Key.{Key}
-use Rattle.clip_graph.specs.Plan.{Application, application_at, is_source}
-use Rattle.clip_graph.specs.Unfolding.{input_keys, key_picture}
+use Rattle.clip_graph.specs.Plan.{Application, application_at, is_source, input_keys, key_picture}
 use Rattle.inst_table.specs.declared.held.Held.{Ghosts}
 use Rattle.inst_table.specs.declared.place.Place.{Place}
 use Rattle.inst_table.specs.Lent.{Lent}

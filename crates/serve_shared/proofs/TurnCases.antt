@@ -4,8 +4,7 @@ use Rattle.std.specs.List.{All}
 use Rattle.std.proofs.lemmas.List.Elements.{All-nil, All-append}
 use Rattle.fv_plane.specs.Picture.{Picture}
 use Rattle.fv_plane.specs.declared.key.Key.{Key}
-use Rattle.clip_graph.specs.Plan.{application_at}
-use Rattle.clip_graph.specs.Unfolding.{input_keys}
+use Rattle.clip_graph.specs.Plan.{application_at, input_keys}
 use Rattle.frame_cache.specs.Cached.{at_key, dropped_key}
 use Rattle.inst_table.specs.declared.held.Held.{Ghosts}
 use Rattle.inst_table.specs.declared.place.Slot.TheVariants.{Leased as LeasedTo}

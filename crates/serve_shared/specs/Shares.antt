@@ -2,8 +2,7 @@
 use Rattle.std.specs.Prelude.{◌≡◌, ◌⊎◌, ℕ, List, [], ◌∷◌, ◌++◌, Bool, true, false, Contains, Option, IfSome, Result, Ok, Err}
 use Rattle.fv_plane.specs.Picture.{Picture}
 use Rattle.fv_plane.specs.declared.key.Key.{Key}
-use Rattle.clip_graph.specs.Plan.{Application}
-use Rattle.clip_graph.specs.Unfolding.{AreOfKeys}
+use Rattle.clip_graph.specs.Plan.{Application, AreOfKeys}
 use Rattle.inst_table.specs.declared.held.Held.{Ghosts}
 use Rattle.turn_lock.specs.Entries.{entries_of}
 use Rattle.serve_machine.specs.declared.event.Event.{Event}

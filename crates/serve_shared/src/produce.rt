@@ -1,6 +1,6 @@
 // The production of a key among others: a hit, or its inputs and then itself. Frames are made between turns.
 ghost use Rattle.std.specs.Prelude.{◌≡◌, ◌<◌, true, false, [], ◌∷◌, IfOk, IfErr};
-ghost use Rattle.clip_graph.specs.Unfolding.{input_keys, AreOfKeys};
+ghost use Rattle.clip_graph.specs.Plan.{input_keys, AreOfKeys};
 ghost use Rattle.serve_machine.specs.Events.{IsKey, has, mode_at, has_got_all, has_entered};
 ghost use Rattle.serve_machine.specs.Work.{CutShort, CutInputs, AllPast};
 ghost use Rattle.serve_core.specs.Sources.{shape_at};

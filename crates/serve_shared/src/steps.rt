@@ -1,6 +1,6 @@
 // What a worker does to the core in one turn: the events of one call, or those that close its work.
 ghost use Rattle.std.specs.Prelude.{◌≡◌, ◌<◌, true, Some, IfOk, IfErr, OnOk};
-ghost use Rattle.clip_graph.specs.Unfolding.{input_keys};
+ghost use Rattle.clip_graph.specs.Plan.{input_keys};
 ghost use Rattle.frame_cache.specs.Cached.{at_key};
 ghost use Rattle.serve_machine.specs.Events.{IsKey, mode_at, has_got_all, may_fail, names_source};
 ghost use Rattle.serve_core.specs.Calls.{after_publish, after_fail};

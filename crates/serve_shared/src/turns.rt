@@ -1,6 +1,6 @@
 // Each function takes one turn at the lock.
 ghost use Rattle.std.specs.Prelude.{◌≡◌, ◌<◌, true, false, [], ◌∷◌, IfSome};
-ghost use Rattle.clip_graph.specs.Unfolding.{input_keys};
+ghost use Rattle.clip_graph.specs.Plan.{input_keys};
 ghost use Rattle.serve_machine.specs.declared.event.Event.TheVariants.{Leave, Deliver};
 ghost use Rattle.serve_machine.specs.declared.event.WindowStop.TheVariants.{Memory};
 ghost use Rattle.serve_machine.specs.Events.{IsKey, has, mode_at, has_got, has_got_all};

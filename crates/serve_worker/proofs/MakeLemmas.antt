@@ -29,8 +29,7 @@ use Rattle.clip_term.proofs.AskedLemmas.{asks_in_range}
 use Rattle.clip_term.proofs.LawfulLemmas.{checks_lawful}
 use Rattle.clip_term.proofs.PassedLemmas.{passed, limits_shape}
 use Rattle.clip_term.proofs.TimeFacts.{time_facts}
-use Rattle.clip_graph.specs.Plan.{Application, application_at, infos_at, IsPlan}
-use Rattle.clip_graph.specs.Unfolding.{input_keys, key_made, AreOfKeys}
+use Rattle.clip_graph.specs.Plan.{Application, application_at, infos_at, IsPlan, input_keys, key_made, AreOfKeys}
 use Rattle.clip_term.proofs.ListedLemmas.{listed, blank_listed}
 use Rattle.flt_space.proofs.CallerLemmas.{not_refused, shape_made}
 use Rattle.flt_merge.specs.Joined.{CanJoin, join_picture}

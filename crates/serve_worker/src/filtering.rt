@@ -1,8 +1,7 @@
 // The frame that a filter makes, for an instance without a source.
 ghost use Rattle.std.specs.Prelude.{◌≡◌, false, List, Option, IfOk, IfErr};
 ghost use Rattle.fv_plane.specs.Picture.{Picture};
-ghost use Rattle.clip_graph.specs.Plan.{application_at, is_source};
-ghost use Rattle.clip_graph.specs.Unfolding.{input_keys, AreOfKeys};
+ghost use Rattle.clip_graph.specs.Plan.{application_at, is_source, input_keys, AreOfKeys};
 ghost use Rattle.serve_machine.specs.Events.{IsKey};
 ghost use Rattle.serve_core.specs.Works.{IsMade};
 

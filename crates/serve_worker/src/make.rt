@@ -1,9 +1,8 @@
 // What a node makes of the frames that a frame of it is made of.
 ghost use Rattle.std.specs.Prelude.{◌≡◌, false, List, length, IfOk};
 ghost use Rattle.fv_plane.specs.Picture.{Picture, IsPicture};
-ghost use Rattle.clip_graph.specs.Plan.{application_at, is_source};
+ghost use Rattle.clip_graph.specs.Plan.{application_at, is_source, IsKeyBelow, input_keys, key_made, AreOfKeys};
 ghost use Rattle.flt_soft.specs.Pictures.{CanSoften, soft_picture};
-ghost use Rattle.clip_graph.specs.Unfolding.{IsKeyBelow, input_keys, key_made, AreOfKeys};
 
 use clip_graph::Graph;
 use clip_term::{Op, SoftOp};

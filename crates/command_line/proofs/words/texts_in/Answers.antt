@@ -3,7 +3,7 @@ use Rattle.std.proofs.Common.{◌∙◌, subst, get_or, arith, below_more}
 use Rattle.std.specs.Str.{IsUtf8}
 use Rattle.std.proofs.lemmas.Grind.{common_steps}
 use Rattle.std.proofs.lemmas.List.{get_or_default}
-use Rattle.command_line.specs.Words.{Text}
+use Rattle.command_line.specs.Command.{Text}
 use Rattle.command_line.proofs.words.texts_in.Goals as goal
 
 pub loop-word-preserved : goal.loop-word-preserved

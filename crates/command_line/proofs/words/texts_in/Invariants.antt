@@ -2,7 +2,7 @@
 use Rattle.std.proofs.Common.{◌≡◌, ℕ, ◌<◌, map, take}
 use Rattle.std.specs.Str.{IsUtf8}
 use Rattle.std.specs.List.{slice_index_or}
-use Rattle.command_line.specs.Words.{Text}
+use Rattle.command_line.specs.Command.{Text}
 use Rattle.command_line.proofs.words.texts_in.Given as goal
 
 abbrev pub invariant-loop-word : goal.invariant-loop-word

@@ -1,7 +1,6 @@
 -- Each frame is one of an earlier node, and the frames are collected in their order.
 use Rattle.std.proofs.Common.{◌∙◌, ℕ, ◌<◌, sym, ap, subst, arith}
-use Rattle.clip_graph.specs.Plan.{Application, is_source}
-use Rattle.clip_graph.specs.Unfolding.{input_keys, AreOfKeys}
+use Rattle.clip_graph.specs.Plan.{Application, is_source, input_keys, AreOfKeys}
 use Rattle.clip_frames.proofs.CallerLemmas.{input_below, not_source}
 use Rattle.filter_tests.proofs.FrameLemmas.{of_keys_more, of_keys_all}
 use Rattle.filter_tests.proofs.compared.+frame_of.Goals as goal

@@ -1,5 +1,5 @@
 use Rattle.std.proofs.Common.{◌≤◌, ◌-◌, take}
-use Rattle.clip_graph.specs.Unfolding.{input_keys, AreOfKeys}
+use Rattle.clip_graph.specs.Plan.{input_keys, AreOfKeys}
 use Rattle.filter_tests.proofs.compared.+frame_of.Given as goal
 
 abbrev pub decreases-frame_of : goal.decreases-frame_of

@@ -2,7 +2,7 @@
 use Rattle.std.proofs.Common.{◌≡◌, ◌+◌, ◌*◌, ◌<◌, take, drop, suc, ◌++◌, ◌∷◌, [], sym, ap, ◌∙◌, subst, arith, rules}
 use Rattle.std.proofs.lemmas.List.{append_assoc}
 use Rattle.std.proofs.lemmas.Option.{slice_get_within}
-use Rattle.clip_graph.specs.Unfolding.{input_keys}
+use Rattle.clip_graph.specs.Plan.{input_keys}
 use Rattle.frame_cache.specs.Cached.{at_key}
 use Rattle.serve_core.specs.Calls.{Asked}
 use Rattle.serve_core.specs.CoreValue.{CoreValue}

@@ -1,6 +1,6 @@
 -- The inputs of a key are of earlier nodes.
 use Rattle.std.proofs.Common.{◌+◌, ◌-◌, ◌*◌, ◌≤◌, length, take}
-use Rattle.clip_graph.specs.Unfolding.{input_keys}
+use Rattle.clip_graph.specs.Plan.{input_keys}
 use Rattle.serve_alone.specs.Made.{Gathered}
 use Rattle.serve_alone.proofs.produce.+serial.Given as goal
 

@@ -1,6 +1,6 @@
 -- Made, and then published.
 use Rattle.std.proofs.Common.{◌≡◌, true, sym, refl, ap, ◌∙◌, subst}
-use Rattle.clip_graph.specs.Unfolding.{input_keys}
+use Rattle.clip_graph.specs.Plan.{input_keys}
 use Rattle.serve_machine.specs.Events.{has_got_all}
 use Rattle.serve_machine.proofs.OwnLemmas.{all_got}
 use Rattle.serve_alone.proofs.KeyLemmas.{claim_at}

@@ -1,7 +1,7 @@
 -- Each way out is a lemma over the seats.
 use Rattle.std.proofs.Common.{rules, ◌≡◌, ◌+◌, ◌*◌, ◌<◌, IfOk, IfErr, Some, Ok, [], take, slice_get, sym, ap, ◌∙◌, subst, arith}
 use Rattle.std.proofs.lemmas.Option.{slice_get_within}
-use Rattle.clip_graph.specs.Unfolding.{input_keys}
+use Rattle.clip_graph.specs.Plan.{input_keys}
 use Rattle.serve_machine.specs.Work.{CutShort, CutInputs}
 use Rattle.serve_core.proofs.Making.{front_more, taken_all}
 use Rattle.serve_shared.specs.Shares.{StopsWithin, Produced, Gathered}

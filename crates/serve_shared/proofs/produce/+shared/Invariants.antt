@@ -1,6 +1,6 @@
 -- The inputs of a key are of earlier nodes.
 use Rattle.std.proofs.Common.{◌+◌, ◌-◌, ◌*◌, ◌≤◌, length, take}
-use Rattle.clip_graph.specs.Unfolding.{input_keys}
+use Rattle.clip_graph.specs.Plan.{input_keys}
 use Rattle.serve_shared.specs.Shares.{Gathered}
 use Rattle.serve_shared.proofs.produce.+shared.Given as goal
 

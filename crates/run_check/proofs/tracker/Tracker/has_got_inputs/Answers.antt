@@ -1,8 +1,7 @@
 use Rattle.std.proofs.Common.{◌≡◌, ℕ, ◌+◌, ◌&&◌, List, Some, None, sym, ap, ◌∙◌, drop, arith, rules}
 use Rattle.std.specs.Prelude.{is_some, slice_get}
 use Rattle.std.proofs.lemmas.Option.{slice_get_within}
-use Rattle.clip_graph.specs.Plan.{Application}
-use Rattle.clip_graph.specs.Unfolding.{input_keys}
+use Rattle.clip_graph.specs.Plan.{Application, input_keys}
 use Rattle.serve_machine.specs.Machine.{gathered}
 use Rattle.run_check.proofs.EnterLemmas.{got_input, none_left}
 use Rattle.run_check.proofs.tracker.Tracker.has_got_inputs.Goals as goal

@@ -1,6 +1,6 @@
 use Rattle.std.proofs.Common.{◌≡◌, ◌-◌, ◌≤◌, length, drop}
 use Rattle.std.specs.Prelude.{is_some}
-use Rattle.clip_graph.specs.Unfolding.{input_keys}
+use Rattle.clip_graph.specs.Plan.{input_keys}
 use Rattle.serve_machine.specs.Machine.{Machine, State, gathered}
 use Rattle.run_check.specs.Mirrors.{Mirrors}
 use Rattle.run_check.proofs.tracker.Tracker.has_got_inputs.Given as goal

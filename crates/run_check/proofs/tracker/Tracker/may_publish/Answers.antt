@@ -1,7 +1,6 @@
 use Rattle.std.proofs.Common.{◌≡◌, ◌&&◌, List, false, sym, ap, ◌∙◌}
 use Rattle.std.specs.Prelude.{is_some}
-use Rattle.clip_graph.specs.Plan.{Application}
-use Rattle.clip_graph.specs.Unfolding.{input_keys}
+use Rattle.clip_graph.specs.Plan.{Application, input_keys}
 use Rattle.frame_cache.specs.Cached.{at_key}
 use Rattle.serve_machine.specs.Machine.{is_by, holds_nothing, is_key, gathered}
 use Rattle.run_check.proofs.EnterLemmas.{ready, unready, ready_key, if_ok_map}

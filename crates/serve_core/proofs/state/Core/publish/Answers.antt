@@ -2,7 +2,7 @@ use Rattle.std.proofs.Common.{◌≡◌, ◌+◌, ◌-◌, ◌<◌, ◌≤◌, �
 use Rattle.std.specs.Vec.{vec_len}
 use Rattle.serve_core.specs.CoreValue.{CoreValue}
 use Rattle.frame_cache.specs.Cached.{Cached, at_key}
-use Rattle.clip_graph.specs.Unfolding.{input_keys}
+use Rattle.clip_graph.specs.Plan.{input_keys}
 use Rattle.serve_machine.specs.declared.event.Event.TheVariants.{Publish}
 use Rattle.serve_machine.specs.Events.{has_got_all}
 use Rattle.serve_machine.specs.SerialRun.{eviction}
