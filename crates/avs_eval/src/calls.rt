@@ -1,7 +1,6 @@
 // Calls of the script's functions, of built-in functions and of filters, by name and with bound arguments.
 ghost use Rattle.std.specs.Prelude.{◌≡◌, ◌<◌};
 ghost use Rattle.avs_values.specs.Views.{bound_view};
-ghost use Rattle.avs_meaning.specs.Expressions as c;
 ghost use Rattle.avs_meaning.specs.Expressions as e;
 ghost use Rattle.avs_meaning.specs.Filters as f;
 ghost use Rattle.avs_state.specs.Hosts.{Told};
@@ -131,7 +130,7 @@ impl<
     ) -> Result<Value, EvalError>
         requires deeper { Deeper H.Host self.now.depth F.Fn self.now.run }
         requires other { builtin ≡ Builtin.ApplyRange → ⊥ }
-        ensures told { Told H.told (λ v. v) (e.performed (context_in H.Host self.now.depth) (c.builtin builtin) signature
+        ensures told { Told H.told (λ v. v) (e.performed (context_in H.Host self.now.depth) (e.builtin builtin) signature
             (bound_view given.now) self.now.script_name.now line) machine.old result machine.new }
         ensures kept { Keeps H.Host machine.old host.old (stop_in result) machine.new host.new }
     {
@@ -166,7 +165,7 @@ impl<
     ) -> Result<Value, EvalError>
         requires deeper { Deeper H.Host self.now.depth F.Fn self.now.run }
         ensures told { Told H.told (λ v. v) (e.performed (context_in H.Host self.now.depth)
-            (c.user (defined_view definition.now)) 0 (bound_view given.now) self.now.script_name.now line)
+            (e.user (defined_view definition.now)) 0 (bound_view given.now) self.now.script_name.now line)
             machine.old result machine.new }
         ensures kept { Keeps H.Host machine.old host.old (stop_in result) machine.new host.new }
     {
@@ -189,7 +188,7 @@ impl<
     ) -> Result<Value, EvalError>
         requires deeper { Deeper H.Host self.now.depth F.Fn self.now.run }
         ensures told { Told H.told (λ v. v) (e.apply (context_in H.Host self.now.depth)
-            (c.user (defined_view definition.now)) args.items last self.now.script_name.now line)
+            (e.user (defined_view definition.now)) args.items last self.now.script_name.now line)
             machine.old result machine.new }
         ensures kept { Keeps H.Host machine.old host.old (stop_in result) machine.new host.new }
     {
@@ -252,7 +251,7 @@ impl<
         line: u32,
     ) -> Result<Value, EvalError>
         requires deeper { Deeper H.Host self.now.depth F.Fn self.now.run }
-        ensures told { Told H.told (λ v. v) (e.apply (context_in H.Host self.now.depth) (c.builtin builtin)
+        ensures told { Told H.told (λ v. v) (e.apply (context_in H.Host self.now.depth) (e.builtin builtin)
             args.items last self.now.script_name.now line) machine.old result machine.new }
         ensures kept { Keeps H.Host machine.old host.old (stop_in result) machine.new host.new }
     {

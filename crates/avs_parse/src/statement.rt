@@ -3,7 +3,6 @@ ghost use Rattle.std.specs.Prelude.{◌≡◌, ◌∷◌, ◌++◌, [], Some, ma
 ghost use Rattle.avs_tree.specs.View.{expr_view, arm_view, statement_view};
 ghost use Rattle.avs_tree.specs.declared.symbol.Punctuation.TheVariants.{RightParen};
 ghost use Rattle.avs_tree.specs.Lexeme.{is_punctuation};
-ghost use Rattle.avs_tree.specs.Machine as expr;
 ghost use Rattle.avs_tree.specs.Machine as machine;
 ghost use Rattle.avs_frames.specs.ExprViews.{expr_state_view, opened_view};
 ghost use Rattle.avs_parse.specs.ScriptViews.{Steps, ended_view, inner, levels_view, owner_view, statement_state_view, step_view, use_view};
@@ -24,7 +23,7 @@ use std::alloc::Global;
 #[tactic(auto, using(avs_frames::proofs::OpenLemmas::of_opened))]
 fn expression_next(alloc: Global, purpose: Use, around: Around) -> ScriptStep
     ensures { step_view result ≡ machine.goes
-        (inner around (machine.at (machine.in_expression (use_view purpose) expr.operand_next []))) }
+        (inner around (machine.at (machine.in_expression (use_view purpose) machine.operand_next []))) }
 {
     let opened = Vec::new(alloc);
     let here = StatementState::InExpression(purpose, ExprState::OperandNext, opened);
@@ -34,7 +33,7 @@ fn expression_next(alloc: Global, purpose: Use, around: Around) -> ScriptStep
 // The token has to be this punctuation, and then an expression comes next.
 fn expression_after(mark: Punctuation, purpose: Use, around: Around, token: Seen<'_>) -> ScriptStep
     ensures { step_view result ≡ (if is_punctuation mark (seen token.entry) then machine.goes
-        (inner around (machine.at (machine.in_expression (use_view purpose) expr.operand_next []))) else machine.stuck) }
+        (inner around (machine.at (machine.in_expression (use_view purpose) machine.operand_next []))) else machine.stuck) }
 {
     if !token.is(mark) {
         return refused((purpose, around));
@@ -69,7 +68,7 @@ fn function(around: Around) -> ScriptStep
 // The first token of an expression that is a statement, or of the name before `=`.
 #[tactic(auto, using(avs_frames::proofs::OpenLemmas::opened_none))]
 fn value(around: Around, token: Seen<'_>) -> Outcome<ScriptStep>
-    ensures { Steps result (inner around (machine.in_statement (expr.operand [] (seen token.entry)) machine.to_value)) }
+    ensures { Steps result (inner around (machine.in_statement (machine.operand [] (seen token.entry)) machine.to_value)) }
 {
     match operand(Vec::new(token.alloc), token) {
         Ok(ExprStep::Keeps(state, opened)) => {
@@ -84,7 +83,7 @@ fn value(around: Around, token: Seen<'_>) -> Outcome<ScriptStep>
 
 // The first token of a statement.
 fn statement(mut around: Around, token: Seen<'_>) -> Outcome<ScriptStep>
-    ensures { Steps result (machine.items_by (Some token.entry.symbol) (expr.operand [] (seen token.entry))
+    ensures { Steps result (machine.items_by (Some token.entry.symbol) (machine.operand [] (seen token.entry))
         token.entry.line (map statement_view around.before.items) (levels_view around.levels)) }
 {
     let alloc = token.alloc;
@@ -247,7 +246,7 @@ fn body(owner: Owner, around: Around, token: Seen<'_>) -> Outcome<ScriptStep>
 // After an arm: newlines, `else`, or the next statement.
 fn after_arm(arms: Vec<Arm>, around: Around, token: Seen<'_>) -> Outcome<ScriptStep>
     ensures { Steps result (inner around (machine.arms_by (Some token.entry.symbol)
-        (expr.operand [] (seen token.entry)) token.entry.line (map arm_view arms.items))) }
+        (machine.operand [] (seen token.entry)) token.entry.line (map arm_view arms.items))) }
 {
     match token.symbol {
         Symbol::Punctuation(Punctuation::Newline) => Ok(goes(

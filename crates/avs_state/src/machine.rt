@@ -9,7 +9,6 @@ ghost use Rattle.clip_graph.specs.Plan.{IsCounted, infos_among, sources_in};
 ghost use Rattle.mt_modes.specs.Modes.{mode_in};
 ghost use Rattle.avs_meaning.specs.Filters as f;
 ghost use Rattle.avs_meaning.specs.Meaning as m;
-ghost use Rattle.avs_meaning.specs.Filters as w;
 ghost use Rattle.avs_meaning.specs.State as d;
 ghost use Rattle.avs_state.specs.Answers.{Gives};
 ghost use Rattle.avs_state.specs.Sources.{source_of, sources_of, Lists};
@@ -334,7 +333,7 @@ impl Machine {
         force: bool,
         at: At<'_>,
     ) -> Result<Value, EvalError>
-        ensures gives { Gives (λ v. v) (w.set_mode_of at.entry.name.now name.now mode force at.entry.line
+        ensures gives { Gives (λ v. v) (f.set_mode_of at.entry.name.now name.now mode force at.entry.line
             (state_of self.old)) result (state_of self.new) }
         ensures asks { AsksNothing self.old self.new }
         ensures plan { (state_of self.new).plan ≡ (state_of self.old).plan }

@@ -1,7 +1,6 @@
 // The numbers of `for`, and the conditions of `if` and `while`.
 ghost use Rattle.std.specs.Prelude.{◌≡◌, ℤ, ◌+ℤ◌, option_map};
 ghost use Rattle.avs_tree.specs.View.{expr_view};
-ghost use Rattle.avs_meaning.specs.Statements as l;
 ghost use Rattle.avs_meaning.specs.Statements as s;
 ghost use Rattle.avs_state.specs.Answers.{Answers, Gives};
 ghost use Rattle.avs_state.specs.Hosts.{Told};
@@ -20,20 +19,20 @@ use std::alloc::{AllocError, Global};
 /// Whether a number is past the end of a loop.
 #[tactic(auto, unfolding(avs_meaning::specs::Statements::is_past))]
 pub(crate) fn is_past(last: i64, step: i64, i: i64) -> bool
-    ensures { result ≡ l.is_past last step i }
+    ensures { result ≡ s.is_past last step i }
 {
     if step > 0 { i > last } else { i < last }
 }
 
 fn next_number(before: i64, step: i64) -> Option<i64>
-    ensures { result ≡ l.next_number (before +ℤ step) }
+    ensures { result ≡ s.next_number (before +ℤ step) }
 {
     before.checked_add(step)
 }
 
 // The number that the variable of a loop is.
 fn number_by(alloc: Global, value: Option<Value>, at: At<'_>) -> Result<i64, EvalError>
-    ensures { Answers (λ n. n) (l.number_by at.entry.name.now value at.entry.line) result }
+    ensures { Answers (λ n. n) (s.number_by at.entry.name.now value at.entry.line) result }
 {
     match value {
         Some(Value::Int(n)) => Ok(n),
@@ -43,7 +42,7 @@ fn number_by(alloc: Global, value: Option<Value>, at: At<'_>) -> Result<i64, Eva
 
 // The variable of a loop, read again after a turn.
 fn read_number(alloc: Global, machine: &Machine, name: &Text, at: At<'_>) -> Result<i64, EvalError>
-    ensures { Gives (λ n. n) (l.read_number at.entry.name.now name.now at.entry.line (state_of machine.now)) result
+    ensures { Gives (λ n. n) (s.read_number at.entry.name.now name.now at.entry.line (state_of machine.now)) result
         (state_of machine.now) }
 {
     let value = machine.variable(alloc, name)?;
@@ -58,7 +57,7 @@ pub(crate) fn advance(
     step: i64,
     at: At<'_>,
 ) -> Result<Option<i64>, EvalError>
-    ensures { Runs (λ n. n) (l.advance at.entry.name.now name.now step at.entry.line) machine.old result machine.new }
+    ensures { Runs (λ n. n) (s.advance at.entry.name.now name.now step at.entry.line) machine.old result machine.new }
 {
     let before = read_number(alloc, machine, name, at)?;
     let Some(next) = next_number(before, step) else {
@@ -76,7 +75,7 @@ fn numbers(
     step: &Value,
     at: At<'_>,
 ) -> Result<(i64, i64, i64), EvalError>
-    ensures { Answers (λ n. n) (l.numbers at.entry.name.now at.entry.line first.now last.now step.now) result }
+    ensures { Answers (λ n. n) (s.numbers at.entry.name.now at.entry.line first.now last.now step.now) result }
 {
     match (first, last, step) {
         (Value::Int(first), Value::Int(last), Value::Int(step)) => {

@@ -2,7 +2,6 @@
 ghost use Rattle.std.specs.Prelude.{◌≡◌, ◌≤ℤ◌, pos, true};
 ghost use Rattle.std.specs.List.{list_all, list_any};
 ghost use Rattle.std.specs.Char.{to_ascii_uppercase};
-ghost use Rattle.clip_term.specs.Refusals as a;
 ghost use Rattle.clip_term.specs.Blank as b;
 ghost use Rattle.clip_term.specs.Refusals as r;
 ghost use Rattle.clip_term.specs.Space as s;
@@ -69,34 +68,34 @@ pub fn depth_of(bits: i32) -> u8
 // Whether the size of a number is over this.
 fn is_over(most: i32, number: i32) -> bool
     requires { pos 0 ≤ℤ most }
-    ensures { result ≡ a.is_over most number }
+    ensures { result ≡ r.is_over most number }
 {
     number < -most || number > most
 }
 
 /// Whether a number may be the bias of `GeneralConvolution`.
 pub fn is_bias(bias: i32) -> bool
-    ensures { result ≡ a.is_bias bias }
+    ensures { result ≡ r.is_bias bias }
 {
     !is_over(MAX_BIAS, bias)
 }
 
 /// Whether a number may be a weight.
 pub fn is_weight(entry: i32) -> bool
-    ensures { result ≡ a.is_weight entry }
+    ensures { result ≡ r.is_weight entry }
 {
     !is_over(MAX_WEIGHT, entry)
 }
 
 fn are_weights(entries: &[i32]) -> bool
-    ensures { result ≡ list_all a.is_weight entries.now }
+    ensures { result ≡ list_all r.is_weight entries.now }
 {
     entries.iter().all(|entry| is_weight(*entry))
 }
 
 /// Whether numbers are a matrix: 9 or 25 weights.
 pub fn is_matrix(entries: &[i32]) -> bool
-    ensures { result ≡ a.is_matrix entries.now }
+    ensures { result ≡ r.is_matrix entries.now }
 {
     (entries.len() == 9 || entries.len() == 25) && are_weights(entries)
 }

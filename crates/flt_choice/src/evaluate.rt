@@ -3,7 +3,6 @@ ghost use Rattle.std.specs.Prelude.{◌≡◌, map};
 ghost use Rattle.std.specs.Int.{int_min, int_max};
 ghost use Rattle.clip_term.specs.Expression as e;
 ghost use Rattle.clip_term.specs.Expression.{expr_view, step_view, exprs_of, steps_of};
-ghost use Rattle.clip_term.specs.Expression as v;
 ghost use Rattle.flt_choice.specs.Table.{stats_in, stat_number};
 
 use clip_term::{PlaneStat, RunExpr, RunOper, RunStep};
@@ -30,7 +29,7 @@ fn statistic(table: &[u16], plane: u32, stat: PlaneStat) -> u16
 }
 
 fn quotient(a: i64, b: i64) -> Option<i64>
-    ensures { result ≡ v.by_oper RunOper.Divide a b }
+    ensures { result ≡ e.by_oper RunOper.Divide a b }
 {
     if b == 0 {
         return None;
@@ -39,7 +38,7 @@ fn quotient(a: i64, b: i64) -> Option<i64>
 }
 
 fn remainder(a: i64, b: i64) -> Option<i64>
-    ensures { result ≡ v.by_oper RunOper.Remainder a b }
+    ensures { result ≡ e.by_oper RunOper.Remainder a b }
 {
     if b == 0 {
         return None;
@@ -48,7 +47,7 @@ fn remainder(a: i64, b: i64) -> Option<i64>
 }
 
 fn operated(op: RunOper, a: i64, b: i64) -> Option<i64>
-    ensures { result ≡ v.by_oper op a b }
+    ensures { result ≡ e.by_oper op a b }
 {
     match op {
         RunOper::Plus => a.checked_add(b),
@@ -61,7 +60,7 @@ fn operated(op: RunOper, a: i64, b: i64) -> Option<i64>
 }
 
 fn both_operated(op: RunOper, a: Option<i64>, b: Option<i64>) -> Option<i64>
-    ensures { result ≡ v.both_of (v.by_oper op) a b }
+    ensures { result ≡ e.both_of (e.by_oper op) a b }
 {
     match (a, b) {
         (Some(a), Some(b)) => operated(op, a, b),
@@ -70,7 +69,7 @@ fn both_operated(op: RunOper, a: Option<i64>, b: Option<i64>) -> Option<i64>
 }
 
 fn lesser(a: Option<i64>, b: Option<i64>) -> Option<i64>
-    ensures { result ≡ v.both_of (v.picked int_min) a b }
+    ensures { result ≡ e.both_of (e.picked int_min) a b }
 {
     match (a, b) {
         (Some(a), Some(b)) => Some(a.min(b)),
@@ -79,7 +78,7 @@ fn lesser(a: Option<i64>, b: Option<i64>) -> Option<i64>
 }
 
 fn greater(a: Option<i64>, b: Option<i64>) -> Option<i64>
-    ensures { result ≡ v.both_of (v.picked int_max) a b }
+    ensures { result ≡ e.both_of (e.picked int_max) a b }
 {
     match (a, b) {
         (Some(a), Some(b)) => Some(a.max(b)),
@@ -88,7 +87,7 @@ fn greater(a: Option<i64>, b: Option<i64>) -> Option<i64>
 }
 
 fn absolute(a: Option<i64>) -> Option<i64>
-    ensures { result ≡ v.one_of v.absolute a }
+    ensures { result ≡ e.one_of e.absolute a }
 {
     match a {
         Some(a) => a.checked_abs(),
@@ -97,7 +96,7 @@ fn absolute(a: Option<i64>) -> Option<i64>
 }
 
 fn negative(a: Option<i64>) -> Option<i64>
-    ensures { result ≡ v.one_of v.negative a }
+    ensures { result ≡ e.one_of e.negative a }
 {
     match a {
         Some(a) => a.checked_neg(),
@@ -109,7 +108,7 @@ fn negative(a: Option<i64>) -> Option<i64>
 #[cycle(evaluate)]
 #[tactic(auto, using(crate::proofs::EvaluateLemmas::evaluating))]
 pub(crate) fn evaluate(expr: &RunExpr, n: u32, table: &[u16]) -> Option<i64>
-    ensures { result ≡ v.value n (stats_in table.now) (expr_view expr.now) }
+    ensures { result ≡ e.value n (stats_in table.now) (expr_view expr.now) }
 {
     match expr {
         RunExpr::Int(number) => Some(*number),
@@ -128,7 +127,7 @@ pub(crate) fn evaluate(expr: &RunExpr, n: u32, table: &[u16]) -> Option<i64>
 #[cycle(evaluate)]
 #[tactic(auto, using(crate::proofs::EvaluateLemmas::evaluating, crate::proofs::EvaluateLemmas::exprs_more))]
 fn least_of(all: &[RunExpr], n: u32, table: &[u16]) -> Option<i64>
-    ensures { result ≡ v.of_all int_min n (stats_in table.now) (exprs_of (map expr_view all.now)) }
+    ensures { result ≡ e.of_all int_min n (stats_in table.now) (exprs_of (map expr_view all.now)) }
 {
     let [first, rest @ ..] = all else {
         return None;
@@ -143,7 +142,7 @@ fn least_of(all: &[RunExpr], n: u32, table: &[u16]) -> Option<i64>
 #[cycle(evaluate)]
 #[tactic(auto, using(crate::proofs::EvaluateLemmas::evaluating, crate::proofs::EvaluateLemmas::exprs_more))]
 fn greatest_of(all: &[RunExpr], n: u32, table: &[u16]) -> Option<i64>
-    ensures { result ≡ v.of_all int_max n (stats_in table.now) (exprs_of (map expr_view all.now)) }
+    ensures { result ≡ e.of_all int_max n (stats_in table.now) (exprs_of (map expr_view all.now)) }
 {
     let [first, rest @ ..] = all else {
         return None;
@@ -159,7 +158,7 @@ fn greatest_of(all: &[RunExpr], n: u32, table: &[u16]) -> Option<i64>
 #[cycle(evaluate)]
 #[tactic(auto, using(crate::proofs::EvaluateLemmas::evaluating, crate::proofs::EvaluateLemmas::steps_more))]
 fn along(first: Option<i64>, rest: &[RunStep], n: u32, table: &[u16]) -> Option<i64>
-    ensures { result ≡ v.along n (stats_in table.now) first (steps_of (map step_view rest.now)) }
+    ensures { result ≡ e.along n (stats_in table.now) first (steps_of (map step_view rest.now)) }
 {
     let mut value = first;
     for step in rest {

@@ -3,14 +3,13 @@ use Rattle.std.proofs.Common.{◌≡◌, ◌-◌, map, drop, IsTrue}
 use Rattle.avs_tree.specs.View.{expr_view, arm_view, statement_view, block_of, block_view, arms_of}
 use Rattle.avs_meaning.specs.Statements as m
 use Rattle.avs_state.specs.States.{state_of}
-use Rattle.avs_meaning.specs.Statements as s
 use Rattle.avs_statements.specs.Turns as r
 use Rattle.avs_state.proofs.Kept.{Kept}
 use Rattle.avs_statements.proofs.executor.Executor.+statements.Given as goal
 
 abbrev pub invariant-arms_of-loop-arm : goal.invariant-arms_of-loop-arm
 invariant-arms_of-loop-arm g l =
-    let arms = s.arms_of (g.E.Evaluator.context l.self.evaluator.now) (g.E.Evaluator.here l.self.evaluator.now) in
+    let arms = m.arms_of (g.E.Evaluator.context l.self.evaluator.now) (g.E.Evaluator.here l.self.evaluator.now) in
     record {
       told : IsTrue g.H.Host.told → arms (arms_of (map arm_view (drop l.arm-index l.arms))) l.line (state_of l.machine)
           ≡ arms (arms_of (map arm_view l.arms)) l.line (state_of l.fn.machine);
@@ -19,8 +18,8 @@ invariant-arms_of-loop-arm g l =
 
 abbrev pub invariant-turns-loop-turn : goal.invariant-turns-loop-turn
 invariant-turns-loop-turn g l =
-    let test = s.condition (g.E.Evaluator.context l.self.evaluator.now) (g.E.Evaluator.here l.self.evaluator.now) (expr_view l.test) l.line in
-    let body = s.block_of (g.E.Evaluator.context l.self.evaluator.now) (g.E.Evaluator.here l.self.evaluator.now) (block_view l.body) in
+    let test = m.condition (g.E.Evaluator.context l.self.evaluator.now) (g.E.Evaluator.here l.self.evaluator.now) (expr_view l.test) l.line in
+    let body = m.block_of (g.E.Evaluator.context l.self.evaluator.now) (g.E.Evaluator.here l.self.evaluator.now) (block_view l.body) in
     record {
       told : IsTrue g.H.Host.told → m.turns (g.E.Evaluator.here l.self.evaluator.now) (l.most - l._turn) test l.line body (state_of l.machine)
           ≡ r.loop_of (g.E.Evaluator.context l.self.evaluator.now) (g.E.Evaluator.here l.self.evaluator.now) (expr_view l.test) l.line (block_view l.body) (state_of l.fn.machine);
@@ -29,7 +28,7 @@ invariant-turns-loop-turn g l =
 
 abbrev pub invariant-counts-loop-turn : goal.invariant-counts-loop-turn
 invariant-counts-loop-turn g l =
-    let body = s.block_of (g.E.Evaluator.context l.self.evaluator.now) (g.E.Evaluator.here l.self.evaluator.now) (block_view l.body) in
+    let body = m.block_of (g.E.Evaluator.context l.self.evaluator.now) (g.E.Evaluator.here l.self.evaluator.now) (block_view l.body) in
     record {
       told : IsTrue g.H.Host.told
           → m.counts (g.E.Evaluator.here l.self.evaluator.now) (l.most - l._turn) l.name l.counter.at l.counter.last l.counter.step l.line body (state_of l.machine)
@@ -39,7 +38,7 @@ invariant-counts-loop-turn g l =
 
 abbrev pub invariant-block_of-loop-statement : goal.invariant-block_of-loop-statement
 invariant-block_of-loop-statement g l =
-    let block = s.block_of (g.E.Evaluator.context l.self.evaluator.now) (g.E.Evaluator.here l.self.evaluator.now) in
+    let block = m.block_of (g.E.Evaluator.context l.self.evaluator.now) (g.E.Evaluator.here l.self.evaluator.now) in
     record {
       told : IsTrue g.H.Host.told → block (block_of (map statement_view (drop l.statement-index l.body))) (state_of l.machine)
           ≡ block (block_view l.body) (state_of l.fn.machine);
