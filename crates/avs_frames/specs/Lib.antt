@@ -1,3 +1,4 @@
 pub mod Seen
 pub mod ExprViews
 pub mod Open
+pub mod ScriptViews

@@ -1,5 +1,3 @@
-pub mod RowLemmas
-pub mod LevelLemmas
 pub mod OpenLemmas
 pub mod TurnLemmas
 pub mod NumberLemmas

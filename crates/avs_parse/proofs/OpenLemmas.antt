@@ -15,12 +15,12 @@ use Rattle.avs_tree.specs.declared.tree.Parameter.{Parameter}
 use Rattle.avs_tree.specs.Machine.{Open, argument, ExprState, operand_next, value_read, name_read, args_opened, dot_read, method_read, calls_read, call_of, method_of, ExprStep, keeps, leaves, refused, operand, operand_by, grow, grow_by, grows, called, Closing, no_closing, taken, reopened, closed, closing, by_closing, close, after, after_calls, method_by, expr_step, Use, to_value, to_global, to_assign, to_return, to_arm, to_while, to_first, to_last, to_step, Owner, arm_of, else_of, while_of, for_of, Levels, top, in_function, level, StatementState, statement_next, in_expression, parenthesis_next, braces_next, after_arm, after_else, after_global, after_global_name, after_for, for_opened, after_for_name, HeadState, after_function, after_function_name, head_opened, after_type, after_parameter, parameter_next, function_braces_next, State, start, at, at_head, Step, stuck, goes, whole, close_by, end_by, in_statement, function_by, items_by, done_by, assigned, used, expression_by, body_by, arms_by, other_by, global_by, for_by, advance_statement, function_name_by, type_by, with_parameter, parameter_by, function_body_by, advance_head, advance}
 use Rattle.avs_frames.specs.ExprViews.{open_view, onto, opened_view}
 use Rattle.avs_frames.specs.declared.state.Open as f
-use Rattle.avs_parse.specs.ScriptViews.{state_view, statement_state_view}
+use Rattle.avs_frames.specs.ScriptViews.{state_view, statement_state_view}
 use Rattle.avs_parse.specs.Turns.{open_here, open_in}
-use Rattle.avs_parse.specs.declared.state.StatementState as c
-use Rattle.avs_parse.specs.declared.state.StatementState.TheVariants as n
-use Rattle.avs_parse.specs.declared.state.State as q
-use Rattle.avs_parse.specs.declared.state.State.TheVariants as v
+use Rattle.avs_frames.specs.declared.script_state.StatementState as c
+use Rattle.avs_frames.specs.declared.script_state.StatementState.TheVariants as n
+use Rattle.avs_frames.specs.declared.script_state.State as q
+use Rattle.avs_frames.specs.declared.script_state.State.TheVariants as v
 
 in_if : {A : Type 0} (P : A → Type 0) (b : Bool) (x y : A) → (b ≡ true → P x) → (b ≡ false → P y) → P (if b then x else y)
 in_if P true x y f g = f refl

@@ -1,5 +1,4 @@
 pub mod Place
-pub mod ScriptViews
 pub mod Turns
 pub mod VerdictView
 pub mod Load

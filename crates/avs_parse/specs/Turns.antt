@@ -3,13 +3,13 @@ use Rattle.std.specs.Prelude.{◌≡◌, ℕ, ◌*◌, ◌<◌, ◌≤◌, lengt
 use Rattle.avs_tree.specs.Lexeme.{Lexemes}
 use Rattle.avs_tree.specs.Machine as m
 use Rattle.avs_frames.specs.declared.memory.OutOfMemory.{OutOfMemory}
-use Rattle.avs_parse.specs.ScriptViews.{state_view, step_view}
-use Rattle.avs_parse.specs.declared.state.StatementState.{StatementState}
-use Rattle.avs_parse.specs.declared.state.StatementState.TheVariants as n
-use Rattle.avs_parse.specs.declared.state.State.{State}
-use Rattle.avs_parse.specs.declared.state.State.TheVariants as s
-use Rattle.avs_parse.specs.declared.state.Turn.{Turn}
-use Rattle.avs_parse.specs.declared.state.Turn.TheVariants.{Does, Again}
+use Rattle.avs_frames.specs.ScriptViews.{state_view, step_view}
+use Rattle.avs_frames.specs.declared.script_state.StatementState.{StatementState}
+use Rattle.avs_frames.specs.declared.script_state.StatementState.TheVariants as n
+use Rattle.avs_frames.specs.declared.script_state.State.{State}
+use Rattle.avs_frames.specs.declared.script_state.State.TheVariants as s
+use Rattle.avs_parse.specs.declared.turn.Turn.{Turn}
+use Rattle.avs_parse.specs.declared.turn.Turn.TheVariants.{Does, Again}
 
 -- What the token does in the end, which is these tokens' first: where it is read again, what it does to what is left.
 abbrev pub turn_view : Lexemes → Turn → m.Step

@@ -2,13 +2,10 @@
 ghost use Rattle.std.specs.Prelude.{◌≡◌, [], Some, IfOk};
 ghost use Rattle.avs_tree.specs.Lexeme.{type_word_of};
 ghost use Rattle.avs_tree.specs.Machine as machine;
-ghost use Rattle.avs_parse.specs.ScriptViews.{Steps, head_state_view, outer, step_view};
+ghost use Rattle.avs_frames.specs.ScriptViews.{Steps, head_state_view, outer, step_view};
 ghost use Rattle.avs_frames.specs.Seen.{seen};
 
-use crate::around::Around;
-use crate::block::refused;
-use crate::state::{HeadState, ScriptStep, Signature, State};
-use avs_frames::{Outcome, Seen, pushed};
+use avs_frames::{Around, HeadState, Outcome, ScriptStep, Seen, Signature, State, pushed, refused};
 use avs_tree::{Parameter, Punctuation, Symbol, TypeWord, is_name, type_word};
 use fv_io::Text;
 

@@ -6,17 +6,16 @@ ghost use Rattle.avs_tree.specs.View.{script_view};
 ghost use Rattle.avs_tree.specs.Machine as machine;
 ghost use Rattle.avs_tree.specs.Place as place;
 ghost use Rattle.avs_tree.specs.Place.{verdict, alone, go_on};
-ghost use Rattle.avs_parse.specs.ScriptViews.{state_view, step_view};
+ghost use Rattle.avs_frames.specs.ScriptViews.{state_view, step_view};
 ghost use Rattle.avs_parse.specs.Turns.{AreFew, IsFewer, Turns, open_in};
 ghost use Rattle.avs_parse.specs.VerdictView.{verdict_view};
 ghost use Rattle.avs_frames.specs.Seen.{seen};
 
-use crate::around::{Around, Levels};
-use crate::block::did;
 use crate::head::advance_head;
-use crate::state::{ScriptStep, State, StatementState, Turn};
+use crate::nesting::is_deeper;
 use crate::statement::advance_statement;
-use avs_frames::{Outcome, Seen};
+use crate::turn::{Turn, did};
+use avs_frames::{Around, Levels, Outcome, ScriptStep, Seen, State, StatementState};
 use avs_lex::Token;
 use avs_tree::Script;
 use std::alloc::Global;
@@ -105,7 +104,7 @@ fn judged(step: ScriptStep, text: &str, after: &[Token]) -> Result<State, Verdic
         ScriptStep::Refused => Err(Verdict::Stops(1 + after.len())),
         ScriptStep::Whole(script) => Err(alone(script, text, after)),
         ScriptStep::Goes(next) => {
-            if next.is_deeper(NESTING_LIMIT) {
+            if is_deeper(&next, NESTING_LIMIT) {
                 // Dropped in place, each part of the state would be a step of this proof.
                 drop(next);
                 return Err(Verdict::TooDeep(1 + after.len()));

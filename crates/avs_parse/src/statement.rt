@@ -5,16 +5,15 @@ ghost use Rattle.avs_tree.specs.declared.symbol.Punctuation.TheVariants.{RightPa
 ghost use Rattle.avs_tree.specs.Lexeme.{is_punctuation};
 ghost use Rattle.avs_tree.specs.Machine as machine;
 ghost use Rattle.avs_frames.specs.ExprViews.{expr_state_view, opened_view};
-ghost use Rattle.avs_parse.specs.ScriptViews.{Steps, ended_view, inner, levels_view, owner_view, statement_state_view, step_view, use_view};
+ghost use Rattle.avs_frames.specs.ScriptViews.{Steps, ended_view, inner, levels_view, owner_view, statement_state_view, step_view, use_view};
 ghost use Rattle.avs_parse.specs.Turns.{Turns, IsFewer, open_here};
 ghost use Rattle.avs_frames.specs.Seen.{seen};
 
-use crate::around::Around;
-use crate::block::{did, done, goes, refused};
-use crate::state::{
-    Ended, ForHead, HeadState, Owner, ScriptStep, State, StatementState, Turn, Use,
+use crate::turn::{Turn, did};
+use avs_frames::{
+    Around, Ended, ExprState, ExprStep, ExprTurn, ForHead, HeadState, Open, Outcome, Owner,
+    ScriptStep, Seen, State, StatementState, Use, expr_step, goes, operand, refused,
 };
-use avs_frames::{ExprState, ExprStep, ExprTurn, Open, Outcome, Seen, expr_step, operand};
 use avs_tree::{Arm, Expr, Keyword, Punctuation, Symbol};
 use fv_io::Text;
 use std::alloc::Global;
@@ -55,7 +54,7 @@ fn braces_after(owner: Owner, around: Around, token: Seen<'_>) -> ScriptStep
 // ---- the first token of a statement
 
 // `function`
-#[tactic(auto, using(crate::proofs::LevelLemmas::top_within, crate::proofs::LevelLemmas::no_function))]
+#[tactic(auto, using(avs_frames::proofs::LevelLemmas::top_within, avs_frames::proofs::LevelLemmas::no_function))]
 fn function(around: Around) -> ScriptStep
     ensures { step_view result ≡ inner around machine.function_by }
 {
@@ -111,6 +110,22 @@ fn statement(mut around: Around, token: Seen<'_>) -> Outcome<ScriptStep>
 }
 
 // ---- after an expression
+
+// The token after a statement: a newline, `}` or the end.
+fn done(around: Around, token: Seen<'_>) -> Outcome<ScriptStep>
+    ensures { Steps result (machine.done_by (Some token.entry.symbol)
+        (map statement_view around.before.items) around.line (levels_view around.levels)) }
+{
+    match token.symbol {
+        Symbol::Punctuation(Punctuation::Newline) => Ok(goes(
+            StatementState::StatementNext,
+            around,
+        )),
+        Symbol::Punctuation(Punctuation::RightBrace) => around.close(token.alloc),
+        Symbol::Punctuation(Punctuation::End) => Ok(around.end()),
+        _ => Ok(refused(around)),
+    }
+}
 
 // After the last expression of a statement.
 fn finish(ended: Ended, around: Around, token: Seen<'_>) -> Outcome<ScriptStep>

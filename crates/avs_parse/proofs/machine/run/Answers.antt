@@ -2,7 +2,7 @@ use Rattle.std.proofs.Common.{◌≡◌, sym, ap, subst, ◌∙◌, ◌-◌, ◌
 use Rattle.avs_lex.specs.Tokens.{IsTokenOf}
 use Rattle.avs_tree.specs.Lexeme.{lexemes}
 use Rattle.avs_tree.specs.Place as p
-use Rattle.avs_parse.specs.ScriptViews.{state_view, step_view}
+use Rattle.avs_frames.specs.ScriptViews.{state_view, step_view}
 use Rattle.avs_parse.specs.Turns.{open_in}
 use Rattle.avs_parse.specs.VerdictView.{verdict_view}
 use Rattle.avs_parse.proofs.OpenLemmas.{opens_few, start_none}

@@ -2,11 +2,13 @@
 ghost use Rattle.std.specs.Prelude.{◌≡◌, ◌∷◌, ◌++◌, [], map, option_map, IfOk};
 ghost use Rattle.avs_tree.specs.View.{expr_view, function_view, kind_view, statement_view};
 ghost use Rattle.avs_tree.specs.Machine as machine;
-ghost use Rattle.avs_parse.specs.ScriptViews.{Steps, ended_view, inner, outer, level_view, levels_view, owner_view, step_view};
+ghost use Rattle.avs_frames.specs.ScriptViews.{Steps, ended_view, inner, outer, level_view, levels_view, owner_view, step_view};
 
 use crate::block::{close_level, close_outermost, goes, refused};
-use crate::state::{Ended, Level, OpenFunction, Owner, ScriptStep, Signature, StatementState};
-use avs_frames::{Outcome, pushed};
+use crate::memory::{Outcome, pushed};
+use crate::script_state::{
+    Ended, Level, OpenFunction, Owner, ScriptStep, Signature, StatementState,
+};
 use avs_tree::{Expr, Function, Script, Statement, StatementKind};
 use std::alloc::Global;
 
@@ -109,6 +111,18 @@ impl Levels {
             function: None,
             functions,
         }
+    }
+
+    /// How many braces are open.
+    #[tactic(auto, using(crate::proofs::LevelLemmas::depth_within))]
+    pub fn depth(&self) -> usize
+        ensures { result ≡ machine.depth (levels_view self.now) }
+    {
+        let outermost = match self.function {
+            Some(_) => 1,
+            None => 0,
+        };
+        self.inner.len() + outermost
     }
 
     // The functions, without the braces.

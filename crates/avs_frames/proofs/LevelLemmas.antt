@@ -3,9 +3,9 @@ use Rattle.std.proofs.Common.{◌≡◌, refl, ℕ, ◌+◌, ◌<◌, ◌≤◌,
 use Rattle.avs_tree.specs.Tree as t
 use Rattle.avs_tree.specs.View.{StatementIs}
 use Rattle.avs_tree.specs.Machine as m
-use Rattle.avs_parse.specs.ScriptViews.{level_view, inside, within, outermost_view}
-use Rattle.avs_parse.specs.declared.state.Level.{Level}
-use Rattle.avs_parse.specs.declared.state.OpenFunction.{OpenFunction}
+use Rattle.avs_frames.specs.ScriptViews.{level_view, inside, within, outermost_view}
+use Rattle.avs_frames.specs.declared.script_state.Level.{Level}
+use Rattle.avs_frames.specs.declared.script_state.OpenFunction.{OpenFunction}
 
 inside_push : (outer : m.Levels) (ls : List Level) (l : Level) → inside outer (ls ++ l ∷ []) ≡ level_view l (inside outer ls)
 inside_push outer [] l = refl

@@ -1,16 +1,15 @@
-// The ends of statements, of blocks and of the script.
-ghost use Rattle.std.specs.Prelude.{◌≡◌, ◌∷◌, ◌++◌, [], Some, map, Ok, Err, IfOk, MatchResult};
+// The ends of blocks.
+ghost use Rattle.std.specs.Prelude.{◌≡◌, ◌∷◌, ◌++◌, [], map, IfOk};
 ghost use Rattle.avs_tree.specs.View.{expr_view, arm_view, function_view, statement_view, block_view};
 ghost use Rattle.avs_tree.specs.Machine as machine;
-ghost use Rattle.avs_parse.specs.ScriptViews.{Steps, ended_view, inner, levels_view, owner_view, outermost_view, statement_state_view, step_view};
-ghost use Rattle.avs_parse.specs.declared.state.Turn.TheVariants.{Does};
+ghost use Rattle.avs_frames.specs.ScriptViews.{Steps, ended_view, inner, levels_view, owner_view, outermost_view, statement_state_view, step_view};
 
 use crate::around::{Around, Levels};
-use crate::state::{
-    Ended, OpenFunction, Owner, ScriptStep, Signature, State, StatementState, Turn,
+use crate::memory::{Outcome, pushed};
+use crate::script_state::{
+    Ended, OpenFunction, Owner, ScriptStep, Signature, State, StatementState,
 };
-use avs_frames::{Outcome, Seen, pushed};
-use avs_tree::{Arm, Expr, Function, Punctuation, Statement, Symbol};
+use avs_tree::{Arm, Expr, Function, Statement};
 use std::alloc::Global;
 
 /// The token cannot stand there. What was read is dropped here: dropped in place, each part of it would be a step of the
@@ -19,16 +18,6 @@ pub fn refused<T: Drop>(_read: T) -> ScriptStep
     ensures { step_view result ≡ machine.stuck }
 {
     ScriptStep::Refused
-}
-
-/// What the token does is the whole turn.
-pub fn did(step: Outcome<ScriptStep>) -> Outcome<Turn>
-    ensures { MatchResult step (λ made. result ≡ Ok (Does made)) (λ error. result ≡ Err error) }
-{
-    match step {
-        Ok(step) => Ok(Turn::Does(step)),
-        Err(error) => Err(error),
-    }
 }
 
 /// The script goes on with this in a statement.
@@ -125,21 +114,5 @@ pub fn close_outermost(
             Ok(goes(StatementState::StatementNext, around))
         }
         Err(error) => Err(error),
-    }
-}
-
-/// The token after a statement: a newline, `}` or the end.
-pub fn done(around: Around, token: Seen<'_>) -> Outcome<ScriptStep>
-    ensures { Steps result (machine.done_by (Some token.entry.symbol)
-        (map statement_view around.before.items) around.line (levels_view around.levels)) }
-{
-    match token.symbol {
-        Symbol::Punctuation(Punctuation::Newline) => Ok(goes(
-            StatementState::StatementNext,
-            around,
-        )),
-        Symbol::Punctuation(Punctuation::RightBrace) => around.close(token.alloc),
-        Symbol::Punctuation(Punctuation::End) => Ok(around.end()),
-        _ => Ok(refused(around)),
     }
 }

@@ -5,25 +5,25 @@ use Rattle.avs_tree.specs.View.{StatementIs, expr_view, arm_view, statement_view
 use Rattle.avs_tree.specs.Machine as m
 use Rattle.avs_frames.specs.ExprViews.{opened_view, expr_state_view}
 use Rattle.avs_frames.specs.declared.memory.OutOfMemory.{OutOfMemory}
-use Rattle.avs_parse.specs.declared.state.Use.{Use}
-use Rattle.avs_parse.specs.declared.state.Use.TheVariants as u
-use Rattle.avs_parse.specs.declared.state.ForHead.{ForHead}
-use Rattle.avs_parse.specs.declared.state.Owner.{Owner}
-use Rattle.avs_parse.specs.declared.state.Owner.TheVariants as o
-use Rattle.avs_parse.specs.declared.state.Ended.{Ended}
-use Rattle.avs_parse.specs.declared.state.Ended.TheVariants as e
-use Rattle.avs_parse.specs.declared.state.Level.{Level}
-use Rattle.avs_parse.specs.declared.state.OpenFunction.{OpenFunction}
-use Rattle.avs_parse.specs.declared.around.Levels.{Levels}
-use Rattle.avs_parse.specs.declared.around.Around.{Around}
-use Rattle.avs_parse.specs.declared.state.StatementState.{StatementState}
-use Rattle.avs_parse.specs.declared.state.StatementState.TheVariants as n
-use Rattle.avs_parse.specs.declared.state.HeadState.{HeadState}
-use Rattle.avs_parse.specs.declared.state.HeadState.TheVariants as h
-use Rattle.avs_parse.specs.declared.state.State.{State}
-use Rattle.avs_parse.specs.declared.state.State.TheVariants as s
-use Rattle.avs_parse.specs.declared.state.ScriptStep.{ScriptStep}
-use Rattle.avs_parse.specs.declared.state.ScriptStep.TheVariants as r
+use Rattle.avs_frames.specs.declared.script_state.Use.{Use}
+use Rattle.avs_frames.specs.declared.script_state.Use.TheVariants as u
+use Rattle.avs_frames.specs.declared.script_state.ForHead.{ForHead}
+use Rattle.avs_frames.specs.declared.script_state.Owner.{Owner}
+use Rattle.avs_frames.specs.declared.script_state.Owner.TheVariants as o
+use Rattle.avs_frames.specs.declared.script_state.Ended.{Ended}
+use Rattle.avs_frames.specs.declared.script_state.Ended.TheVariants as e
+use Rattle.avs_frames.specs.declared.script_state.Level.{Level}
+use Rattle.avs_frames.specs.declared.script_state.OpenFunction.{OpenFunction}
+use Rattle.avs_frames.specs.declared.around.Levels.{Levels}
+use Rattle.avs_frames.specs.declared.around.Around.{Around}
+use Rattle.avs_frames.specs.declared.script_state.StatementState.{StatementState}
+use Rattle.avs_frames.specs.declared.script_state.StatementState.TheVariants as n
+use Rattle.avs_frames.specs.declared.script_state.HeadState.{HeadState}
+use Rattle.avs_frames.specs.declared.script_state.HeadState.TheVariants as h
+use Rattle.avs_frames.specs.declared.script_state.State.{State}
+use Rattle.avs_frames.specs.declared.script_state.State.TheVariants as s
+use Rattle.avs_frames.specs.declared.script_state.ScriptStep.{ScriptStep}
+use Rattle.avs_frames.specs.declared.script_state.ScriptStep.TheVariants as r
 
 abbrev pub use_view : Use → m.Use
 use_view u.Value = m.to_value

@@ -1,6 +1,6 @@
 // What was read of a script: what is open in it, and the parts of its tree so far.
 use crate::around::Around;
-use avs_frames::{ExprState, Open};
+use crate::state::{ExprState, Open};
 use avs_tree::{Arm, Expr, Parameter, Script, Statement, TypeWord};
 use fv_io::Text;
 
@@ -143,12 +143,4 @@ pub enum ScriptStep {
     Goes(State),
     /// It ends the script.
     Whole(Script),
-}
-
-/// What a turn does to a script.
-pub enum Turn {
-    /// What the token does.
-    Does(ScriptStep),
-    /// Something that was open in an expression ends before the token, which is read again.
-    Again(State),
 }
