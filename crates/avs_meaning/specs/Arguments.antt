@@ -124,7 +124,7 @@ unlabelled (Some x) e es = None
 
 -- The expression of the parts of a script's expression. A text, method calls and `?:` are no parts.
 abbrev mutual
-  pub part_of : t.Expr → Option Expr
+  pub part_of : tree.Expr → Option Expr
   part_of (tree.int n) = Some (int n)
   part_of (tree.bool b) = Some (bool b)
   part_of (tree.str x) = None
@@ -138,11 +138,11 @@ abbrev mutual
   part_of (tree.conditional c a b line) = None
   part_of (tree.group e) = option_map group (part_of e)
 
-  pub parts_of : t.Args → Option (List Expr)
+  pub parts_of : tree.Args → Option (List Expr)
   parts_of tree.no_args = Some []
   parts_of (tree.arg x e es) = unlabelled x (part_of e) (parts_of es)
 
-  pub operated : t.Steps → Option (List StepIs)
+  pub operated : tree.Steps → Option (List StepIs)
   operated tree.no_steps = Some []
   operated (tree.step by e line ss) = stepped (oper_of by) (part_of e) (operated ss)
 
@@ -161,17 +161,17 @@ typed chroma (Some e) = if is_number (planes_of chroma) e then Some e else None
 typed chroma None = None
 
 -- a statement that is an expression
-abbrev pub of_kind : Bool → t.Kind → Option Expr
+abbrev pub of_kind : Bool → tree.Kind → Option Expr
 of_kind chroma (tree.value e) = typed chroma (part_of e)
 of_kind chroma _ = None
 
 -- one statement alone
-abbrev pub of_statements : Bool → t.Block → Option Expr
+abbrev pub of_statements : Bool → tree.Block → Option Expr
 of_statements chroma (tree.then_ kind line tree.no_more) = of_kind chroma kind
 of_statements chroma _ = None
 
 -- a script without functions
-abbrev pub of_functions : Bool → List t.Function → t.Block → Option Expr
+abbrev pub of_functions : Bool → List tree.Function → tree.Block → Option Expr
 of_functions chroma [] statements = of_statements chroma statements
 of_functions chroma _ statements = None
 

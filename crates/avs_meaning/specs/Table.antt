@@ -13,7 +13,6 @@ use Rattle.avs_values.specs.declared.plain_fn.PlainFn.{PlainFn}
 use Rattle.avs_values.specs.declared.plain_fn.PlainFn.TheVariants as p
 use Rattle.avs_values.specs.declared.value.Kind.{Kind}
 use Rattle.avs_values.specs.declared.value.Kind.TheVariants as k
-use Rattle.avs_values.specs.declared.value.Kind.TheVariants as kind
 use Rattle.avs_values.specs.declared.value.Value.{Value}
 use Rattle.clip_term.specs.Blank.{default_colour}
 use Rattle.clip_term.specs.Filters.{channels_named}
@@ -131,7 +130,7 @@ of_clips signature act = row signature (λ a. Ok act)
 
 -- one clip alone
 abbrev of_clip : Act → FilterRow
-of_clip act = of_clips (one kind.Clip) act
+of_clip act = of_clips (one k.Clip) act
 
 -- what isn't made of clips by its arguments alone
 abbrev of_none : List Signature → FilterRow
@@ -140,9 +139,9 @@ of_none signatures = record { signatures = signatures; reads = λ a. Err fault.N
 -- ---- the rows
 
 abbrev pub filter_row : Filter → FilterRow
-filter_row f.Y4MSource = of_none (one kind.Text ∷ [])
+filter_row f.Y4MSource = of_none (one k.Text ∷ [])
 filter_row f.BlankClip =
-    of_none (only (blank_options ++ optional kind.Clip (codes "clip") ∷ []) ∷ only (required kind.Clip ∷ blank_options) ∷ [])
+    of_none (only (blank_options ++ optional k.Clip (codes "clip") ∷ []) ∷ only (required k.Clip ∷ blank_options) ∷ [])
 filter_row f.Trim =
     by_values (only (numbered 1 (codes "last" ∷ codes "length" ∷ codes "end" ∷ [])))
     (λ v. trims (number v 1) (trim_bound (number_at v 2) (number_at v 3) (number_at v 4)))
@@ -167,9 +166,9 @@ filter_row f.ChangeFPS =
     by_values (only (numbered 1 (codes "denominator" ∷ [])))
     (λ v. Ok (time (t.ChangeFPS (number v 1) (or_number v 2 (pos 1)))))
 -- It calls a function, so it is made elsewhere.
-filter_row f.ApplyRange = of_none (one kind.Clip ∷ [])
+filter_row f.ApplyRange = of_none (one k.Clip ∷ [])
 filter_row f.Crop =
-    by_values (only (numbered 4 [] ++ optional kind.Bool (codes "align") ∷ []))
+    by_values (only (numbered 4 [] ++ optional k.Bool (codes "align") ∷ []))
     (λ v. Ok (space (s.Crop (number v 1) (number v 2) (number v 3) (number v 4))))
 filter_row f.CropBottom = by_values (only (numbered 1 [])) (λ v. Ok (space (s.CropBottom (number v 1))))
 filter_row f.AddBorders =
@@ -185,7 +184,7 @@ filter_row f.TurnLeft = of_clip (space s.TurnLeft)
 filter_row f.TurnRight = of_clip (space s.TurnRight)
 filter_row f.Greyscale = of_clip (space s.Greyscale)
 filter_row f.Invert =
-    by_values (only (required kind.Clip ∷ optional kind.Text (codes "channels") ∷ []))
+    by_values (only (required k.Clip ∷ optional k.Text (codes "channels") ∷ []))
     (λ v. inverts (channels_named (unwrap_or (text_at v 1) (codes "YUV"))))
 filter_row f.Limiter =
     by_values (only (numbered 0 (codes "min_luma" ∷ codes "max_luma" ∷ codes "min_chroma" ∷ codes "max_chroma" ∷ [])))
@@ -204,7 +203,7 @@ filter_row f.YToUV = of_clips three_clips (joined j.YToUV)
 filter_row f.TemporalSoften =
     by_values (only (numbered 3 [])) (λ v. Ok (soft (so.TemporalSoften (number v 1) (number v 2) (number v 3))))
 filter_row f.GeneralConvolution =
-    by_values (only (required kind.Clip ∷ optional kind.Int (codes "bias") ∷ optional kind.Text (codes "matrix") ∷ []))
+    by_values (only (required k.Clip ∷ optional k.Int (codes "bias") ∷ optional k.Text (codes "matrix") ∷ []))
     (λ v. convolves (number v 1) (unwrap_or (text_at v 2) middle_alone))
 filter_row f.SeparateFields = of_clip (fields fo.SeparateFields)
 filter_row f.Weave = of_clip (fields fo.Weave)
