@@ -46,12 +46,12 @@ built_in None = None
 built_in (Some function) = Some (builtin function)
 
 abbrev pub callee_by : Option Defined → Text → Option Callee
-callee_by (Some d) name = Some (user d)
-callee_by None name = built_in (builtin_of name)
+callee_by (Some d) word = Some (user d)
+callee_by None word = built_in (builtin_of word)
 
 -- A user function hides a built-in one of its name.
 abbrev pub callee : Text → List Defined → Option Callee
-callee name functions = callee_by (find name functions) name
+callee word functions = callee_by (find word functions) word
 
 abbrev pub kind_of_word : TypeWord → Kind
 kind_of_word w.Clip = kind.Clip
