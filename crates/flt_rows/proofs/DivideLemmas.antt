@@ -5,7 +5,7 @@ use Rattle.std.proofs.lemmas.Int.{ints}
 use Rattle.std.proofs.lemmas.Nat.{div-add-mod', div-mul-add, pow-add, div_below, mod_below, mul-le}
 use Rattle.std.proofs.lemmas.Bool.{cases_lt}
 use Rattle.std.proofs.Math.Nat.{div-div-eq-div-mul, mod-eq_of_lt, pow-le-pow_right}
-use Rattle.flt_rows.specs.Rows.{IsSmall, IsWithin, IsWideReciprocal}
+use Rattle.flt_rows.specs.Rows.{IsWithin, IsReciprocal}
 use Rattle.flt_rows.specs.Squares.{IsNarrowReciprocal}
 use mathlib.Core.Bool.{beq}
 
@@ -46,22 +46,11 @@ quotient_other (pos a) (negsuc b) q is other = ap (λ k. neg_ℤ (pos k)) (sym i
 quotient_other (negsuc a) (pos b) q is other = ap (λ k. neg_ℤ (pos k)) (sym is)
 quotient_other (negsuc a) (negsuc b) q is other = search rules
 
-size_of_small : (n : ℤ) → IsSmall n → unsigned_abs n < 8388608
-size_of_small (pos a) small = omega (arith, ints, small.high)
-size_of_small (negsuc a) small = omega (arith, ints, small.low)
-
--- a quotient of a small number is small
-pub quotient_small : (n d : ℤ) (q : ℕ) → q ≡ unsigned_abs n / unsigned_abs d → 0 < unsigned_abs d → IsSmall n → q < 8388608
-quotient_small n d q is some small =
-    let few : unsigned_abs n < 8388608 = size_of_small n small in
-    let below : unsigned_abs n / unsigned_abs d < 8388608 = div_below (unsigned_abs n) (unsigned_abs d) 8388608 some (omega (arith, few, some)) in
-    omega (arith, below, is)
-
-size_within : (most : ℕ) (n : ℤ) → IsWithin most n → unsigned_abs n ≤ most
+pub size_within : (most : ℕ) (n : ℤ) → IsWithin most n → unsigned_abs n ≤ most
 size_within most (pos a) within = omega (arith, ints, within.high)
 size_within most (negsuc a) within = omega (arith, ints, within.low)
 
--- and one of a number within these bounds is no larger
+-- a quotient of a number within these bounds is no larger
 pub quotient_within : (n d : ℤ) (q : ℕ) → q ≡ unsigned_abs n / unsigned_abs d → 0 < unsigned_abs d → IsWithin 1677696000 n → q < 1677696001
 quotient_within n d q is some within =
     let few : unsigned_abs n < 1677696001 = omega (arith, size_within 1677696000 n within) in
@@ -91,7 +80,7 @@ wide_factor_fits d bits some few below above =
     let power : 2 ^ (31 + bits) ≡ 2147483648 * 2 ^ bits = pow-add 2 31 bits in
     div_below (2 ^ (31 + bits) + d - 1) d 4294967296 some (omega (arith, power, wide_power_small bits few, below, above))
 
-pub wide_factor_is : (d bits : ℕ) → 0 < d → bits ≤ 15 → d ≤ 2 ^ bits → IsWideReciprocal d ((2 ^ (31 + bits) + d - 1) / d) (31 + bits)
+pub wide_factor_is : (d bits : ℕ) → 0 < d → bits ≤ 15 → d ≤ 2 ^ bits → IsReciprocal d ((2 ^ (31 + bits) + d - 1) / d) (31 + bits)
 wide_factor_is d bits some few below =
     let power : 2 ^ (31 + bits) ≡ 2147483648 * 2 ^ bits = pow-add 2 31 bits in
     let up = rounded_up (2 ^ (31 + bits)) d some in

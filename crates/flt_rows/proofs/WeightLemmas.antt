@@ -14,7 +14,7 @@ use Rattle.clip_term.specs.Refusals.{is_weight}
 use Rattle.clip_term.specs.Soft.{place, weighed, total}
 use Rattle.clip_term.specs.Terms.{is_matrix}
 use Rattle.clip_term.proofs.PassedLemmas.{all_at}
-use Rattle.flt_rows.specs.Rows.{extended, weighed_three, weighed_five, IsBias, IsWeight, IsWithin, AreWeights, AreSmall, AreWithin}
+use Rattle.flt_rows.specs.Rows.{extended, weighed_three, weighed_five, IsBias, IsWeight, IsWithin, AreWeights, AreWithin}
 
 -- a padded row shows each place brought into the row
 pub extended_at : (count : ℕ) (row : List ℕ) (k : ℕ) → 0 < length row → k < length row + 2 * count → get_or (extended count row) k 0 ≡ get_or row (min (k - count) (length row - 1)) 0
@@ -112,24 +112,9 @@ within_by : (most : ℕ) (z : ℤ) → unsigned_abs z ≤ most → IsWithin most
 within_by most (pos n) h = record { low = omega (arith, ints); high = omega (arith, ints) }
 within_by most (negsuc n) h = record { low = omega (arith, ints); high = omega (arith, ints) }
 
-pub times_within : (weight : ℤ) (sample : ℕ) → IsWeight weight → sample ≤ 255 → IsWithin 261120 (weight *ℤ pos sample)
-times_within weight sample is few =
-    within_by 261120 (weight *ℤ pos sample) (omega (arith, unsigned_abs-mul weight (pos sample), mul-le (unsigned_abs weight) sample 1024 255 (size_of_weight weight is) few))
-
-pub weighed_within : (side k n : ℕ) (entries : List ℤ) (shape : Shape) (from : Look) (p x y : ℕ) → AreWeights entries → ((a b : ℕ) → from p a b ≤ 255)
-    → IsWithin (261120 * n) (weighed side k (take n entries) shape from p x y)
-weighed_within side k zero entries shape from p x y are few = record { low = omega (arith, ints); high = omega (arith, ints) }
-weighed_within side k (suc n) [] shape from p x y are few = record { low = omega (arith, ints); high = omega (arith, ints) }
-weighed_within side k (suc n) (entry ∷ entries) shape from p x y are few =
-    let column = place x (k % side) (side / 2) (plane_width shape p) in
-    let line = place y (k / side) (side / 2) (plane_height shape p) in
-    let one = times_within entry (from p column line) (are 0) (few column line) in
-    let rest = weighed_within side (k + 1) n entries shape from p x y (λ j. are (suc j)) few in
-    record { low = omega (arith, ints, one.low, rest.low); high = omega (arith, ints, one.high, rest.high) }
-
-pub times_far : (weight : ℤ) (sample : ℕ) → IsWeight weight → sample ≤ 65535 → IsWithin 67107840 (weight *ℤ pos sample)
-times_far weight sample is few =
-    within_by 67107840 (weight *ℤ pos sample) (omega (arith, unsigned_abs-mul weight (pos sample), mul-le (unsigned_abs weight) sample 1024 65535 (size_of_weight weight is) few))
+pub times_few : (weight : ℤ) (sample : ℕ) → IsWeight weight → sample ≤ 65535 → unsigned_abs (weight *ℤ pos sample) ≤ 67107840
+times_few weight sample is few =
+    omega (arith, unsigned_abs-mul weight (pos sample), mul-le (unsigned_abs weight) sample 1024 65535 (size_of_weight weight is) few)
 
 pub size_of_bias : (bias : ℤ) → IsBias bias → unsigned_abs bias ≤ 255
 size_of_bias (pos n) is = omega (arith, ints, is.high)
@@ -139,28 +124,21 @@ size_of_bias (negsuc n) is = omega (arith, ints, is.low)
 pub bias_within : (bias : ℤ) (s : ℕ) → IsBias bias → s ≤ 256 → IsWithin 65280 (bias *ℤ pos s)
 bias_within bias s is few = within_by 65280 (bias *ℤ pos s) (omega (arith, unsigned_abs-mul bias (pos s), mul-le (unsigned_abs bias) s 255 256 (size_of_bias bias is) few))
 
--- the same for samples of two bytes
-pub weighed_far : (side k n : ℕ) (entries : List ℤ) (shape : Shape) (from : Look) (p x y : ℕ) → AreWeights entries → ((a b : ℕ) → from p a b ≤ 65535)
+-- so many entries, each times a sample of two bytes or of one
+pub weighed_within : (side k n : ℕ) (entries : List ℤ) (shape : Shape) (from : Look) (p x y : ℕ) → AreWeights entries → ((a b : ℕ) → from p a b ≤ 65535)
     → IsWithin (67107840 * n) (weighed side k (take n entries) shape from p x y)
-weighed_far side k zero entries shape from p x y are few = record { low = omega (arith, ints); high = omega (arith, ints) }
-weighed_far side k (suc n) [] shape from p x y are few = record { low = omega (arith, ints); high = omega (arith, ints) }
-weighed_far side k (suc n) (entry ∷ entries) shape from p x y are few =
+weighed_within side k zero entries shape from p x y are few = record { low = omega (arith, ints); high = omega (arith, ints) }
+weighed_within side k (suc n) [] shape from p x y are few = record { low = omega (arith, ints); high = omega (arith, ints) }
+weighed_within side k (suc n) (entry ∷ entries) shape from p x y are few =
     let column = place x (k % side) (side / 2) (plane_width shape p) in
     let line = place y (k / side) (side / 2) (plane_height shape p) in
-    let one = times_far entry (from p column line) (are 0) (few column line) in
-    let rest = weighed_far side (k + 1) n entries shape from p x y (λ j. are (suc j)) few in
+    let one = within_by 67107840 (entry *ℤ pos (from p column line)) (times_few entry (from p column line) (are 0) (few column line)) in
+    let rest = weighed_within side (k + 1) n entries shape from p x y (λ j. are (suc j)) few in
     record { low = omega (arith, ints, one.low, rest.low); high = omega (arith, ints, one.high, rest.high) }
 
 -- sums that are within this in their places
 pub sums_within : (sums : List ℤ) (least most : ℕ) → least ≤ most → ((x : ℕ) → x < length sums → IsWithin least (get_or sums x (pos 0))) → AreWithin most sums
 sums_within sums least most few are x = elim (cases_lt x (length sums)) [
-  | inl inside ↦ (let is = are x inside in record { low = omega (arith, ints, is.low); high = omega (arith, ints, is.high) })
-  | inr past ↦ rw (get_or_past sums x (pos 0) past) (record { low = omega (arith, ints); high = omega (arith, ints) })
-]
-
--- sums that are within 2^23 in their places
-pub sums_small : (sums : List ℤ) (most : ℕ) → most ≤ 8388607 → ((x : ℕ) → x < length sums → IsWithin most (get_or sums x (pos 0))) → AreSmall sums
-sums_small sums most few are x = elim (cases_lt x (length sums)) [
   | inl inside ↦ (let is = are x inside in record { low = omega (arith, ints, is.low); high = omega (arith, ints, is.high) })
   | inr past ↦ rw (get_or_past sums x (pos 0) past) (record { low = omega (arith, ints); high = omega (arith, ints) })
 ]
@@ -171,9 +149,6 @@ within_same most a b e is = rw e is
 -- one more weight
 pub total_more : (weights : List ℤ) (i : ℕ) (d : ℤ) → i < length weights → total (drop i weights) ≡ get_or weights i d +ℤ total (drop (i + 1) weights)
 total_more weights i d h = rw (drop_more weights i d h) refl
-
-pub times_one : (z : ℤ) → z *ℤ pos 1 ≡ z
-times_one z = omega (arith, ints)
 
 one_weight : (z : ℤ) → is_weight z ≡ true → IsWeight z
 one_weight (pos n) e = record { low = grind (arith, ints, nat_tests); high = grind (arith, ints, nat_tests) }

@@ -24,14 +24,6 @@ pub record IsWeight (weight : ℤ) : Type 0 where
 abbrev pub AreWeights : List ℤ → Type 0
 AreWeights weights = (k : ℕ) → IsWeight (slice_index_or weights k (pos 0))
 
--- a sum whose size is below 2^23
-pub record IsSmall (sum : ℤ) : Type 0 where
-  pub low : negsuc 8388606 ≤ℤ sum
-  pub high : sum ≤ℤ pos 8388607
-
-abbrev pub AreSmall : List ℤ → Type 0
-AreSmall sums = (x : ℕ) → IsSmall (slice_index_or sums x (pos 0))
-
 -- no further from 0 than this
 pub record IsWithin (most : ℕ) (sum : ℤ) : Type 0 where
   pub low : neg_ℤ (pos most) ≤ℤ sum
@@ -45,16 +37,8 @@ pub record IsBias (bias : ℤ) : Type 0 where
   pub low : negsuc 254 ≤ℤ bias
   pub high : bias ≤ℤ pos 255
 
--- a quotient by this divisor of a number below 2^23 is the number times the factor, without the lowest bits
+-- a quotient by this divisor of a number below 2^31 is the number times the factor, without the lowest bits
 pub record IsReciprocal (divisor factor bits : ℕ) : Type 0 where
-  pub some : 0 < divisor
-  pub few : bits < 64
-  pub low : 2 ^ bits ≤ factor * divisor
-  pub high : factor * divisor ≤ 2 ^ bits + divisor
-  pub wide : 2 ^ 23 * divisor ≤ 2 ^ bits
-
--- the same for numbers below 2^31
-pub record IsWideReciprocal (divisor factor bits : ℕ) : Type 0 where
   pub some : 0 < divisor
   pub few : bits < 64
   pub low : 2 ^ bits ≤ factor * divisor

@@ -2,7 +2,9 @@
 // instruction as 32 bits have.
 ghost use Rattle.std.specs.Prelude.{◌≡◌, ◌+◌, ◌*◌, ◌/◌, ◌^◌, ◌<◌, ◌≤◌, pos, ◌+ℤ◌, ◌-ℤ◌, ◌*ℤ◌, EachIndex, length, slice_index, unsigned_abs};
 ghost use Rattle.clip_term.specs.Soft.{sample_from};
-ghost use Rattle.flt_rows.specs.Squares.{size_of, size_of_square, weighed_at, weighed_square, weighed_around, shown, IsEnding, IsNarrowReciprocal};
+ghost use Rattle.flt_rows.specs.Squares.{size_of, size_of_square, weighed_at, weighed_square, weighed_around, shown, AreAtMost, IsEnding, IsNarrowReciprocal};
+
+use crate::sample::Sample;
 
 /// The weights of three samples side by side.
 #[derive(Clone, Copy)]
@@ -78,10 +80,12 @@ pub fn narrow_reciprocal_of(divisor: u16) -> NarrowReciprocal
 }
 
 // A sample times its weight.
-fn times(weight: i16, sample: u8) -> i16
-    requires { unsigned_abs weight ≤ 128 }
+fn times(weight: i16, sample: u16, largest: u16) -> i16
+    requires few { sample ≤ largest }
+    requires largest { largest < 2 ^ 15 }
+    requires light { unsigned_abs weight * largest < 2 ^ 15 }
     ensures value { result ≡ weight *ℤ pos sample }
-    ensures size { unsigned_abs result ≤ 255 * unsigned_abs weight }
+    ensures size { unsigned_abs result ≤ unsigned_abs weight * largest }
 {
     weight * sample as i16
 }
@@ -96,24 +100,34 @@ pub fn add(a: i16, b: i16) -> i16
 }
 
 // Three samples of a row, each times its weight.
-fn weigh(weights: Weights, row: &[u8], left: usize, x: usize, right: usize) -> i16
-    requires left { left < length row.now }
-    requires inside { x < length row.now }
-    requires right { right < length row.now }
-    requires light { size_of weights ≤ 128 }
-    ensures value { result ≡ weighed_at weights row.now left x right }
-    ensures size { unsigned_abs result ≤ 255 * size_of weights }
+fn weigh<T: Sample>(
+    weights: Weights,
+    largest: u16,
+    row: &[u8],
+    left: usize,
+    x: usize,
+    right: usize,
+) -> i16
+    requires left { left < length (T.of_bytes row.now) }
+    requires inside { x < length (T.of_bytes row.now) }
+    requires right { right < length (T.of_bytes row.now) }
+    requires few { AreAtMost largest (T.of_bytes row.now) }
+    requires largest { largest < 2 ^ 15 }
+    requires light { size_of weights * largest < 2 ^ 15 }
+    ensures value { result ≡ weighed_at weights (T.of_bytes row.now) left x right }
+    ensures size { unsigned_abs result ≤ size_of weights * largest }
 {
     let two = add(
-        times(weights.left, row[left]),
-        times(weights.middle, row[x]),
+        times(weights.left, T::read(row, left), largest),
+        times(weights.middle, T::read(row, x), largest),
     );
-    add(two, times(weights.right, row[right]))
+    add(two, times(weights.right, T::read(row, right), largest))
 }
 
 // Three samples of each of three rows, each times its weight.
-fn weigh_square(
+fn weigh_square<T: Sample>(
     square: Square,
+    largest: u16,
     above: &[u8],
     row: &[u8],
     below: &[u8],
@@ -121,20 +135,28 @@ fn weigh_square(
     x: usize,
     right: usize,
 ) -> i16
-    requires left { left < length row.now }
-    requires inside { x < length row.now }
-    requires right { right < length row.now }
-    requires above { length above.now ≡ length row.now }
-    requires below { length below.now ≡ length row.now }
-    requires light { size_of_square square ≤ 128 }
-    ensures value { result ≡ weighed_square square above.now row.now below.now left x right }
-    ensures size { unsigned_abs result ≤ 32640 }
+    requires left { left < length (T.of_bytes row.now) }
+    requires inside { x < length (T.of_bytes row.now) }
+    requires right { right < length (T.of_bytes row.now) }
+    requires above { length (T.of_bytes above.now) ≡ length (T.of_bytes row.now) }
+    requires below { length (T.of_bytes below.now) ≡ length (T.of_bytes row.now) }
+    requires few_above { AreAtMost largest (T.of_bytes above.now) }
+    requires few { AreAtMost largest (T.of_bytes row.now) }
+    requires few_below { AreAtMost largest (T.of_bytes below.now) }
+    requires largest { largest < 2 ^ 15 }
+    requires light { size_of_square square * largest < 2 ^ 15 }
+    ensures value { result ≡ weighed_square square (T.of_bytes above.now) (T.of_bytes row.now)
+        (T.of_bytes below.now) left x right }
+    ensures size { unsigned_abs result < 2 ^ 15 }
 {
     let two = add(
-        weigh(square.above, above, left, x, right),
-        weigh(square.middle, row, left, x, right),
+        weigh::<T>(square.above, largest, above, left, x, right),
+        weigh::<T>(square.middle, largest, row, left, x, right),
     );
-    add(two, weigh(square.below, below, left, x, right))
+    add(
+        two,
+        weigh::<T>(square.below, largest, below, left, x, right),
+    )
 }
 
 /// A quotient, by the upper half of a product of 16 bits.
@@ -149,7 +171,8 @@ pub fn divide(n: u16, divisor: u16, by: NarrowReciprocal) -> u16
 
 // The sample nearest to the difference of two numbers.
 fn sample_between(more: u16, less: u16, largest: u16) -> u16
-    ensures { result ≡ sample_from largest (pos more -ℤ pos less) }
+    ensures value { result ≡ sample_from largest (pos more -ℤ pos less) }
+    ensures few { result ≤ largest }
 {
     more.saturating_sub(less).min(largest)
 }
@@ -158,7 +181,8 @@ fn sample_between(more: u16, less: u16, largest: u16) -> u16
 pub fn show(sum: i16, ending: Ending) -> u16
     requires ending { IsEnding ending }
     requires size { unsigned_abs sum < 2 ^ 15 }
-    ensures { result ≡ shown ending sum }
+    ensures value { result ≡ shown ending sum }
+    ensures few { result ≤ ending.largest }
 {
     let size = divide(
         sum.unsigned_abs(),
@@ -173,7 +197,7 @@ pub fn show(sum: i16, ending: Ending) -> u16
 }
 
 // The sample at a place, from those around it.
-fn show_square(
+fn show_square<T: Sample>(
     square: Square,
     ending: Ending,
     above: &[u8],
@@ -182,49 +206,59 @@ fn show_square(
     left: usize,
     x: usize,
     right: usize,
-) -> u8
-    requires left { left < length row.now }
-    requires inside { x < length row.now }
-    requires right { right < length row.now }
-    requires above { length above.now ≡ length row.now }
-    requires below { length below.now ≡ length row.now }
-    requires light { size_of_square square ≤ 128 }
+) -> u16
+    requires left { left < length (T.of_bytes row.now) }
+    requires inside { x < length (T.of_bytes row.now) }
+    requires right { right < length (T.of_bytes row.now) }
+    requires above { length (T.of_bytes above.now) ≡ length (T.of_bytes row.now) }
+    requires below { length (T.of_bytes below.now) ≡ length (T.of_bytes row.now) }
+    requires few_above { AreAtMost ending.largest (T.of_bytes above.now) }
+    requires few { AreAtMost ending.largest (T.of_bytes row.now) }
+    requires few_below { AreAtMost ending.largest (T.of_bytes below.now) }
+    requires light { size_of_square square * ending.largest < 2 ^ 15 }
     requires ending { IsEnding ending }
-    requires narrow { ending.largest ≤ 255 }
-    ensures { result ≡ shown ending (weighed_square square above.now row.now below.now left x right) }
+    ensures value { result ≡ shown ending (weighed_square square (T.of_bytes above.now) (T.of_bytes row.now)
+        (T.of_bytes below.now) left x right) }
+    ensures few { result ≤ ending.largest }
 {
     show(
-        weigh_square(square, above, row, below, left, x, right),
+        weigh_square::<T>(square, ending.largest, above, row, below, left, x, right),
         ending,
-    ) as u8
+    )
 }
 
-/// The samples of a row, each from the samples around it. The first and the last are apart, so that no place between
-/// them is brought into the row.
-pub fn convolve_row(
+/// The samples of rows of bytes, each from the samples around it. The first and the last are apart, so that no place
+/// between them is brought into the row.
+pub fn convolve_row<T: Sample>(
     square: Square,
     ending: Ending,
     above: &[u8],
     row: &[u8],
     below: &[u8],
-    out: &mut [u8],
+    out: &mut [T],
 )
-    requires some { 0 < length row.now }
-    requires wide { length row.now ≤ 65535 }
-    requires above { length above.now ≡ length out.old }
-    requires row { length row.now ≡ length out.old }
-    requires below { length below.now ≡ length out.old }
-    requires light { size_of_square square ≤ 128 }
+    requires some { 0 < length out.old }
+    requires wide { length out.old ≤ 65535 }
+    requires above { length (T.of_bytes above.now) ≡ length out.old }
+    requires row { length (T.of_bytes row.now) ≡ length out.old }
+    requires below { length (T.of_bytes below.now) ≡ length out.old }
+    requires few_above { AreAtMost ending.largest (T.of_bytes above.now) }
+    requires few { AreAtMost ending.largest (T.of_bytes row.now) }
+    requires few_below { AreAtMost ending.largest (T.of_bytes below.now) }
+    requires light { size_of_square square * ending.largest < 2 ^ 15 }
     requires ending { IsEnding ending }
-    requires narrow { ending.largest ≤ 255 }
-    ensures { EachIndex out.new (λ x. slice_index out.new x
-        ≡ shown ending (weighed_around square above.now row.now below.now x)) }
+    requires most { ending.largest ≤ T.most }
+    ensures { EachIndex out.new (λ x. slice_index (T.numbers out.new) x ≡ shown ending
+        (weighed_around square (T.of_bytes above.now) (T.of_bytes row.now) (T.of_bytes below.now) x)) }
 {
     let last = out.len() - 1;
-    out[0] = show_square(square, ending, above, row, below, 0, 0, last.min(1));
+    let first = show_square::<T>(square, ending, above, row, below, 0, 0, last.min(1));
+    T::put(out, 0, first);
     for x in 1..last {
-        out[x] = show_square(square, ending, above, row, below, x - 1, x, x + 1);
+        let sample = show_square::<T>(square, ending, above, row, below, x - 1, x, x + 1);
+        T::put(out, x, sample);
     }
     let before = last.saturating_sub(1);
-    out[last] = show_square(square, ending, above, row, below, before, last, last);
+    let end = show_square::<T>(square, ending, above, row, below, before, last, last);
+    T::put(out, last, end);
 }

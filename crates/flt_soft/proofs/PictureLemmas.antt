@@ -1,13 +1,13 @@
 -- Pictures of one shape, and planes that stay.
-use Rattle.std.proofs.Common.{◌≡◌, ℕ, zero, suc, ◌+◌, ◌-◌, ◌*◌, ◌/◌, ◌%◌, ◌^◌, ◌<◌, ◌≤◌, ◌∙◌, List, [], ◌∷◌, length, map, get_or, refl, sym, ap, arith, Bool, true, false, inl, inr, eqb-true, eq-eqb}
-use Rattle.std.specs.Prelude.{ℤ, pos, ◌+ℤ◌, ◌*ℤ◌, int_div, unsigned_abs, ◌⊎◌, ◌||◌, if◌then◌else◌, ◌==◌, ◌&&◌, nat_le}
+use Rattle.std.proofs.Common.{◌≡◌, ℕ, suc, ◌+◌, ◌-◌, ◌*◌, ◌/◌, ◌%◌, ◌^◌, ◌<◌, ◌≤◌, ◌∙◌, List, [], ◌∷◌, length, map, get_or, refl, sym, ap, arith, Bool, true, false, inl, inr, eqb-true, eq-eqb}
+use Rattle.std.specs.Prelude.{ℤ, pos, ◌*ℤ◌, unsigned_abs, ◌⊎◌, ◌||◌, if◌then◌else◌, ◌==◌, ◌&&◌, nat_le}
 use Rattle.std.specs.List.{All}
 use Rattle.std.proofs.lemmas.List.{get_or_read, length-map}
 use Rattle.fv_plane.specs.declared.format.PixelType.{PixelType}
 use Rattle.fv_plane.specs.declared.format.PixelType.TheVariants.{Y8, YV12, YV16, YV24, YV411}
 use Rattle.fv_plane.specs.declared.format.Shape.{Shape}
 use Rattle.fv_plane.specs.Format.{IsLegal, largest_sample, planes, plane_width, plane_height, row_bytes, scale, sub_w}
-use Rattle.fv_plane.specs.Picture.{Picture, IsPicture, row_of, Look, look_in, look_at, row_from}
+use Rattle.fv_plane.specs.Picture.{Picture, IsPicture, row_of, look_in, look_at, row_from}
 use Rattle.fv_plane.specs.Made.{IsPlaneOf}
 use Rattle.fv_plane.proofs.CallerLemmas.{bytes_of_narrow}
 use Rattle.fv_plane.proofs.PictureLemmas.{five_depths}
@@ -16,7 +16,7 @@ use Rattle.clip_term.specs.declared.op.Matrix.{Matrix}
 use Rattle.clip_term.specs.declared.op.SoftOp.{SoftOp}
 use Rattle.clip_term.specs.declared.op.SoftOp.TheVariants as op
 use Rattle.clip_term.specs.Refusals.{nat_of}
-use Rattle.clip_term.specs.Soft.{near, softened, samples_at, soft_at, convolved, side_of, weighed, divisor_of, sample_from}
+use Rattle.clip_term.specs.Soft.{near, softened, samples_at, soft_at, convolved}
 use Rattle.clip_term.specs.Terms.{no_picture}
 use Rattle.clip_term.proofs.BoundedLemmas as bounds
 use Rattle.clip_term.proofs.BoundedLemmas.{AllBounded, IsBounded}
@@ -26,7 +26,7 @@ use Rattle.flt_rows.specs.Rows.{IsBias}
 use Rattle.flt_rows.specs.Squares.{AreAtMost}
 use Rattle.flt_soft.specs.Pictures.{CanSoften, HaveShape, asked_count, bytes_made, keeps_plane, row_made, shape_of}
 use Rattle.flt_soft.proofs.SoftenLemmas.{look_seen}
-use Rattle.flt_rows.proofs.WeightLemmas.{size_of_bias, times_one}
+use Rattle.flt_rows.proofs.WeightLemmas.{size_of_bias}
 
 -- a filter asks a frame
 pub some_asked : (filter : SoftOp) → 0 < asked_count filter
@@ -74,10 +74,6 @@ few_columns shape p legal = omega (arith, width_at_most shape p, legal.most_widt
 -- a row of samples of eight bits has as many bytes
 pub narrow_width : (shape : Shape) (p bytes : ℕ) → shape.bits ≡ 8 → bytes ≡ row_bytes shape p → bytes ≡ plane_width shape p
 narrow_width shape p bytes narrow long = (let same = rw narrow at long in omega arith)
-
--- and no sample is over 255
-pub narrow_few : (picture : Picture) → IsPicture picture → picture.shape.bits ≡ 8 → (p x y : ℕ) → look_in picture p x y ≤ 255
-narrow_few picture is narrow p x y = rw narrow at (is.bounded p x y)
 
 largest_by : (bits : ℕ) → (bits ≡ 8) ⊎ ((bits ≡ 10) ⊎ ((bits ≡ 12) ⊎ ((bits ≡ 14) ⊎ (bits ≡ 16)))) → (2 ^ bits - 1 ≤ 65535) × (2 ^ (bits - 8) ≤ 256)
 largest_by bits (inl is) = rw is (omega arith, omega arith)
@@ -209,16 +205,6 @@ kept_plane filter pictures middle p can keeps is there =
     }
 
 -- SUMS
-
--- for samples of eight bits the bias counts as it is, and the largest sample is 255
-pub narrow_convolved : (bias : ℤ) (weights : List ℤ) (shape : Shape) (from : Look) (p x y : ℕ) → shape.bits ≡ 8
-    → sample_from 255 (int_div (weighed (side_of weights) 0 weights shape from p x y) (divisor_of weights) +ℤ bias) ≡ convolved bias weights shape from p x y
-narrow_convolved bias weights shape from p x y narrow =
-    let sum : ℤ = weighed (side_of weights) 0 weights shape from p x y in
-    let most : 255 ≡ largest_sample shape = rw narrow refl in
-    let one : 1 ≡ scale shape = rw narrow refl in
-    ap (λ b. sample_from 255 (int_div sum (divisor_of weights) +ℤ b)) (sym (times_one bias) ∙ ap (λ s. bias *ℤ pos s) one)
-    ∙ ap (λ m. sample_from m (int_div sum (divisor_of weights) +ℤ bias *ℤ pos (scale shape))) most
 
 -- one picture is the first, and its sums are what the filter is defined to make
 pub convolved_made : (bias : ℤ) (matrix : Matrix) (pictures : List Picture) (one : Picture) (p y : ℕ) → length pictures ≡ 1 → one ≡ get_or pictures 0 one

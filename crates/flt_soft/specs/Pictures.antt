@@ -3,7 +3,7 @@ use Rattle.std.specs.Prelude.{◌≡◌, ℕ, ◌+◌, ◌*◌, ◌/◌, ◌<◌
 use Rattle.std.specs.List.{All}
 use Rattle.fv_plane.specs.declared.format.Shape.{Shape}
 use Rattle.fv_plane.specs.Picture.{Picture, row_of, bytes_of_row, Look, look_at, look_in, picture_from, row_from}
-use Rattle.fv_plane.specs.Format.{planes, plane_width, plane_height, sample_bytes}
+use Rattle.fv_plane.specs.Format.{planes, plane_width, plane_height}
 use Rattle.fv_plane.specs.Refusals.{first_fault}
 use Rattle.clip_term.specs.declared.op.SoftOp.{SoftOp}
 use Rattle.clip_term.specs.Soft.{soft_row, samples_at, soft_refusals, soft_at, softened}
@@ -72,9 +72,8 @@ pub record AreAround (pictures : List Picture) (p y : ℕ) : Type 0 where
   pub plane : p < planes (shape_of pictures).kind
   pub inside : y < plane_height (shape_of pictures) p
 
--- a row of a picture whose samples have two bytes, and a bias and a square of weights for its sums
-pub record CanConvolveWide (picture : Picture) (p y : ℕ) (bias : ℤ) (weights : List ℤ) : Type 0 where
-  pub wide : sample_bytes picture.shape ≡ 2
+-- a row of a picture, and a bias and a square of weights for its sums
+pub record CanConvolve (picture : Picture) (p y : ℕ) (bias : ℤ) (weights : List ℤ) : Type 0 where
   pub plane : p < planes picture.shape.kind
   pub inside : y < plane_height picture.shape p
   pub small : IsBias bias

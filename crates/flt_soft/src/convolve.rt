@@ -1,24 +1,23 @@
 // Sums of the samples around a place.
-ghost use Rattle.std.specs.Prelude.{◌≡◌, ◌<◌, ◌≤◌, ◌+◌, ◌^◌, ◌⊎◌, ℕ, pos, negsuc, ◌-ℤ◌, ◌≤ℤ◌, length, EachIndex, slice_index, slice_index_or, unsigned_abs, vec_len};
-ghost use Rattle.fv_plane.specs.Format.{planes, plane_width, plane_height, row_bytes};
+ghost use Rattle.std.specs.Prelude.{◌≡◌, ◌<◌, ◌≤◌, ◌+◌, ◌*◌, ◌^◌, ◌⊎◌, ℕ, pos, negsuc, ◌-ℤ◌, ◌*ℤ◌, ◌≤ℤ◌, length, EachIndex, slice_index, slice_index_or, unsigned_abs, vec_len};
+ghost use Rattle.fv_plane.specs.Format.{IsLegal, largest_sample, planes, plane_width, plane_height, row_bytes, scale};
 ghost use Rattle.fv_plane.specs.Picture.{look_in};
 ghost use Rattle.clip_term.specs.declared.op.SoftOp.TheVariants.{GeneralConvolution};
 ghost use Rattle.clip_term.specs.Soft.{place, side_of, weighed, total, divisor_of, convolved};
-ghost use Rattle.flt_soft.specs.Pictures.{CanSoften, bytes_made, shape_of};
-ghost use Rattle.flt_rows.specs.Rows.{IsWeight, AreWeights, IsBias, IsSmall, AreSmall};
+ghost use Rattle.flt_soft.specs.Pictures.{CanConvolve, CanSoften, bytes_made, shape_of};
+ghost use Rattle.flt_rows.specs.Rows.{IsWeight, AreWeights, IsBias, IsWithin, AreWithin};
 ghost use Rattle.flt_rows.specs.Squares.{size_of_all, entries_of, IsEnding};
 
-use crate::convolve_wide::convolve_wide;
-use crate::rows::narrow_row;
+use crate::rows::Stored;
 use crate::scratch::Scratch;
 use clip_term::Matrix;
-use flt_rows::kernels::{add_five, add_three, pad_row, show_row};
 use flt_rows::narrow::{self, Ending, Square, Weights, narrow_reciprocal_of};
 use flt_rows::reciprocal::reciprocal_of;
-use fv_plane::Frame;
+use flt_rows::sums::{add_five, add_three, show_row};
+use fv_plane::{Frame, Shape, write_samples};
 
-/// A place beside another, brought to the edge where it is past it.
-pub fn place(at: u32, step: u32, half: u32, size: u32) -> u32
+// A place beside another, brought to the edge where it is past it.
+fn place(at: u32, step: u32, half: u32, size: u32) -> u32
     requires inside { at < size }
     requires small { size ≤ 65535 }
     requires near { step ≤ 4 }
@@ -28,81 +27,14 @@ pub fn place(at: u32, step: u32, half: u32, size: u32) -> u32
     (at + step).saturating_sub(half).min(size - 1)
 }
 
-/// A weight by its number.
-pub fn weight(weights: &[i32], k: usize) -> i16
+// A weight by its number.
+fn weight(weights: &[i32], k: usize) -> i16
     requires inside { k < length weights.now }
     requires weights { AreWeights weights.now }
     ensures value { result ≡ slice_index_or weights.now k (pos 0) }
     ensures weight { IsWeight result }
 {
     weights[k] as i16
-}
-
-// The sums of the nine samples around each place of a row.
-fn sum_nine(input: &Frame, plane: u32, y: u32, weights: &[i32], padded: &mut [u8], sums: &mut [i32])
-    requires narrow { input.now.shape.bits ≡ 8 }
-    requires plane { plane < planes input.now.shape.kind }
-    requires inside { y < plane_height input.now.shape plane }
-    requires nine { length weights.now ≡ 9 }
-    requires weights { AreWeights weights.now }
-    requires sums { length sums.old ≡ plane_width input.now.shape plane }
-    requires padded { length padded.old ≡ length sums.old + 2 }
-    ensures sums { (x : ℕ) → x < length sums.new → slice_index_or sums.new x (pos 0)
-        ≡ weighed 3 0 weights.now input.now.shape (look_in input.now) plane x y }
-    ensures small { AreSmall sums.new }
-{
-    let height = input.shape().plane_height(plane);
-    sums.fill(0);
-    for i in 0..3 {
-        let row = narrow_row(input, plane, place(y, i, 1, height));
-        pad_row(row, 1, padded);
-        let k = 3 * i as usize;
-        add_three(
-            padded,
-            weight(weights, k),
-            weight(weights, k + 1),
-            weight(weights, k + 2),
-            sums,
-        );
-    }
-}
-
-// The sums of the 25 samples around each place of a row.
-fn sum_of_25(
-    input: &Frame,
-    plane: u32,
-    y: u32,
-    weights: &[i32],
-    padded: &mut [u8],
-    sums: &mut [i32],
-)
-    requires narrow { input.now.shape.bits ≡ 8 }
-    requires plane { plane < planes input.now.shape.kind }
-    requires inside { y < plane_height input.now.shape plane }
-    requires all { length weights.now ≡ 25 }
-    requires weights { AreWeights weights.now }
-    requires sums { length sums.old ≡ plane_width input.now.shape plane }
-    requires padded { length padded.old ≡ length sums.old + 4 }
-    ensures sums { (x : ℕ) → x < length sums.new → slice_index_or sums.new x (pos 0)
-        ≡ weighed 5 0 weights.now input.now.shape (look_in input.now) plane x y }
-    ensures small { AreSmall sums.new }
-{
-    let height = input.shape().plane_height(plane);
-    sums.fill(0);
-    for i in 0..5 {
-        let row = narrow_row(input, plane, place(y, i, 2, height));
-        pad_row(row, 2, padded);
-        let k = 5 * i as usize;
-        add_five(
-            padded,
-            weight(weights, k),
-            weight(weights, k + 1),
-            weight(weights, k + 2),
-            weight(weights, k + 3),
-            weight(weights, k + 4),
-            sums,
-        );
-    }
 }
 
 // The sum of the weights.
@@ -120,8 +52,8 @@ fn total(weights: &[i32]) -> i32
     sum
 }
 
-/// The sum of the weights, and 1 where it is 0.
-pub fn divisor_of(weights: &[i32]) -> i32
+// The sum of the weights, and 1 where it is 0.
+fn divisor_of(weights: &[i32]) -> i32
     requires few { length weights.now ≤ 25 }
     requires weights { AreWeights weights.now }
     ensures value { result ≡ divisor_of weights.now }
@@ -132,65 +64,8 @@ pub fn divisor_of(weights: &[i32]) -> i32
     if sum < 0 || sum > 0 { sum } else { 1 }
 }
 
-// The sums of the samples around each place of a row.
-fn sum_around(
-    input: &Frame,
-    plane: u32,
-    y: u32,
-    weights: &[i32],
-    padded: &mut [u8],
-    sums: &mut [i32],
-)
-    requires narrow { input.now.shape.bits ≡ 8 }
-    requires plane { plane < planes input.now.shape.kind }
-    requires inside { y < plane_height input.now.shape plane }
-    requires square { (length weights.now ≡ 9) ⊎ (length weights.now ≡ 25) }
-    requires weights { AreWeights weights.now }
-    requires sums { length sums.old ≡ plane_width input.now.shape plane }
-    requires padded { length padded.old ≡ length sums.old + 4 }
-    ensures sums { (x : ℕ) → x < length sums.new → slice_index_or sums.new x (pos 0)
-        ≡ weighed (side_of weights.now) 0 weights.now input.now.shape (look_in input.now) plane x y }
-    ensures small { AreSmall sums.new }
-{
-    if weights.len() == 9 {
-        let (padded, _) = padded.split_at_mut(sums.len() + 2);
-        sum_nine(input, plane, y, weights, padded, sums);
-    } else {
-        sum_of_25(input, plane, y, weights, padded, sums);
-    }
-}
-
-// A row of the picture that is made, by sums of 32 bits.
-fn convolve_in_32_bits(
-    input: &Frame,
-    plane: u32,
-    y: u32,
-    bias: i32,
-    weights: &[i32],
-    padded: &mut [u8],
-    sums: &mut [i32],
-    out: &mut [u8],
-)
-    requires narrow { input.now.shape.bits ≡ 8 }
-    requires plane { plane < planes input.now.shape.kind }
-    requires inside { y < plane_height input.now.shape plane }
-    requires square { (length weights.now ≡ 9) ⊎ (length weights.now ≡ 25) }
-    requires weights { AreWeights weights.now }
-    requires bias { IsSmall bias }
-    requires whole { length out.old ≡ plane_width input.now.shape plane }
-    requires sums { length sums.old ≡ length out.old }
-    requires padded { length padded.old ≡ length out.old + 4 }
-    ensures { EachIndex out.new (λ x. slice_index out.new x
-        ≡ convolved bias weights.now input.now.shape (look_in input.now) plane x y) }
-{
-    sum_around(input, plane, y, weights, padded, sums);
-    let divisor = divisor_of(weights);
-    let by = reciprocal_of(divisor.unsigned_abs());
-    show_row(sums, divisor, by, bias, out);
-}
-
-/// The sizes of the weights, added up.
-pub fn size_of_all(weights: &[i32]) -> u32
+// The sizes of the weights, added up.
+fn size_of_all(weights: &[i32]) -> u32
     requires few { length weights.now ≤ 25 }
     requires weights { AreWeights weights.now }
     ensures value { result ≡ size_of_all weights.now }
@@ -219,8 +94,8 @@ fn weights_at(weights: &[i32], k: usize) -> Weights
     }
 }
 
-/// The weights as a square of three rows.
-pub fn square_of(weights: &[i32]) -> Square
+// The weights as a square of three rows.
+fn square_of(weights: &[i32]) -> Square
     requires nine { length weights.now ≡ 9 }
     requires weights { AreWeights weights.now }
     ensures { entries_of result ≡ weights.now }
@@ -232,8 +107,8 @@ pub fn square_of(weights: &[i32]) -> Square
     }
 }
 
-/// How sums end.
-pub fn ending_of(divisor: i32, bias: i32, largest: u16) -> Ending
+// How sums end.
+fn ending_of(divisor: i32, bias: i32, largest: u16) -> Ending
     requires some { 0 < unsigned_abs divisor }
     requires small { unsigned_abs divisor ≤ 128 }
     requires bias { unsigned_abs bias < 2 ^ 15 }
@@ -255,86 +130,221 @@ pub fn ending_of(divisor: i32, bias: i32, largest: u16) -> Ending
     }
 }
 
-// A row of the picture that is made, by sums of 16 bits.
-fn convolve_in_16_bits(
+// The sums of the nine samples around each place of a row.
+fn sum_nine<T: Stored>(
     input: &Frame,
     plane: u32,
     y: u32,
-    bias: i32,
     weights: &[i32],
-    out: &mut [u8],
+    padded: &mut [T],
+    sums: &mut [i32],
 )
-    requires narrow { input.now.shape.bits ≡ 8 }
+    requires fits { T.fits input.now.shape }
     requires plane { plane < planes input.now.shape.kind }
     requires inside { y < plane_height input.now.shape plane }
     requires nine { length weights.now ≡ 9 }
     requires weights { AreWeights weights.now }
-    requires light { size_of_all weights.now ≤ 128 }
-    requires bias { IsBias bias }
-    requires whole { length out.old ≡ plane_width input.now.shape plane }
-    ensures { EachIndex out.new (λ x. slice_index out.new x
-        ≡ convolved bias weights.now input.now.shape (look_in input.now) plane x y) }
+    requires sums { length sums.old ≡ plane_width input.now.shape plane }
+    requires padded { length padded.old ≡ length sums.old + 2 }
+    ensures sums { (x : ℕ) → x < length sums.new → slice_index_or sums.new x (pos 0)
+        ≡ weighed 3 0 weights.now input.now.shape (look_in input.now) plane x y }
+    ensures size { AreWithin 1677696000 sums.new }
 {
-    let shape = input.shape();
-    let height = shape.plane_height(plane);
-    let above = narrow_row(input, plane, place(y, 0, 1, height));
-    let row = narrow_row(input, plane, y);
-    let below = narrow_row(input, plane, place(y, 2, 1, height));
-    let ending = ending_of(divisor_of(weights), bias, shape.largest_sample());
-    narrow::convolve_row(square_of(weights), ending, above, row, below, out);
+    let height = input.shape().plane_height(plane);
+    sums.fill(0);
+    for i in 0..3 {
+        T::read_padded(input, plane, place(y, i, 1, height), 1, padded);
+        let k = 3 * i as usize;
+        add_three(
+            padded,
+            weight(weights, k),
+            weight(weights, k + 1),
+            weight(weights, k + 2),
+            sums,
+        );
+    }
 }
 
-// A row of the picture that is made. Where 16 bits hold all sums, they take less than half the time.
-fn convolve_row(
+// The sums of the 25 samples around each place of a row.
+fn sum_of_25<T: Stored>(
+    input: &Frame,
+    plane: u32,
+    y: u32,
+    weights: &[i32],
+    padded: &mut [T],
+    sums: &mut [i32],
+)
+    requires fits { T.fits input.now.shape }
+    requires plane { plane < planes input.now.shape.kind }
+    requires inside { y < plane_height input.now.shape plane }
+    requires all { length weights.now ≡ 25 }
+    requires weights { AreWeights weights.now }
+    requires sums { length sums.old ≡ plane_width input.now.shape plane }
+    requires padded { length padded.old ≡ length sums.old + 4 }
+    ensures sums { (x : ℕ) → x < length sums.new → slice_index_or sums.new x (pos 0)
+        ≡ weighed 5 0 weights.now input.now.shape (look_in input.now) plane x y }
+    ensures size { AreWithin 1677696000 sums.new }
+{
+    let height = input.shape().plane_height(plane);
+    sums.fill(0);
+    for i in 0..5 {
+        T::read_padded(input, plane, place(y, i, 2, height), 2, padded);
+        let k = 5 * i as usize;
+        add_five(
+            padded,
+            weight(weights, k),
+            weight(weights, k + 1),
+            weight(weights, k + 2),
+            weight(weights, k + 3),
+            weight(weights, k + 4),
+            sums,
+        );
+    }
+}
+
+// The sums of the samples around each place of a row.
+fn sum_around<T: Stored>(
+    input: &Frame,
+    plane: u32,
+    y: u32,
+    weights: &[i32],
+    padded: &mut [T],
+    sums: &mut [i32],
+)
+    requires fits { T.fits input.now.shape }
+    requires plane { plane < planes input.now.shape.kind }
+    requires inside { y < plane_height input.now.shape plane }
+    requires square { (length weights.now ≡ 9) ⊎ (length weights.now ≡ 25) }
+    requires weights { AreWeights weights.now }
+    requires sums { length sums.old ≡ plane_width input.now.shape plane }
+    requires padded { length padded.old ≡ length sums.old + 4 }
+    ensures sums { (x : ℕ) → x < length sums.new → slice_index_or sums.new x (pos 0)
+        ≡ weighed (side_of weights.now) 0 weights.now input.now.shape (look_in input.now) plane x y }
+    ensures size { AreWithin 1677696000 sums.new }
+{
+    if weights.len() == 9 {
+        let (padded, _) = padded.split_at_mut(sums.len() + 2);
+        sum_nine(input, plane, y, weights, padded, sums);
+    } else {
+        sum_of_25(input, plane, y, weights, padded, sums);
+    }
+}
+
+// The bias for samples of this shape.
+fn scaled_bias(bias: i32, shape: Shape) -> i32
+    requires legal { IsLegal shape }
+    requires bias { IsBias bias }
+    ensures value { result ≡ bias *ℤ pos (scale shape) }
+    ensures size { IsWithin 65280 result }
+{
+    bias * shape.scale() as i32
+}
+
+// A row of the picture that is made, by sums of 32 bits.
+fn convolve_in_32_bits<T: Stored>(
     input: &Frame,
     plane: u32,
     y: u32,
     bias: i32,
     weights: &[i32],
-    padded: &mut [u8],
+    padded: &mut [T],
     sums: &mut [i32],
-    out: &mut [u8],
+    out: &mut [T],
 )
-    requires narrow { input.now.shape.bits ≡ 8 }
-    requires plane { plane < planes input.now.shape.kind }
-    requires inside { y < plane_height input.now.shape plane }
-    requires square { (length weights.now ≡ 9) ⊎ (length weights.now ≡ 25) }
-    requires weights { AreWeights weights.now }
-    requires bias { IsBias bias }
+    requires fits { T.fits input.now.shape }
+    requires able { CanConvolve input.now plane y bias weights.now }
     requires whole { length out.old ≡ plane_width input.now.shape plane }
     requires sums { length sums.old ≡ length out.old }
     requires padded { length padded.old ≡ length out.old + 4 }
-    ensures { EachIndex out.new (λ x. slice_index out.new x
+    ensures { EachIndex out.new (λ x. slice_index (T.numbers out.new) x
         ≡ convolved bias weights.now input.now.shape (look_in input.now) plane x y) }
 {
-    if weights.len() == 9 && size_of_all(weights) <= 128 {
+    let shape = input.shape();
+    sum_around(input, plane, y, weights, padded, sums);
+    let divisor = divisor_of(weights);
+    let by = reciprocal_of(divisor.unsigned_abs());
+    let bias = scaled_bias(bias, shape);
+    show_row(sums, divisor, by, bias, T::largest(input), out);
+}
+
+// A row of the picture that is made, by sums of 16 bits.
+fn convolve_in_16_bits<T: Stored>(
+    input: &Frame,
+    plane: u32,
+    y: u32,
+    bias: i32,
+    weights: &[i32],
+    out: &mut [T],
+)
+    requires fits { T.fits input.now.shape }
+    requires plane { plane < planes input.now.shape.kind }
+    requires inside { y < plane_height input.now.shape plane }
+    requires nine { length weights.now ≡ 9 }
+    requires weights { AreWeights weights.now }
+    requires small { largest_sample input.now.shape < 2 ^ 15 }
+    requires light { size_of_all weights.now * largest_sample input.now.shape < 2 ^ 15 }
+    requires bias { IsBias bias }
+    requires whole { length out.old ≡ plane_width input.now.shape plane }
+    ensures { EachIndex out.new (λ x. slice_index (T.numbers out.new) x
+        ≡ convolved bias weights.now input.now.shape (look_in input.now) plane x y) }
+{
+    let shape = input.shape();
+    let height = shape.plane_height(plane);
+    let above = T::row(input, plane, place(y, 0, 1, height));
+    let row = T::row(input, plane, y);
+    let below = T::row(input, plane, place(y, 2, 1, height));
+    let bias = scaled_bias(bias, shape);
+    let ending = ending_of(divisor_of(weights), bias, T::largest(input));
+    narrow::convolve_row(square_of(weights), ending, above, row, below, out);
+}
+
+// A row of the picture that is made. Where 16 bits hold all sums, they take less than half the time.
+fn convolve_row<T: Stored>(
+    input: &Frame,
+    plane: u32,
+    y: u32,
+    bias: i32,
+    weights: &[i32],
+    padded: &mut [T],
+    sums: &mut [i32],
+    out: &mut [T],
+)
+    requires fits { T.fits input.now.shape }
+    requires able { CanConvolve input.now plane y bias weights.now }
+    requires whole { length out.old ≡ plane_width input.now.shape plane }
+    requires sums { length sums.old ≡ length out.old }
+    requires padded { length padded.old ≡ length out.old + 4 }
+    ensures { EachIndex out.new (λ x. slice_index (T.numbers out.new) x
+        ≡ convolved bias weights.now input.now.shape (look_in input.now) plane x y) }
+{
+    let largest = T::largest(input) as u32;
+    let size = size_of_all(weights);
+    if weights.len() == 9 && largest < 1 << 15 && size * largest < 1 << 15 {
         convolve_in_16_bits(input, plane, y, bias, weights, out);
     } else {
         convolve_in_32_bits(input, plane, y, bias, weights, padded, sums, out);
     }
 }
 
-// The same, in rows that may be wider. A row of fewer than three samples is padded here.
-fn convolve_in(
+// The same, in rows that may be wider. A row of fewer than three samples is padded in a short one.
+fn convolve_in<T: Stored>(
     input: &Frame,
     plane: u32,
     y: u32,
     bias: i32,
     weights: &[i32],
-    padded: &mut Vec<u8>,
+    short: &mut [T],
+    padded: &mut Vec<T>,
     sums: &mut Vec<i32>,
-    out: &mut [u8],
+    out: &mut [T],
 )
-    requires narrow { input.now.shape.bits ≡ 8 }
-    requires plane { plane < planes input.now.shape.kind }
-    requires inside { y < plane_height input.now.shape plane }
-    requires square { (length weights.now ≡ 9) ⊎ (length weights.now ≡ 25) }
-    requires weights { AreWeights weights.now }
-    requires bias { IsBias bias }
+    requires fits { T.fits input.now.shape }
+    requires able { CanConvolve input.now plane y bias weights.now }
     requires whole { length out.old ≡ plane_width input.now.shape plane }
     requires sums { length out.old ≤ vec_len sums.old }
+    requires short { length short.old ≡ 6 }
     requires padded { 3 ≤ length out.old → length out.old + 4 ≤ vec_len padded.old }
-    ensures row { EachIndex out.new (λ x. slice_index out.new x
+    ensures row { EachIndex out.new (λ x. slice_index (T.numbers out.new) x
         ≡ convolved bias weights.now input.now.shape (look_in input.now) plane x y) }
     ensures sums { vec_len sums.new ≡ vec_len sums.old }
     ensures padded { vec_len padded.new ≡ vec_len padded.old }
@@ -344,8 +354,7 @@ fn convolve_in(
     let width = out.len();
     let (sums, _) = sums.as_mut_slice().split_at_mut(width);
     if width < 3 {
-        let mut narrow = [0u8; 6];
-        let (padded, _) = narrow.split_at_mut(width + 4);
+        let (padded, _) = short.split_at_mut(width + 4);
         convolve_row(input, plane, y, bias, weights, padded, sums, out);
     } else {
         let (padded, _) = padded.as_mut_slice().split_at_mut(width + 4);
@@ -379,10 +388,17 @@ pub fn convolved_row(
     let sums = &mut scratch.sums;
     let shape = input.shape();
     if shape.bits == 8 {
+        let mut short = [0u8; 6];
         let padded = &mut scratch.padded;
-        convolve_in(input, plane, y, bias, weights, padded, sums, out);
+        convolve_in(
+            input, plane, y, bias, weights, &mut short, padded, sums, out,
+        );
     } else {
+        let mut short = [0u16; 6];
         let padded = &mut scratch.wide_padded;
-        convolve_wide(input, plane, y, bias, weights, padded, samples, sums, out);
+        convolve_in(
+            input, plane, y, bias, weights, &mut short, padded, sums, samples,
+        );
+        write_samples(samples, out);
     }
 }

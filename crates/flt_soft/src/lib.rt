@@ -5,7 +5,6 @@
 #![tactic(auto)]
 
 mod convolve;
-mod convolve_wide;
 mod make;
 mod rows;
 mod scratch;

@@ -6,8 +6,8 @@ use Rattle.flt_rows.proofs.DivideLemmas.{quotient_other}
 use Rattle.flt_rows.proofs.narrow.show.Goals as goal
 use mir.Syntax.{w16}
 
-pub returns-else-sum-ending : goal.returns-else-sum-ending
-returns-else-sum-ending c =
+pub returns-else-sum-ending-clause-value : goal.returns-else-sum-ending-clause-value
+returns-else-sum-ending-clause-value c =
     let ending = c.args.ending in
     let size : ℕ = c.divide-size.result in
     let n = to_z-of_z w16 c.args.sum c.ranges.sum in
@@ -15,4 +15,4 @@ returns-else-sum-ending c =
     let is : size ≡ unsigned_abs c.args.sum / unsigned_abs ending.divisor = rw (c.unsigned_abs.ensures.value, c.unsigned_abs-2.ensures.value, n, d) at c.divide-size.ensures in
     let quotient : int_div c.args.sum ending.divisor ≡ neg_ℤ (pos size) = quotient_other c.args.sum ending.divisor size is (rw (n, d) at c.if-sum-ending.false) in
     let moved : pos ending.more -ℤ pos (size + ending.less) ≡ neg_ℤ (pos size) +ℤ (pos ending.more -ℤ pos ending.less) = omega (arith, ints) in
-    c.sample_between-else-sum-ending.ensures ∙ ap (sample_from ending.largest) (moved ∙ ap (λ q. q +ℤ (pos ending.more -ℤ pos ending.less)) (sym quotient))
+    c.sample_between-else-sum-ending.ensures.value ∙ ap (sample_from ending.largest) (moved ∙ ap (λ q. q +ℤ (pos ending.more -ℤ pos ending.less)) (sym quotient))

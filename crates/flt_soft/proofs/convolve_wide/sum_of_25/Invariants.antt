@@ -1,7 +1,0 @@
-use Rattle.std.proofs.Common.{◌≡◌, ℕ, ◌*◌, ◌<◌, get_or, take, length, pos}
-use Rattle.fv_plane.specs.Picture.{look_in}
-use Rattle.clip_term.specs.Soft.{weighed}
-use Rattle.flt_soft.proofs.convolve_wide.sum_of_25.Given as goal
-
-abbrev pub invariant-loop-i : goal.invariant-loop-i
-invariant-loop-i l = (x : ℕ) → x < length l.sums → get_or l.sums x (pos 0) ≡ weighed 5 0 (take (5 * l.i) l.weights) l.input.shape (look_in l.input) l.plane x l.y
