@@ -4,7 +4,7 @@ ghost use Rattle.std.specs.Prelude.{◌≡◌, ◌+◌, ◌*◌, ◌/◌, ◌<�
 ghost use Rattle.fv_plane.specs.Picture.{wide_samples};
 ghost use Rattle.clip_term.specs.Soft.{near, softened};
 
-use fv_plane::wide_sample;
+use crate::sample::Sample;
 
 // A sample that differs by more than the threshold counts as the middle one.
 #[inline(always)]
@@ -44,27 +44,23 @@ fn mean_of_five(threshold: u16, a: u16, b: u16, middle: u16, c: u16, d: u16) -> 
     ((sum + 2) / 5) as u16
 }
 
-/// The sample in column `x` of the bytes of a row.
-#[inline(always)]
-pub fn sample(row: &[u8], x: usize) -> u16
-    requires { 2 * x + 1 < length row.now }
-    ensures { result ≡ slice_index (wide_samples row.now) x }
-{
-    wide_sample(row, x)
-}
-
 /// The means of the samples of three rows of bytes, beside the second.
 pub fn soften_three(a: &[u8], row: &[u8], b: &[u8], threshold: u16, out: &mut [u16])
     requires some { 0 < threshold }
-    requires a { length a.now ≡ length out.old * 2 }
-    requires row { length row.now ≡ length out.old * 2 }
-    requires b { length b.now ≡ length out.old * 2 }
+    requires a { length (wide_samples a.now) ≡ length out.old }
+    requires row { length (wide_samples row.now) ≡ length out.old }
+    requires b { length (wide_samples b.now) ≡ length out.old }
     ensures { EachIndex out.new (λ x. slice_index out.new x ≡ softened 1 threshold (slice_index (wide_samples row.now) x)
         (slice_index (wide_samples a.now) x ∷ slice_index (wide_samples row.now) x
         ∷ slice_index (wide_samples b.now) x ∷ [])) }
 {
     for x in 0..out.len() {
-        out[x] = mean_of_three(threshold, sample(a, x), sample(row, x), sample(b, x));
+        out[x] = mean_of_three(
+            threshold,
+            u16::read(a, x),
+            u16::read(row, x),
+            u16::read(b, x),
+        );
     }
 }
 
@@ -79,24 +75,24 @@ pub fn soften_five(
     out: &mut [u16],
 )
     requires some { 0 < threshold }
-    requires a { length a.now ≡ length out.old * 2 }
-    requires b { length b.now ≡ length out.old * 2 }
-    requires row { length row.now ≡ length out.old * 2 }
-    requires c { length c.now ≡ length out.old * 2 }
-    requires d { length d.now ≡ length out.old * 2 }
+    requires a { length (wide_samples a.now) ≡ length out.old }
+    requires b { length (wide_samples b.now) ≡ length out.old }
+    requires row { length (wide_samples row.now) ≡ length out.old }
+    requires c { length (wide_samples c.now) ≡ length out.old }
+    requires d { length (wide_samples d.now) ≡ length out.old }
     ensures { EachIndex out.new (λ x. slice_index out.new x ≡ softened 2 threshold (slice_index (wide_samples row.now) x)
         (slice_index (wide_samples a.now) x ∷ slice_index (wide_samples b.now) x ∷ slice_index (wide_samples row.now) x
         ∷ slice_index (wide_samples c.now) x ∷ slice_index (wide_samples d.now) x ∷ [])) }
 {
     for x in 0..out.len() {
-        let middle = sample(row, x);
+        let middle = u16::read(row, x);
         out[x] = mean_of_five(
             threshold,
-            sample(a, x),
-            sample(b, x),
+            u16::read(a, x),
+            u16::read(b, x),
             middle,
-            sample(c, x),
-            sample(d, x),
+            u16::read(c, x),
+            u16::read(d, x),
         );
     }
 }

@@ -27,10 +27,10 @@ fn soften_many(
     requires sums { length sums.old ≡ length out.old }
     ensures { EachIndex out.new (λ x. slice_index out.new x ≡ means_at inputs.now threshold plane x y) }
 {
-    let row = row_in(inputs, inputs.len() / 2, plane, y);
+    let row = row_in::<u8>(inputs, inputs.len() / 2, plane, y);
     sums.fill(0);
     for i in 0..inputs.len() {
-        add_near(row, row_in(inputs, i, plane, y), threshold, sums);
+        add_near(row, row_in::<u8>(inputs, i, plane, y), threshold, sums);
     }
     match inputs.len() {
         7 => mean_row::<7>(sums, out),
@@ -59,18 +59,18 @@ fn soften_narrow(
 {
     match inputs.len() {
         3 => soften_three(
-            row_in(inputs, 0, plane, y),
-            row_in(inputs, 1, plane, y),
-            row_in(inputs, 2, plane, y),
+            row_in::<u8>(inputs, 0, plane, y),
+            row_in::<u8>(inputs, 1, plane, y),
+            row_in::<u8>(inputs, 2, plane, y),
             threshold,
             out,
         ),
         5 => soften_five(
-            row_in(inputs, 0, plane, y),
-            row_in(inputs, 1, plane, y),
-            row_in(inputs, 2, plane, y),
-            row_in(inputs, 3, plane, y),
-            row_in(inputs, 4, plane, y),
+            row_in::<u8>(inputs, 0, plane, y),
+            row_in::<u8>(inputs, 1, plane, y),
+            row_in::<u8>(inputs, 2, plane, y),
+            row_in::<u8>(inputs, 3, plane, y),
+            row_in::<u8>(inputs, 4, plane, y),
             threshold,
             out,
         ),

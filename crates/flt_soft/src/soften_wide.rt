@@ -4,7 +4,7 @@ ghost use Rattle.fv_plane.specs.Picture.{wide_bytes};
 ghost use Rattle.fv_plane.specs.Format.{IsLegal, plane_width, sample_bytes, scale};
 ghost use Rattle.flt_soft.specs.Pictures.{AreAround, means_at, row_of_means, shape_of};
 
-use crate::rows::{read_row_in, wide_row_in};
+use crate::rows::{read_row_in, row_in};
 use flt_rows::wide::{add_near, mean_row, soften_five, soften_three};
 use fv_plane::{Frame, Shape, write_samples};
 
@@ -64,18 +64,18 @@ fn fill_means(
 {
     match inputs.len() {
         3 => soften_three(
-            wide_row_in(inputs, 0, plane, y),
-            wide_row_in(inputs, 1, plane, y),
-            wide_row_in(inputs, 2, plane, y),
+            row_in::<u16>(inputs, 0, plane, y),
+            row_in::<u16>(inputs, 1, plane, y),
+            row_in::<u16>(inputs, 2, plane, y),
             threshold,
             row,
         ),
         5 => soften_five(
-            wide_row_in(inputs, 0, plane, y),
-            wide_row_in(inputs, 1, plane, y),
-            wide_row_in(inputs, 2, plane, y),
-            wide_row_in(inputs, 3, plane, y),
-            wide_row_in(inputs, 4, plane, y),
+            row_in::<u16>(inputs, 0, plane, y),
+            row_in::<u16>(inputs, 1, plane, y),
+            row_in::<u16>(inputs, 2, plane, y),
+            row_in::<u16>(inputs, 3, plane, y),
+            row_in::<u16>(inputs, 4, plane, y),
             threshold,
             row,
         ),

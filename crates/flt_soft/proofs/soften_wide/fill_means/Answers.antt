@@ -13,8 +13,8 @@ returns-in-3-clause-row c =
     let count : length inputs ≡ 3 = c.in-3.is in
     let half : 1 ≡ length inputs / 2 = omega arith in
     λ x h. c.soften_three.ensures x h
-    ∙ three_is t inputs p x y (wide_samples c.wide_row_in.result.now) (wide_samples c.wide_row_in-in-3.result.now) (wide_samples c.wide_row_in-in-3-2.result.now) count
-    c.wide_row_in.ensures.row c.wide_row_in-in-3.ensures.row c.wide_row_in-in-3-2.ensures.row
+    ∙ three_is t inputs p x y (wide_samples c.row_in.result.now) (wide_samples c.row_in-in-3.result.now) (wide_samples c.row_in-in-3-2.result.now) count
+    c.row_in.ensures.row c.row_in-in-3.ensures.row c.row_in-in-3-2.ensures.row
     ∙ ap (λ r. softened r t (look_at (map look_in inputs) r p x y) (samples_at (map look_in inputs) p x y)) half
 
 pub returns-in-5-clause-row : goal.returns-in-5-clause-row
@@ -26,7 +26,7 @@ returns-in-5-clause-row c =
     let count : length inputs ≡ 5 = c.in-5.is in
     let half : 2 ≡ length inputs / 2 = omega arith in
     λ x h. c.soften_five.ensures x h
-    ∙ five_is t inputs p x y (wide_samples c.wide_row_in-in-5.result.now) (wide_samples c.wide_row_in-in-5-2.result.now) (wide_samples c.wide_row_in-in-5-3.result.now)
-    (wide_samples c.wide_row_in-in-5-4.result.now) (wide_samples c.wide_row_in-in-5-5.result.now) count
-    c.wide_row_in-in-5.ensures.row c.wide_row_in-in-5-2.ensures.row c.wide_row_in-in-5-3.ensures.row c.wide_row_in-in-5-4.ensures.row c.wide_row_in-in-5-5.ensures.row
+    ∙ five_is t inputs p x y (wide_samples c.row_in-in-5.result.now) (wide_samples c.row_in-in-5-2.result.now) (wide_samples c.row_in-in-5-3.result.now)
+    (wide_samples c.row_in-in-5-4.result.now) (wide_samples c.row_in-in-5-5.result.now) count
+    c.row_in-in-5.ensures.row c.row_in-in-5-2.ensures.row c.row_in-in-5-3.ensures.row c.row_in-in-5-4.ensures.row c.row_in-in-5-5.ensures.row
     ∙ ap (λ r. softened r t (look_at (map look_in inputs) r p x y) (samples_at (map look_in inputs) p x y)) half
