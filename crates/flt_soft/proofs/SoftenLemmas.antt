@@ -1,8 +1,8 @@
 -- Means of the samples at a place.
-use Rattle.std.proofs.Common.{◌≡◌, ℕ, ◌+◌, ◌-◌, ◌*◌, ◌/◌, ◌<◌, ◌∙◌, List, [], ◌∷◌, length, map, get_or, take, refl, sym, ap, arith, Bool, true, false}
+use Rattle.std.proofs.Common.{◌≡◌, ℕ, ◌+◌, ◌-◌, ◌*◌, ◌/◌, ◌<◌, ◌≤◌, ◌∙◌, List, [], ◌∷◌, length, map, get_or, take, refl, sym, ap, arith, Bool, true, false}
 use Rattle.std.specs.Prelude.{ℤ, pos, negsuc, ◌≤ℤ◌, ◌||◌, Some, None, if◌then◌else◌, ◌==◌}
 use Rattle.std.specs.List.{range_with_len, sum}
-use Rattle.std.proofs.lemmas.List.{get_or-map, length-map}
+use Rattle.std.proofs.lemmas.List.{get_or-map, length-map, take_all}
 use Rattle.std.proofs.lemmas.Nat.{pow_pos}
 use Rattle.std.proofs.lemmas.Bool.Decides.{nat_tests}
 use Rattle.std.proofs.lemmas.Int.{ints}
@@ -52,13 +52,24 @@ second_of true a b e = cc
 second_of false a b e = refl
 
 -- the mean of a sum
-pub mean_is : (radius threshold middle count total : ℕ) (samples : List ℕ) → 0 < threshold → count ≡ 2 * radius + 1 → total ≡ sum (map (near threshold middle) samples)
+mean_is : (radius threshold middle count total : ℕ) (samples : List ℕ) → 0 < threshold → count ≡ 2 * radius + 1 → total ≡ sum (map (near threshold middle) samples)
     → (total + count / 2) / count ≡ softened radius threshold middle samples
 mean_is radius threshold middle count total samples some odd is =
     let half : count / 2 ≡ radius = omega arith in
     let S : ℕ = sum (map (near threshold middle) samples) in
     ap (λ n. (n + count / 2) / count) is ∙ ap (λ n. (S + n) / count) half ∙ ap (λ n. (S + radius) / n) odd
     ∙ sym (second_of (threshold == 0) middle ((S + radius) / (2 * radius + 1)) (not_zero threshold some))
+
+-- where all rows were added to sums, and these are divided, the means are there
+pub many_is : (count threshold : ℕ) (pictures : List Picture) (i p y : ℕ) (sums out : List ℕ) → 0 < threshold → count ≡ 2 * (length pictures / 2) + 1 → length pictures ≤ i → length out ≡ length sums
+    → ((x : ℕ) → x < length sums → get_or sums x 0 ≡ sum (take i (nears threshold (look_at (map look_in pictures) (length pictures / 2) p x y) pictures p x y)))
+    → ((x : ℕ) → x < length out → get_or out x 0 ≡ (get_or sums x 0 + count / 2) / count)
+    → (x : ℕ) → x < length out → get_or out x 0 ≡ means_at pictures threshold p x y
+many_is count threshold pictures i p y sums out some odd all long added divided x h =
+    let middle : ℕ = look_at (map look_in pictures) (length pictures / 2) p x y in
+    let each : List ℕ = nears threshold middle pictures p x y in
+    let total : get_or sums x 0 ≡ sum each = added x (omega (arith, h, long)) ∙ ap (λ l. sum l) (take_all i each (omega (arith, all, length-nears threshold middle pictures p x y))) in
+    divided x h ∙ mean_is (length pictures / 2) threshold middle count (get_or sums x 0) (samples_at (map look_in pictures) p x y) some odd total
 
 some_product : (n m : ℕ) → 0 < n → 0 < m → 0 < n * m
 some_product n m some more = grind arith
