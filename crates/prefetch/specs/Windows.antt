@@ -10,7 +10,7 @@ use Rattle.fv_plane.specs.declared.format.Info.{Info}
 use Rattle.fv_plane.specs.declared.key.Key.{Key}
 use Rattle.y4m_stream.specs.Stream.{frames_text}
 use Rattle.clip_graph.specs.Plan.{Application, application_at, key_picture}
-use Rattle.avs_meaning.specs.State.{Numbers, frames_or, workers as workers_asked, window as window_asked}
+use Rattle.avs_meaning.specs.State.{Numbers, frames_or, workers as workers_asked, window as outputs_asked}
 use Rattle.inst_table.specs.declared.held.Held.{Ghosts as HeldGhosts}
 use Rattle.serve_machine.specs.Events.{frame_key, WindowEvents}
 use Rattle.serve_machine.specs.Journals.{AreCrewFirst, AreCrewCut, IsAloneJournal, AreAloneFirst, AreAloneCut}
@@ -46,7 +46,7 @@ clip_at book plan root = record {
 -- so many threads that the words ask for, in place of those of the script. A window has the frames that the script gives,
 -- or twice as many as there are workers
 abbrev pub pool_asked : Option ℕ → Option Numbers → Pool
-pool_asked None crew = record { workers = workers_asked crew; window = window_asked crew }
+pool_asked None crew = record { workers = workers_asked crew; window = outputs_asked crew }
 pool_asked (Some threads) None = record { workers = threads; window = 2 * threads }
 pool_asked (Some threads) (Some crew) = record { workers = threads; window = frames_or threads crew.frames }
 
