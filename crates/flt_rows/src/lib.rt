@@ -3,8 +3,9 @@
 #![tactic(auto)]
 
 pub mod kernels;
+pub mod mean;
 pub mod narrow;
 pub mod reciprocal;
 pub mod sample;
 pub mod sums;
-pub mod wide;
+mod wide;

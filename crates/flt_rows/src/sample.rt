@@ -1,5 +1,6 @@
 // Samples of one byte and of two.
 ghost use Rattle.std.specs.Prelude.{◌≡◌, ◌<◌, ◌≤◌, ℕ, List, length, set, slice_index, refl};
+ghost use Rattle.std.proofs.Common.{rules};
 ghost use Rattle.fv_plane.specs.Picture.{wide_samples};
 
 use fv_plane::wide_sample;
@@ -33,6 +34,9 @@ pub trait Sample: Copy {
 
     // A row has as many numbers as samples.
     ghost long: { (row : List Self) → length (numbers row) ≡ length row };
+
+    // A sample has eight bits at least.
+    ghost large: { 255 ≤ most };
 }
 
 impl Sample for u8 {
@@ -43,6 +47,8 @@ impl Sample for u8 {
     ghost of_bytes = { λ row. row };
 
     ghost long = { λ row. refl };
+
+    ghost large = { Prim.search rules };
 
     #[inline(always)]
     fn at(row: &[u8], x: usize) -> u16 {
@@ -68,6 +74,8 @@ impl Sample for u16 {
     ghost of_bytes = { wide_samples };
 
     ghost long = { λ row. refl };
+
+    ghost large = { Prim.search rules };
 
     #[inline(always)]
     fn at(row: &[u16], x: usize) -> u16 {

@@ -60,16 +60,15 @@ mean_is radius threshold middle count total samples some odd is =
     ap (λ n. (n + count / 2) / count) is ∙ ap (λ n. (S + n) / count) half ∙ ap (λ n. (S + radius) / n) odd
     ∙ sym (second_of (threshold == 0) middle ((S + radius) / (2 * radius + 1)) (not_zero threshold some))
 
--- where all rows were added to sums, and these are divided, the means are there
-pub many_is : (count threshold : ℕ) (pictures : List Picture) (i p y : ℕ) (sums out : List ℕ) → 0 < threshold → count ≡ 2 * (length pictures / 2) + 1 → length pictures ≤ i → length out ≡ length sums
-    → ((x : ℕ) → x < length sums → get_or sums x 0 ≡ sum (take i (nears threshold (look_at (map look_in pictures) (length pictures / 2) p x y) pictures p x y)))
-    → ((x : ℕ) → x < length out → get_or out x 0 ≡ (get_or sums x 0 + count / 2) / count)
-    → (x : ℕ) → x < length out → get_or out x 0 ≡ means_at pictures threshold p x y
-many_is count threshold pictures i p y sums out some odd all long added divided x h =
+-- where the samples of all rows were added, and the sum is divided, the mean is there
+pub many_is : (count threshold : ℕ) (pictures : List Picture) (i p x y total made : ℕ) → 0 < threshold → count ≡ 2 * (length pictures / 2) + 1 → length pictures ≤ i
+    → total ≡ sum (take i (nears threshold (look_at (map look_in pictures) (length pictures / 2) p x y) pictures p x y))
+    → made ≡ (total + count / 2) / count → made ≡ means_at pictures threshold p x y
+many_is count threshold pictures i p x y total made some odd all added divided =
     let middle : ℕ = look_at (map look_in pictures) (length pictures / 2) p x y in
     let each : List ℕ = nears threshold middle pictures p x y in
-    let total : get_or sums x 0 ≡ sum each = added x (omega (arith, h, long)) ∙ ap (λ l. sum l) (take_all i each (omega (arith, all, length-nears threshold middle pictures p x y))) in
-    divided x h ∙ mean_is (length pictures / 2) threshold middle count (get_or sums x 0) (samples_at (map look_in pictures) p x y) some odd total
+    let whole : total ≡ sum each = added ∙ ap (λ l. sum l) (take_all i each (omega (arith, all, length-nears threshold middle pictures p x y))) in
+    divided ∙ mean_is (length pictures / 2) threshold middle count total (samples_at (map look_in pictures) p x y) some odd whole
 
 some_product : (n m : ℕ) → 0 < n → 0 < m → 0 < n * m
 some_product n m some more = grind arith
@@ -77,10 +76,6 @@ some_product n m some more = grind arith
 threshold_is : (luma_only : Bool) (luma chroma s : ℕ) → nat_of (if luma_only then pos luma else pos chroma) * s ≡ (if luma_only then luma else chroma) * s
 threshold_is true luma chroma s = refl
 threshold_is false luma chroma s = refl
-
--- for samples of eight bits a threshold counts as it is
-pub narrow_threshold : (shape : Shape) (threshold n : ℕ) → shape.bits ≡ 8 → threshold ≡ n → threshold ≡ n * scale shape
-narrow_threshold shape threshold n narrow is = rw narrow (omega arith)
 
 -- a threshold that is not 0 stays so for samples of more bits
 pub some_scaled : (shape : Shape) (n : ℕ) → 0 < n → 0 < n * scale shape

@@ -9,7 +9,6 @@ mod make;
 mod rows;
 mod scratch;
 mod soften;
-mod soften_wide;
 
 pub use clip_check::check_soft;
 pub use clip_term::{MatrixFault, read_matrix};

@@ -7,11 +7,11 @@ ghost use Rattle.flt_rows.specs.Rows.{extended};
 ghost use Rattle.flt_soft.specs.Pictures.{HaveShape, row_in, shape_of};
 
 use flt_rows::kernels::pad_row;
-use flt_rows::sample::Sample;
+use flt_rows::mean::Mean;
 use fv_plane::Frame;
 
 /// Samples of one size, as they stand in a frame.
-pub trait Stored: Sample {
+pub trait Stored: Mean {
     // Whether the samples of a shape have this size.
     ghost fits: { Shape → Type 0 };
 
@@ -89,18 +89,4 @@ pub fn row_in<T: Stored>(inputs: &[Frame], i: usize, plane: u32, y: u32) -> &[u8
     ensures whole { length (T.of_bytes result.now) ≡ plane_width (shape_of inputs.now) plane }
 {
     T::row(&inputs[i], plane, y)
-}
-
-/// Reads a row of one of the inputs, of samples of two bytes.
-pub fn read_row_in(inputs: &[Frame], i: usize, plane: u32, y: u32, samples: &mut [u16])
-    requires input { i < length inputs.now }
-    requires alike { HaveShape (shape_of inputs.now) inputs.now }
-    requires wide { sample_bytes (shape_of inputs.now) ≡ 2 }
-    requires plane { plane < planes (shape_of inputs.now).kind }
-    requires inside { y < plane_height (shape_of inputs.now) plane }
-    requires whole { length samples.old ≡ plane_width (shape_of inputs.now) plane }
-    ensures { samples.new ≡ row_in inputs.now i plane y }
-{
-    let input = &inputs[i];
-    input.read_row(plane, y, samples);
 }

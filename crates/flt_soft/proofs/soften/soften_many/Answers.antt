@@ -1,5 +1,6 @@
-use Rattle.std.proofs.Common.{◌≡◌, ◌<◌, ◌+◌, ◌/◌, ◌∙◌, ℕ, List, length, map, get_or, take, sym, ap, arith}
+use Rattle.std.proofs.Common.{◌≤◌, ◌≡◌, ◌<◌, ◌+◌, ◌/◌, ◌∙◌, ℕ, List, length, map, get_or, take, sym, ap, arith}
 use Rattle.std.specs.List.{sum}
+use Rattle.std.proofs.lemmas.Nat.{mul-le}
 use Rattle.fv_plane.specs.Picture.{Picture, look_in, look_at}
 use Rattle.clip_term.specs.Soft.{near}
 use Rattle.flt_soft.specs.Pictures.{row_in}
@@ -7,7 +8,7 @@ use Rattle.flt_soft.proofs.SoftenLemmas.{nears, near_more, look_seen, many_is}
 use Rattle.flt_soft.proofs.soften.soften_many.Goals as goal
 
 pub loop-i-preserved : goal.loop-i-preserved
-loop-i-preserved c =
+loop-i-preserved g c =
     let inputs : List Picture = c.args.inputs.now in
     let p = c.args.plane in
     let y = c.args.y in
@@ -18,32 +19,39 @@ loop-i-preserved c =
     record {
       made = λ x h.
           let inside : x < length c.loop-i.sums = omega arith in
-          let mine : get_or c.row_in-row.result.now x 0 ≡ middle x = ap (λ l. get_or l x 0) c.row_in-row.ensures.row ∙ sym (look_seen inputs half p x y (omega arith)) in
-          let other : get_or c.row_in.result.now x 0 ≡ get_or (row_in inputs i p y) x 0 = ap (λ l. get_or l x 0) c.row_in.ensures.row in
+          let mine : get_or (g.T.Sample.of_bytes c.row_in-row.result.now) x 0 ≡ middle x = ap (λ l. get_or l x 0) c.row_in-row.ensures.row ∙ sym (look_seen inputs half p x y (omega arith)) in
+          let other : get_or (g.T.Sample.of_bytes c.row_in.result.now) x 0 ≡ get_or (row_in inputs i p y) x 0 = ap (λ l. get_or l x 0) c.row_in.ensures.row in
           c.add_near.ensures.sums x h
-          ∙ ap (λ s. s + near t (get_or c.row_in-row.result.now x 0) (get_or c.row_in.result.now x 0)) (c.loop-i.invariant.made x inside)
-          ∙ ap (λ m. sum (take i (nears t (middle x) inputs p x y)) + near t m (get_or c.row_in.result.now x 0)) mine
+          ∙ ap (λ s. s + near t (get_or (g.T.Sample.of_bytes c.row_in-row.result.now) x 0) (get_or (g.T.Sample.of_bytes c.row_in.result.now) x 0)) (c.loop-i.invariant.made x inside)
+          ∙ ap (λ m. sum (take i (nears t (middle x) inputs p x y)) + near t m (get_or (g.T.Sample.of_bytes c.row_in.result.now) x 0)) mine
           ∙ ap (λ q. sum (take i (nears t (middle x) inputs p x y)) + near t (middle x) q) other
           ∙ sym (near_more t (middle x) inputs i p x y c.loop-i-test.true);
       few = λ x. omega (arith, c.add_near.ensures.few x, c.loop-i.invariant.few x);
     }
 
+pub add_near-requires-clause-room : goal.add_near-requires-clause-room
+add_near-requires-clause-room g c =
+    let most : ℕ = g.T.Sample.most in
+    let i : ℕ = c.loop-i.i in
+    let few : i ≤ most + 1 = omega (arith, g.met.T.Sample.large, c.loop-i-test.true, c.requires.around.few) in
+    λ x. omega (arith, c.loop-i.invariant.few x, mul-le most i most (most + 1) (omega arith) few)
+
 pub returns-in-7 : goal.returns-in-7
-returns-in-7 c =
-    many_is 7 c.args.threshold c.args.inputs.now c.loop-i.i c.args.plane c.args.y c.loop-i.sums _ c.requires.some (omega arith) (omega (arith, c.loop-i-test.false)) (omega arith) c.loop-i.invariant.made c.mean_row.ensures
+returns-in-7 g c = λ x h.
+    many_is 7 c.args.threshold c.args.inputs.now c.loop-i.i c.args.plane x c.args.y _ _ c.requires.some (omega arith) (omega (arith, c.loop-i-test.false)) (c.loop-i.invariant.made x (omega arith)) (c.mean_row.ensures x h)
 
 pub returns-in-9 : goal.returns-in-9
-returns-in-9 c =
-    many_is 9 c.args.threshold c.args.inputs.now c.loop-i.i c.args.plane c.args.y c.loop-i.sums _ c.requires.some (omega arith) (omega (arith, c.loop-i-test.false)) (omega arith) c.loop-i.invariant.made c.mean_row-in-9.ensures
+returns-in-9 g c = λ x h.
+    many_is 9 c.args.threshold c.args.inputs.now c.loop-i.i c.args.plane x c.args.y _ _ c.requires.some (omega arith) (omega (arith, c.loop-i-test.false)) (c.loop-i.invariant.made x (omega arith)) (c.mean_row-in-9.ensures x h)
 
 pub returns-in-11 : goal.returns-in-11
-returns-in-11 c =
-    many_is 11 c.args.threshold c.args.inputs.now c.loop-i.i c.args.plane c.args.y c.loop-i.sums _ c.requires.some (omega arith) (omega (arith, c.loop-i-test.false)) (omega arith) c.loop-i.invariant.made c.mean_row-in-11.ensures
+returns-in-11 g c = λ x h.
+    many_is 11 c.args.threshold c.args.inputs.now c.loop-i.i c.args.plane x c.args.y _ _ c.requires.some (omega arith) (omega (arith, c.loop-i-test.false)) (c.loop-i.invariant.made x (omega arith)) (c.mean_row-in-11.ensures x h)
 
 pub returns-in-13 : goal.returns-in-13
-returns-in-13 c =
-    many_is 13 c.args.threshold c.args.inputs.now c.loop-i.i c.args.plane c.args.y c.loop-i.sums _ c.requires.some (omega arith) (omega (arith, c.loop-i-test.false)) (omega arith) c.loop-i.invariant.made c.mean_row-in-13.ensures
+returns-in-13 g c = λ x h.
+    many_is 13 c.args.threshold c.args.inputs.now c.loop-i.i c.args.plane x c.args.y _ _ c.requires.some (omega arith) (omega (arith, c.loop-i-test.false)) (c.loop-i.invariant.made x (omega arith)) (c.mean_row-in-13.ensures x h)
 
 pub returns-in_default : goal.returns-in_default
-returns-in_default c =
-    many_is 15 c.args.threshold c.args.inputs.now c.loop-i.i c.args.plane c.args.y c.loop-i.sums _ c.requires.some (omega arith) (omega (arith, c.loop-i-test.false)) (omega arith) c.loop-i.invariant.made c.mean_row-in_default.ensures
+returns-in_default g c = λ x h.
+    many_is 15 c.args.threshold c.args.inputs.now c.loop-i.i c.args.plane x c.args.y _ _ c.requires.some (omega arith) (omega (arith, c.loop-i-test.false)) (c.loop-i.invariant.made x (omega arith)) (c.mean_row-in_default.ensures x h)

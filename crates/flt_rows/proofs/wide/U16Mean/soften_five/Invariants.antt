@@ -1,7 +1,7 @@
 use Rattle.std.proofs.Common.{◌≡◌, ℕ, ◌<◌, get_or, [], ◌∷◌}
 use Rattle.fv_plane.specs.Picture.{wide_samples}
 use Rattle.clip_term.specs.Soft.{softened}
-use Rattle.flt_rows.proofs.wide.soften_five.Given as goal
+use Rattle.flt_rows.proofs.wide.U16Mean.soften_five.Given as goal
 
 abbrev pub invariant-loop-x : goal.invariant-loop-x
 invariant-loop-x l =

@@ -1,6 +1,6 @@
 use Rattle.std.proofs.Common.{◌≡◌, ◌+◌, ℕ, ◌<◌, ◌≤◌, get_or}
 use Rattle.clip_term.specs.Soft.{near}
-use Rattle.flt_rows.proofs.kernels.add_near.Given as goal
+use Rattle.flt_rows.proofs.kernels.U8Mean.add_near.Given as goal
 
 abbrev pub invariant-loop-x : goal.invariant-loop-x
 invariant-loop-x l = record {
