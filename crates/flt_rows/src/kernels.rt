@@ -1,4 +1,4 @@
-// What is done to rows of samples. Plain loops over slices, which the compiler turns into vector instructions.
+// What is done to rows of samples of one byte. Plain loops over slices, which the compiler turns into vector instructions.
 ghost use Rattle.std.specs.Prelude.{◌≡◌, ◌+◌, ◌*◌, ◌/◌, ◌<◌, ◌≤◌, ℕ, EachIndex, length, slice_index, [], ◌∷◌};
 ghost use Rattle.clip_term.specs.Soft.{near, softened};
 ghost use Rattle.flt_rows.specs.Rows.{extended};

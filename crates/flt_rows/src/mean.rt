@@ -19,10 +19,9 @@ pub trait Mean: Sample {
         requires a { length (Self.of_bytes a.now) ≡ length out.old }
         requires row { length (Self.of_bytes row.now) ≡ length out.old }
         requires b { length (Self.of_bytes b.now) ≡ length out.old }
-        ensures { EachIndex out.new (λ x. slice_index (Self.numbers out.new) x
-            ≡ softened 1 threshold (slice_index (Self.of_bytes row.now) x)
-            (slice_index (Self.of_bytes a.now) x ∷ slice_index (Self.of_bytes row.now) x
-            ∷ slice_index (Self.of_bytes b.now) x ∷ [])) };
+        ensures { EachIndex out.new (λ x. let at = λ (row : List ℕ). slice_index (Self.of_bytes row) x in
+            slice_index (Self.numbers out.new) x
+            ≡ softened 1 threshold (at row.now) (at a.now ∷ at row.now ∷ at b.now ∷ [])) };
 
     /// The means of five rows, beside the third.
     fn soften_five(
@@ -41,11 +40,9 @@ pub trait Mean: Sample {
         requires row { length (Self.of_bytes row.now) ≡ length out.old }
         requires c { length (Self.of_bytes c.now) ≡ length out.old }
         requires d { length (Self.of_bytes d.now) ≡ length out.old }
-        ensures { EachIndex out.new (λ x. slice_index (Self.numbers out.new) x
-            ≡ softened 2 threshold (slice_index (Self.of_bytes row.now) x)
-            (slice_index (Self.of_bytes a.now) x ∷ slice_index (Self.of_bytes b.now) x
-            ∷ slice_index (Self.of_bytes row.now) x
-            ∷ slice_index (Self.of_bytes c.now) x ∷ slice_index (Self.of_bytes d.now) x ∷ [])) };
+        ensures { EachIndex out.new (λ x. let at = λ (row : List ℕ). slice_index (Self.of_bytes row) x in
+            slice_index (Self.numbers out.new) x
+            ≡ softened 2 threshold (at row.now) (at a.now ∷ at b.now ∷ at row.now ∷ at c.now ∷ at d.now ∷ [])) };
 
     /// Sums of no rows.
     fn clear(sums: &mut [Self::Sum])

@@ -24,7 +24,7 @@ use Rattle.std.proofs.lemmas.Int.{unsigned_abs-mul}
 use Rattle.std.proofs.lemmas.Nat.{mul-le}
 use Rattle.flt_rows.specs.Rows.{IsBias}
 use Rattle.flt_rows.specs.Squares.{AreAtMost}
-use Rattle.flt_soft.specs.Pictures.{CanSoften, HaveShape, asked_count, bytes_made, keeps_plane, row_made, shape_of}
+use Rattle.flt_soft.specs.Pictures.{CanSoften, HaveShape, asked_count, bytes_made, keeps_plane, shape_of}
 use Rattle.flt_soft.proofs.SoftenLemmas.{look_seen}
 use Rattle.flt_rows.proofs.WeightLemmas.{size_of_bias}
 
@@ -205,13 +205,6 @@ kept_plane filter pictures middle p can keeps is there =
     }
 
 -- SUMS
-
--- one picture is the first, and its sums are what the filter is defined to make
-pub convolved_made : (bias : ℤ) (matrix : Matrix) (pictures : List Picture) (one : Picture) (p y : ℕ) → length pictures ≡ 1 → one ≡ get_or pictures 0 one
-    → row_from (convolved bias matrix.entries one.shape (look_in one)) p (plane_width one.shape p) y ≡ row_made (op.GeneralConvolution bias matrix) pictures p y
-convolved_made bias matrix [] one p y count is = absurd (omega arith)
-convolved_made bias matrix (a ∷ []) one p y count is = ap (λ (q : Picture). row_from (convolved bias matrix.entries q.shape (look_in q)) p (plane_width q.shape p) y) is
-convolved_made bias matrix (a ∷ b ∷ more) one p y count is = absurd (omega arith)
 
 -- a row whose samples are those of the sums around them is listed
 pub convolved_listed : (bias : ℤ) (matrix : Matrix) (pictures : List Picture) (one : Picture) (p y width : ℕ) (out : List ℕ) → length pictures ≡ 1 → one ≡ get_or pictures 0 one → length out ≡ width
