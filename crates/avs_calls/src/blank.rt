@@ -6,12 +6,12 @@ ghost use Rattle.fv_plane.specs.Info.{IsPar};
 ghost use Rattle.clip_term.specs.Blank as b;
 ghost use Rattle.avs_meaning.specs.Arguments.{all_fit_filters};
 ghost use Rattle.avs_meaning.specs.Filters as f;
-ghost use Rattle.avs_state.specs.Walks.{Runs};
 ghost use Rattle.avs_calls.specs.Views.{args_view, text_given};
+ghost use Rattle.avs_calls.specs.Within.{RunsWithin};
 
 use crate::arguments::{number_at, text_at};
-use avs_meaning::{EvalError, ScriptKind};
-use avs_state::{At, Machine, fault_at};
+use avs_meaning::ScriptKind;
+use avs_state::{Machine, Stop};
 use avs_values::Value;
 use clip_term::{BLACK, Filter, FilterFault, Op, colour_of, is_colour};
 use fv_io::Text;
@@ -172,15 +172,15 @@ fn blank_like(
     machine: &mut Machine,
     base: &Info,
     args: &BlankArgs<'_>,
-    at: At<'_>,
-) -> Result<Value, EvalError>
+    line: u32,
+) -> Result<Value, Stop>
     requires par { IsPar base.now.par }
     requires depth { has_depth base.now.shape.kind base.now.shape.bits ≡ true }
-    ensures { Runs (λ x. x) (f.blank_like at.entry.name.now base.now (args_view args.now) at.entry.line)
+    ensures { RunsWithin (λ x. x) (λ here. f.blank_like here base.now (args_view args.now) line)
         machine.old result machine.new }
 {
     if let Some(fault) = refusal(base, args) {
-        return Err(fault_at(alloc, ScriptKind::Filter(fault), at));
+        return Err(Stop::Fault(ScriptKind::Filter(fault), line));
     }
     let info = blank_info(base, args);
     let colour = colour_of(colour_given(args));
@@ -189,7 +189,7 @@ fn blank_like(
         Filter::BlankClip,
         Op::Blank { info, colour },
         &[],
-        at,
+        line,
     )
 }
 
@@ -199,17 +199,17 @@ fn blank_of(
     machine: &mut Machine,
     clip: Option<&Value>,
     args: &BlankArgs<'_>,
-    at: At<'_>,
-) -> Result<Value, EvalError>
-    ensures { Runs (λ x. x) (f.blank_of at.entry.name.now (option_map (λ value. value.now) clip.entry)
-        (args_view args.now) at.entry.line) machine.old result machine.new }
+    line: u32,
+) -> Result<Value, Stop>
+    ensures { RunsWithin (λ x. x) (λ here. f.blank_of here (option_map (λ value. value.now) clip.entry) (args_view
+        args.now) line) machine.old result machine.new }
 {
     match clip {
         Some(Value::Clip(i)) => {
-            let info = machine.info_of(alloc, *i, at)?;
-            blank_like(alloc, machine, &info, args, at)
+            let info = machine.info_of(*i, line)?;
+            blank_like(alloc, machine, &info, args, line)
         }
-        _ => blank_like(alloc, machine, &default_clip(), args, at),
+        _ => blank_like(alloc, machine, &default_clip(), args, line),
     }
 }
 
@@ -220,16 +220,15 @@ pub(crate) fn blank(
     machine: &mut Machine,
     signature: usize,
     values: &[Value],
-    at: At<'_>,
-) -> Result<Value, EvalError>
+    line: u32,
+) -> Result<Value, Stop>
     requires fit { IsTrue (all_fit_filters values.now) }
-    ensures { Runs (λ x. x) (f.blank at.entry.name.now signature values.now at.entry.line)
-        machine.old result machine.new }
+    ensures { RunsWithin (λ x. x) (λ here. f.blank here signature values.now line) machine.old result machine.new }
 {
     if signature == 0 {
         let args = BlankArgs::of(values, 0);
-        return blank_of(alloc, machine, values.get(7), &args, at);
+        return blank_of(alloc, machine, values.get(7), &args, line);
     }
     let args = BlankArgs::of(values, 1);
-    blank_of(alloc, machine, values.first(), &args, at)
+    blank_of(alloc, machine, values.first(), &args, line)
 }

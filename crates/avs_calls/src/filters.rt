@@ -1,5 +1,6 @@
 // The filters, with their bound arguments.
 ghost use Rattle.std.specs.Prelude.{◌≡◌, ◌≤◌, OnOk};
+ghost use Rattle.avs_values.specs.Values.{Text as Name};
 ghost use Rattle.avs_values.specs.Views.{bound_view};
 ghost use Rattle.avs_meaning.specs.Arguments as a;
 ghost use Rattle.avs_meaning.specs.Table as r;
@@ -8,15 +9,16 @@ ghost use Rattle.avs_meaning.specs.State.{Outside};
 ghost use Rattle.avs_parse.specs.Load.{script_of};
 ghost use Rattle.avs_state.specs.Answers.{Gives};
 ghost use Rattle.avs_state.specs.Sources.{sources_of};
-ghost use Rattle.avs_state.specs.Walks.{Runs};
+ghost use Rattle.avs_state.specs.Stops.{in_text};
 ghost use Rattle.avs_state.specs.States.{state_of, AsksNothing};
+ghost use Rattle.avs_calls.specs.Within.{RunsWithin};
 
 use crate::arguments::{add_clips, all_fit_filters};
 use crate::blank::blank;
 use crate::read::{op_given, takes};
 use crate::refused::Refused;
 use avs_meaning::{EvalError, ScriptKind};
-use avs_state::{At, Machine, fault_at};
+use avs_state::{Machine, Stop};
 use avs_values::{Bound, Value};
 use clip_term::{Filter, FilterFault, Op, TimeOp};
 use fv_io::Text;
@@ -32,21 +34,21 @@ fn with_info(
     given: &Bound,
     inputs: &[u32],
     clip: &Info,
-    at: At<'_>,
-) -> Result<Value, EvalError>
+    line: u32,
+) -> Result<Value, Stop>
     requires { clip.now.frames ≤ 1000000 }
-    ensures { Runs (λ x. x) (f.applied_by at.entry.name.now (r.reading script_of (bound_view given.now) clip.now filter)
-        filter inputs.now at.entry.line) machine.old result machine.new }
+    ensures { RunsWithin (λ x. x) (λ here. f.applied_by here (r.reading script_of (bound_view given.now) clip.now
+        filter) filter inputs.now line) machine.old result machine.new }
 {
     let op = match op_given(alloc, given, clip, filter) {
         Ok(op) => op,
-        Err(Refused::Fault(kind)) => return Err(fault_at(alloc, kind, at)),
-        Err(Refused::Memory) => return Err(EvalError::Memory),
+        Err(Refused::Fault(kind)) => return Err(Stop::Fault(kind, line)),
+        Err(Refused::Memory) => return Err(Stop::Whole(EvalError::Memory)),
     };
     if !takes(&op, inputs.len()) {
-        return Err(fault_at(alloc, ScriptKind::NoMatch, at));
+        return Err(Stop::Fault(ScriptKind::NoMatch, line));
     }
-    machine.make(alloc, filter, op, inputs, at)
+    machine.make(alloc, filter, op, inputs, line)
 }
 
 // Applies a filter but a source to the clips among its arguments.
@@ -55,19 +57,19 @@ fn on_clips(
     machine: &mut Machine,
     filter: Filter,
     given: &Bound,
-    at: At<'_>,
-) -> Result<Value, EvalError>
-    ensures { Runs (λ x. x) (f.applied at.entry.name.now script_of filter (bound_view given.now)
-        (a.clips_given (bound_view given.now)) at.entry.line) machine.old result machine.new }
+    line: u32,
+) -> Result<Value, Stop>
+    ensures { RunsWithin (λ x. x) (λ here. f.applied here script_of filter (bound_view given.now) (a.clips_given
+        (bound_view given.now)) line) machine.old result machine.new }
 {
     let mut inputs = Vec::new(alloc);
     add_clips(&mut inputs, &given.values)?;
     add_clips(&mut inputs, &given.rest)?;
     let Some(first) = inputs.first() else {
-        return Err(fault_at(alloc, ScriptKind::NoMatch, at));
+        return Err(Stop::Fault(ScriptKind::NoMatch, line));
     };
-    let info = machine.info_of(alloc, *first, at)?;
-    with_info(alloc, machine, filter, given, &inputs, &info, at)
+    let info = machine.info_of(*first, line)?;
+    with_info(alloc, machine, filter, given, &inputs, &info, line)
 }
 
 /// Applies a filter but `Y4MSource`, whose arguments are bound by the signature of this number.
@@ -77,22 +79,22 @@ pub fn apply_filter(
     filter: Filter,
     signature: usize,
     given: &Bound,
-    at: At<'_>,
-) -> Result<Value, EvalError>
+    line: u32,
+) -> Result<Value, Stop>
     requires { filter ≡ Filter.Y4MSource → ⊥ }
-    ensures gives { (outside : Outside) → outside.trees ≡ script_of → Gives (λ x. x)
-        (f.filtered at.entry.name.now outside filter signature (bound_view given.now) at.entry.line (state_of machine.old))
-        result (state_of machine.new) }
+    ensures gives { (here : Name) (outside : Outside) → outside.trees ≡ script_of → Gives (λ x. x)
+        (f.filtered here outside filter signature (bound_view given.now) line (state_of machine.old))
+        (in_text here result) (state_of machine.new) }
     ensures asks { AsksNothing machine.old machine.new }
     ensures sources { OnOk result (sources_of (state_of machine.new).plan ≡ sources_of (state_of machine.old).plan) }
 {
     if let Filter::BlankClip = filter {
         if !all_fit_filters(&given.values) {
-            return Err(fault_at(alloc, ScriptKind::Filter(FilterFault::BadRange), at));
+            return Err(Stop::Fault(ScriptKind::Filter(FilterFault::BadRange), line));
         }
-        return blank(alloc, machine, signature, &given.values, at);
+        return blank(alloc, machine, signature, &given.values, line);
     }
-    on_clips(alloc, machine, filter, given, at)
+    on_clips(alloc, machine, filter, given, line)
 }
 
 /// What `ApplyRange` makes of a clip and of what its function gave: that in a range of frames, and the clip elsewhere.
@@ -103,9 +105,9 @@ pub fn ranged(
     first: i32,
     last: i32,
     shown: &Value,
-    at: At<'_>,
-) -> Result<Value, EvalError>
-    ensures { Runs (λ x. x) (f.ranged at.entry.name.now clip first last at.entry.line shown.now)
+    line: u32,
+) -> Result<Value, Stop>
+    ensures { RunsWithin (λ x. x) (λ here. f.ranged here clip first last line shown.now)
         machine.old result machine.new }
 {
     match shown {
@@ -114,8 +116,8 @@ pub fn ranged(
             Filter::ApplyRange,
             Op::Time(TimeOp::ApplyRange { first, last }),
             &[clip, *shown],
-            at,
+            line,
         ),
-        _ => Err(fault_at(alloc, ScriptKind::TypeFault, at)),
+        _ => Err(Stop::Fault(ScriptKind::TypeFault, line)),
     }
 }

@@ -1,4 +1,4 @@
--- The statements of a text, once its functions are added, and the text of `Eval`.
+-- The statements of a text, once its functions are added, why it has none, and the text of `Eval`.
 use Rattle.std.specs.Prelude.{ℕ, [], ◌∷◌, Result}
 use Rattle.avs_tree.specs.Tree.{Loaded, NoTree, Block}
 use Rattle.avs_tree.specs.View.{block_view}
@@ -8,6 +8,12 @@ use Rattle.avs_values.specs.declared.value.Value.TheVariants as v
 use Rattle.avs_meaning.specs.State.{Context, Run, ◌>>=◌, pure}
 use Rattle.avs_meaning.specs.Expressions as e
 use Rattle.avs_meaning.specs.Expressions.{loaded_by}
+use Rattle.avs_meaning.specs.declared.fault.ScriptKind.TheVariants as k
+use Rattle.avs_meaning.specs.declared.stop.EvalError.TheVariants as stop
+use Rattle.avs_parse.specs.declared.fault.LoadFault.{LoadFault}
+use Rattle.avs_parse.specs.declared.fault.LoadFault.TheVariants as f
+use Rattle.avs_state.specs.declared.stop.Stop.{Stop}
+use Rattle.avs_state.specs.declared.stop.Stop.TheVariants as s
 use Rattle.avs_eval.specs.declared.texts.Body.{Body}
 
 -- the statements and the last line of a text of this name
@@ -16,6 +22,13 @@ body_by tree here = loaded_by tree here >>= (λ loaded. pure (loaded.tree.statem
 
 abbrev pub body_view : Body → Block × ℕ
 body_view body = (block_view body.statements.items, body.last_line)
+
+-- the stop of a text that has no tree
+abbrev pub load_stop : LoadFault → Stop
+load_stop (f.Lex kind line) = s.Fault (k.Lex kind) line
+load_stop (f.Syntax line) = s.Fault k.Syntax line
+load_stop (f.NestLimit line) = s.Fault k.NestLimit line
+load_stop f.Memory = s.Whole stop.Memory
 
 -- `Eval` of one text
 unfoldable pub eval_text : Context → Text → Text → ℕ → Run Value

@@ -1,9 +1,12 @@
 // Calls of the script's functions, of built-in functions and of filters, by name and with bound arguments.
-ghost use Rattle.std.specs.Prelude.{◌≡◌, ◌<◌};
+ghost use Rattle.std.specs.Prelude.{◌≡◌, ◌<◌, Err};
 ghost use Rattle.avs_values.specs.Views.{bound_view};
 ghost use Rattle.avs_meaning.specs.Expressions as e;
 ghost use Rattle.avs_meaning.specs.Filters as f;
+ghost use Rattle.avs_meaning.specs.declared.fault.ScriptKind.TheVariants as k;
 ghost use Rattle.avs_state.specs.Hosts.{Told};
+ghost use Rattle.avs_state.specs.Stops.{in_text};
+ghost use Rattle.avs_state.specs.declared.stop.Stop.TheVariants as s;
 ghost use Rattle.avs_state.specs.Walks.{Keeps, stop_in};
 ghost use Rattle.avs_eval.specs.OutsideBy.{context_in, outside_by};
 ghost use Rattle.avs_state.specs.States.{defined_view};
@@ -15,7 +18,7 @@ use crate::walker::Walker;
 use avs_calls::{apply_filter, clip_property, plain, prefetch, ranged, set_mode, signatures};
 use avs_expressions::{Callee, called, fit_or_last, parameters, signature_of};
 use avs_meaning::{Builtin, EvalError, ScriptKind, Variable};
-use avs_state::{At, ByName, Definition, Host, Machine, stop_of};
+use avs_state::{ByName, Definition, Host, Machine, Stop, stop_of};
 use avs_tree::Statement;
 use avs_values::{Bound, Given, Value};
 use clip_term::Filter;
@@ -34,18 +37,16 @@ impl<
         host: &mut H,
         name: &Text,
         line: u32,
-    ) -> Result<Value, EvalError>
+    ) -> Result<Value, Stop>
         ensures told { Told H.told (λ v. v) (f.open_by self.now.script_name.now (H.clips name.now) name.now line)
-            machine.old result machine.new }
-        ensures kept { Keeps H.Host machine.old host.old (stop_in result) machine.new host.new }
+            machine.old (in_text self.now.script_name.now result) machine.new }
+        ensures kept { Keeps H.Host machine.old host.old (stop_in (in_text self.now.script_name.now result))
+            machine.new host.new }
     {
-        let at = At {
-            name: self.script_name,
-            line,
-        };
+        let file = Text::from_str(self.alloc, name.as_str())?;
         match host.clip(name) {
-            Ok(info) => machine.add_source(self.alloc, name, info, at),
-            Err(fault) => Err(stop_of(self.alloc, fault, name, at)),
+            Ok(info) => machine.add_source(self.alloc, file, info, line),
+            Err(fault) => Err(stop_of(fault, file, line)),
         }
     }
 
@@ -56,15 +57,16 @@ impl<
         host: &mut H,
         values: &[Value],
         line: u32,
-    ) -> Result<Value, EvalError>
+    ) -> Result<Value, Stop>
         ensures told { Told H.told (λ v. v)
             (f.open_source self.now.script_name.now (outside_by H.clips H.scripts) values.now line)
-            machine.old result machine.new }
-        ensures kept { Keeps H.Host machine.old host.old (stop_in result) machine.new host.new }
+            machine.old (in_text self.now.script_name.now result) machine.new }
+        ensures kept { Keeps H.Host machine.old host.old (stop_in (in_text self.now.script_name.now result))
+            machine.new host.new }
     {
         match values {
             [Value::Text(name)] => self.open(machine, host, name, line),
-            _ => Err(self.fault(ScriptKind::NoMatch, line)),
+            _ => Err(Stop::Fault(ScriptKind::NoMatch, line)),
         }
     }
 
@@ -75,12 +77,14 @@ impl<
         host: &mut H,
         definition: &Definition,
         env: ByName<Variable>,
-    ) -> Result<Value, EvalError>
+    ) -> Result<Value, Stop>
         requires deeper { Deeper H.Host self.now.depth F.Fn self.now.run }
         requires room { 0 < self.now.depth }
         ensures told { Told H.told (λ v. v) (e.inside (context_in H.Host self.now.depth) (defined_view definition.now)
-            env) machine.old result machine.new }
-        ensures kept { Keeps H.Host machine.old host.old (stop_in result) machine.new host.new }
+            env)
+            machine.old (in_text self.now.script_name.now result) machine.new }
+        ensures kept { Keeps H.Host machine.old host.old (stop_in (in_text self.now.script_name.now result))
+            machine.new host.new }
     {
         let before = machine.enter(env);
         let value = self.deeper(machine, host, &definition.text, &definition.function.body)?;
@@ -97,24 +101,16 @@ impl<
         signature: usize,
         given: &Bound,
         line: u32,
-    ) -> Result<Value, EvalError>
+    ) -> Result<Value, Stop>
         ensures told { Told H.told (λ v. v) (f.filtered self.now.script_name.now (outside_by H.clips H.scripts) applied
-            signature (bound_view given.now) line) machine.old result machine.new }
-        ensures kept { Keeps H.Host machine.old host.old (stop_in result) machine.new host.new }
+            signature (bound_view given.now) line)
+            machine.old (in_text self.now.script_name.now result) machine.new }
+        ensures kept { Keeps H.Host machine.old host.old (stop_in (in_text self.now.script_name.now result))
+            machine.new host.new }
     {
         match applied {
             Filter::Y4MSource => self.open_source(machine, host, &given.values, line),
-            _ => apply_filter(
-                self.alloc,
-                machine,
-                applied,
-                signature,
-                given,
-                At {
-                    name: self.script_name,
-                    line,
-                },
-            ),
+            _ => apply_filter(self.alloc, machine, applied, signature, given, line),
         }
     }
 
@@ -127,26 +123,24 @@ impl<
         signature: usize,
         given: &Bound,
         line: u32,
-    ) -> Result<Value, EvalError>
+    ) -> Result<Value, Stop>
         requires deeper { Deeper H.Host self.now.depth F.Fn self.now.run }
         requires other { builtin ≡ Builtin.ApplyRange → ⊥ }
         ensures told { Told H.told (λ v. v) (e.performed (context_in H.Host self.now.depth) (e.builtin builtin) signature
-            (bound_view given.now) self.now.script_name.now line) machine.old result machine.new }
-        ensures kept { Keeps H.Host machine.old host.old (stop_in result) machine.new host.new }
+            (bound_view given.now) self.now.script_name.now line)
+            machine.old (in_text self.now.script_name.now result) machine.new }
+        ensures kept { Keeps H.Host machine.old host.old (stop_in (in_text self.now.script_name.now result))
+            machine.new host.new }
     {
-        let at = At {
-            name: self.script_name,
-            line,
-        };
         match builtin {
             Builtin::Eval => self.eval(machine, host, &given.values, line),
             Builtin::Import => self.import(machine, host, &given.values, line),
-            Builtin::SetFilterMTMode => { set_mode(self.alloc, machine, &given.values, at) }
-            Builtin::Prefetch => prefetch(self.alloc, machine, &given.values, at),
-            Builtin::ApplyRange => Err(self.fault(ScriptKind::NoMatch, line)),
-            Builtin::Plain(function) => plain(self.alloc, function, given, at),
+            Builtin::SetFilterMTMode => { set_mode(machine, &given.values, line) }
+            Builtin::Prefetch => prefetch(machine, &given.values, line),
+            Builtin::ApplyRange => Err(Stop::Fault(ScriptKind::NoMatch, line)),
+            Builtin::Plain(function) => plain(self.alloc, function, given, line),
             Builtin::Clip(function) => {
-                clip_property(self.alloc, machine, function, &given.values, at)
+                clip_property(self.alloc, machine, function, &given.values, line)
             }
             Builtin::Filter(filter) => {
                 self.apply_filter(machine, host, filter, signature, given, line)
@@ -162,15 +156,17 @@ impl<
         definition: &Definition,
         given: &Bound,
         line: u32,
-    ) -> Result<Value, EvalError>
+    ) -> Result<Value, Stop>
         requires deeper { Deeper H.Host self.now.depth F.Fn self.now.run }
         ensures told { Told H.told (λ v. v) (e.performed (context_in H.Host self.now.depth)
             (e.user (defined_view definition.now)) 0 (bound_view given.now) self.now.script_name.now line)
-            machine.old result machine.new }
-        ensures kept { Keeps H.Host machine.old host.old (stop_in result) machine.new host.new }
+            machine.old (in_text self.now.script_name.now result) machine.new }
+        ensures kept { Keeps H.Host machine.old host.old (stop_in (in_text self.now.script_name.now result))
+            machine.new host.new }
+        ensures deep { self.now.depth ≡ 0 → result ≡ Err (s.Fault k.CallDepth line) }
     {
         if self.depth == 0 {
-            return Err(self.fault(ScriptKind::CallDepth, line));
+            return Err(Stop::Fault(ScriptKind::CallDepth, line));
         }
         let env = parameters(self.alloc, &definition.function.params, &given.values)?;
         self.inside(machine, host, definition, env)
@@ -185,16 +181,17 @@ impl<
         args: Vec<Given>,
         last: Option<Value>,
         line: u32,
-    ) -> Result<Value, EvalError>
+    ) -> Result<Value, Stop>
         requires deeper { Deeper H.Host self.now.depth F.Fn self.now.run }
         ensures told { Told H.told (λ v. v) (e.apply (context_in H.Host self.now.depth)
             (e.user (defined_view definition.now)) args.items last self.now.script_name.now line)
-            machine.old result machine.new }
-        ensures kept { Keeps H.Host machine.old host.old (stop_in result) machine.new host.new }
+            machine.old (in_text self.now.script_name.now result) machine.new }
+        ensures kept { Keeps H.Host machine.old host.old (stop_in (in_text self.now.script_name.now result))
+            machine.new host.new }
     {
         let taken = signature_of(self.alloc, &definition.function.params)?;
         let Some((_, given)) = fit_or_last(self.alloc, &[taken], args, last)? else {
-            return Err(self.fault(ScriptKind::NoMatch, line));
+            return Err(Stop::Fault(ScriptKind::NoMatch, line));
         };
         self.run_defined(machine, host, definition, &given, line)
     }
@@ -208,21 +205,19 @@ impl<
         host: &mut H,
         given: &Bound,
         line: u32,
-    ) -> Result<Value, EvalError>
+    ) -> Result<Value, Stop>
         requires deeper { Deeper H.Host self.now.depth F.Fn self.now.run }
         ensures told { Told H.told (λ v. v) (e.ranged_by (e.direct (context_in H.Host self.now.depth)) given.now.values.items
-            given.now.rest.items self.now.script_name.now line) machine.old result machine.new }
-        ensures kept { Keeps H.Host machine.old host.old (stop_in result) machine.new host.new }
+            given.now.rest.items self.now.script_name.now line)
+            machine.old (in_text self.now.script_name.now result) machine.new }
+        ensures kept { Keeps H.Host machine.old host.old (stop_in (in_text self.now.script_name.now result))
+            machine.new host.new }
     {
-        let at = At {
-            name: self.script_name,
-            line,
-        };
         let range = match range_in(&given.values) {
             Ok(range) => range,
-            Err(kind) => return Err(self.fault(kind, line)),
+            Err(kind) => return Err(Stop::Fault(kind, line)),
         };
-        let callee = called(self.alloc, machine, range.name, at)?;
+        let callee = called(self.alloc, machine, range.name, line)?;
         let args = positional_args(self.alloc, range.clip, &given.rest)?;
         let shown = match self.call(machine, host, &callee, args, None, line) {
             Ok(shown) => shown,
@@ -235,7 +230,7 @@ impl<
             range.first,
             range.last,
             &shown,
-            at,
+            line,
         )
     }
 
@@ -249,15 +244,17 @@ impl<
         args: Vec<Given>,
         last: Option<Value>,
         line: u32,
-    ) -> Result<Value, EvalError>
+    ) -> Result<Value, Stop>
         requires deeper { Deeper H.Host self.now.depth F.Fn self.now.run }
         ensures told { Told H.told (λ v. v) (e.apply (context_in H.Host self.now.depth) (e.builtin builtin)
-            args.items last self.now.script_name.now line) machine.old result machine.new }
-        ensures kept { Keeps H.Host machine.old host.old (stop_in result) machine.new host.new }
+            args.items last self.now.script_name.now line)
+            machine.old (in_text self.now.script_name.now result) machine.new }
+        ensures kept { Keeps H.Host machine.old host.old (stop_in (in_text self.now.script_name.now result))
+            machine.new host.new }
     {
         let taken = signatures(self.alloc, builtin)?;
         let Some((signature, given)) = fit_or_last(self.alloc, &taken, args, last)? else {
-            return Err(self.fault(ScriptKind::NoMatch, line));
+            return Err(Stop::Fault(ScriptKind::NoMatch, line));
         };
         match builtin {
             Builtin::ApplyRange => self.apply_range(machine, host, &given, line),
@@ -275,11 +272,13 @@ impl<
         args: Vec<Given>,
         last: Option<Value>,
         line: u32,
-    ) -> Result<Value, EvalError>
+    ) -> Result<Value, Stop>
         requires deeper { Deeper H.Host self.now.depth F.Fn self.now.run }
         ensures told { Told H.told (λ v. v) (e.apply (context_in H.Host self.now.depth) (callee_view callee.now)
-            args.items last self.now.script_name.now line) machine.old result machine.new }
-        ensures kept { Keeps H.Host machine.old host.old (stop_in result) machine.new host.new }
+            args.items last self.now.script_name.now line)
+            machine.old (in_text self.now.script_name.now result) machine.new }
+        ensures kept { Keeps H.Host machine.old host.old (stop_in (in_text self.now.script_name.now result))
+            machine.new host.new }
     {
         match callee {
             Callee::User(definition) => {

@@ -15,7 +15,8 @@ use fv_io::Text;
 use std::alloc::Global;
 use std::marker::PhantomData;
 
-/// Executes the statements of a text or a function, where so many calls may nest.
+/// Executes the statements of a text or a function, where so many calls may nest. The name of the text is copied first, so
+/// that no fault takes memory.
 pub(crate) fn run<H: Host>(
     alloc: Global,
     machine: &mut Machine,
@@ -29,6 +30,7 @@ pub(crate) fn run<H: Host>(
         machine.old result machine.new }
     ensures kept { Keeps H.Host machine.old host.old (stop_in result) machine.new host.new }
 {
+    let name = Text::from_str(alloc, script_name.as_str())?;
     let walker = Walker {
         alloc,
         script_name,
@@ -36,5 +38,8 @@ pub(crate) fn run<H: Host>(
         run: run::<H>,
         of: PhantomData,
     };
-    body_of(alloc, &walker, machine, host, body)
+    match body_of(alloc, &walker, machine, host, body) {
+        Ok(value) => Ok(value),
+        Err(stop) => Err(stop.named(name)),
+    }
 }

@@ -1,19 +1,20 @@
 // The public call `eval`: a text becomes the graph of its clip, or a stop.
 ghost use Rattle.std.specs.Prelude.{◌≡◌, ◌≤◌, ◌<◌, [], length, IsTrue, IfOk, OnOk};
 ghost use Rattle.avs_tree.specs.View.{block_view};
-ghost use Rattle.avs_values.specs.Values.{text_limit};
+ghost use Rattle.avs_values.specs.Values.{text_limit, Text as Name};
 ghost use Rattle.avs_meaning.specs.Meaning.{clip_or_not, executed, text_meaning, to_clip};
 ghost use Rattle.avs_state.specs.Answers.{Gives};
 ghost use Rattle.avs_state.specs.Hosts.{Told};
 ghost use Rattle.avs_eval.specs.OutsideBy.{outside_by};
 ghost use Rattle.avs_state.specs.States.{state_of};
 ghost use Rattle.avs_eval.specs.Evaluates.{Evaluates, Opens, CountsFaults, FetchesAll};
+ghost use Rattle.avs_state.specs.Stops.{in_text, TakesNone};
 ghost use Rattle.avs_state.specs.Walks.{Keeps, stop_in};
 
 use crate::depth::run;
 use crate::texts::load_body;
 use avs_meaning::{Crew, EvalError, ScriptKind};
-use avs_state::{At, Host, Machine, fault_at};
+use avs_state::{Host, Machine, Stop};
 use avs_tree::Statement;
 use avs_values::Value;
 use clip_graph::Graph;
@@ -32,21 +33,16 @@ pub struct Opened {
 }
 
 // The place of the clip that the value of a script is.
-fn clip_of(
-    alloc: Global,
-    machine: &Machine,
-    value: Value,
-    name: &Text,
-    line: u32,
-) -> Result<u32, EvalError>
-    ensures gives { Gives (λ i. i) (clip_or_not name.now line value (state_of machine.now)) result
-        (state_of machine.now) }
+fn clip_of(machine: &Machine, value: Value, line: u32) -> Result<u32, Stop>
+    ensures gives { (here : Name) → Gives (λ i. i) (clip_or_not here line value (state_of machine.now))
+        (in_text here result) (state_of machine.now) }
+    ensures memory { TakesNone result }
     ensures inside { IfOk result (λ i. i < length (state_of machine.now).plan) }
 {
     let Value::Clip(i) = value else {
-        return Err(fault_at(alloc, ScriptKind::NotClip, At { name, line }));
+        return Err(Stop::Fault(ScriptKind::NotClip, line));
     };
-    machine.info_of(alloc, i, At { name, line })?;
+    machine.info_of(i, line)?;
     Ok(i)
 }
 
@@ -59,18 +55,36 @@ fn clip_of_run<H: Host>(
     name: &Text,
     statements: &[Statement],
     last_line: u32,
-) -> Result<u32, EvalError>
+) -> Result<u32, Stop>
     ensures told { Told H.told (λ i. i) (to_clip (outside_by H.clips H.scripts) name.now (block_view statements.now)
-        last_line) machine.old result machine.new }
-    ensures kept { Keeps H.Host machine.old host.old (stop_in result) machine.new host.new }
+        last_line) machine.old (in_text name.now result) machine.new }
+    ensures kept { Keeps H.Host machine.old host.old (stop_in (in_text name.now result)) machine.new host.new }
     ensures inside { IfOk result (λ i. i < length (state_of machine.new).plan) }
 {
     let value = run(alloc, machine, host, CALL_LIMIT, name, statements)?;
-    clip_of(alloc, machine, value, name, last_line)
+    clip_of(machine, value, last_line)
 }
 
 // Executes a text as the script of this name.
 fn execute<H: Host>(
+    alloc: Global,
+    machine: &mut Machine,
+    host: &mut H,
+    name: &Text,
+    text: &Text,
+) -> Result<u32, Stop>
+    requires { length text.now ≤ text_limit }
+    ensures told { Told H.told (λ i. i) (executed (outside_by H.clips H.scripts) name.now text.now)
+        machine.old (in_text name.now result) machine.new }
+    ensures kept { Keeps H.Host machine.old host.old (stop_in (in_text name.now result)) machine.new host.new }
+    ensures inside { IfOk result (λ i. i < length (state_of machine.new).plan) }
+{
+    let body = load_body(alloc, machine, name, text)?;
+    clip_of_run(alloc, machine, host, name, &body.statements, body.last_line)
+}
+
+// The place of the clip of a text, as the script of this name, which is copied first, so that no fault takes memory.
+fn root_of<H: Host>(
     alloc: Global,
     machine: &mut Machine,
     host: &mut H,
@@ -83,8 +97,11 @@ fn execute<H: Host>(
     ensures kept { Keeps H.Host machine.old host.old (stop_in result) machine.new host.new }
     ensures inside { IfOk result (λ i. i < length (state_of machine.new).plan) }
 {
-    let body = load_body(alloc, machine, name, text)?;
-    clip_of_run(alloc, machine, host, name, &body.statements, body.last_line)
+    let script_name = Text::from_str(alloc, name.as_str())?;
+    match execute(alloc, machine, host, name, text) {
+        Ok(root) => Ok(root),
+        Err(stop) => Err(stop.named(script_name)),
+    }
 }
 
 /// Evaluates a text as the script of this name, over a host that has opened nothing.
@@ -110,7 +127,7 @@ pub fn eval<H: Host>(
     ensures faults { CountsFaults result (H.faults host.old) (H.faults host.new) }
 {
     let mut machine = Machine::new(alloc);
-    let root = execute(alloc, &mut machine, host, name, text)?;
+    let root = root_of(alloc, &mut machine, host, name, text)?;
     let prefetch = machine.crew();
     Ok(Opened {
         graph: machine.into_graph(),

@@ -1,11 +1,14 @@
 // Texts that a run executes beside the script: those of `Eval`, `Import` and functions.
-ghost use Rattle.std.specs.Prelude.{◌<◌, ◌≤◌, length};
+ghost use Rattle.std.specs.Prelude.{◌≡◌, ◌<◌, ◌≤◌, length, Err};
 ghost use Rattle.avs_tree.specs.View.{block_view};
 ghost use Rattle.avs_values.specs.Values.{text_limit};
 ghost use Rattle.avs_parse.specs.Load.{script_of};
 ghost use Rattle.avs_meaning.specs.Expressions as e;
 ghost use Rattle.avs_meaning.specs.Meaning as m;
+ghost use Rattle.avs_meaning.specs.declared.fault.ScriptKind.TheVariants as k;
 ghost use Rattle.avs_state.specs.Hosts.{Told};
+ghost use Rattle.avs_state.specs.Stops.{in_text};
+ghost use Rattle.avs_state.specs.declared.stop.Stop.TheVariants as s;
 ghost use Rattle.avs_state.specs.Walks.{Keeps, Runs, stop_in};
 ghost use Rattle.avs_eval.specs.Bodies as b;
 ghost use Rattle.avs_eval.specs.Bodies.{body_by, body_view};
@@ -15,7 +18,7 @@ ghost use Rattle.avs_eval.specs.Deeper.{Deeper};
 use crate::walker::Walker;
 use avs_meaning::{EvalError, ScriptKind};
 use avs_parse::{LoadFault, Loaded, load};
-use avs_state::{At, Host, Machine, fault_at, stop_of};
+use avs_state::{Host, Machine, Stop, stop_of};
 use avs_tree::{Script, Statement};
 use avs_values::Value;
 use fv_io::Text;
@@ -31,16 +34,29 @@ pub(crate) struct Body {
     pub(crate) last_line: u32,
 }
 
-/// Reads the text of this name and adds its functions.
+// Why a text has no tree.
+fn load_stop(fault: LoadFault) -> Stop
+    ensures { result ≡ b.load_stop fault }
+{
+    match fault {
+        LoadFault::Lex { kind, line } => Stop::Fault(ScriptKind::Lex(kind), line),
+        LoadFault::Syntax { line } => Stop::Fault(ScriptKind::Syntax, line),
+        LoadFault::NestLimit { line } => Stop::Fault(ScriptKind::NestLimit, line),
+        LoadFault::Memory => Stop::Whole(EvalError::Memory),
+    }
+}
+
+// Reads the text of this name and adds its functions.
 #[tactic(auto, unfolding(crate::specs::Bodies::body_by))]
-pub(crate) fn load_body(
+fn read_body(
     alloc: Global,
     machine: &mut Machine,
     script_name: &Text,
     text: &Text,
-) -> Result<Body, EvalError>
+) -> Result<Body, Stop>
     requires { length text.now ≤ text_limit }
-    ensures { Runs body_view (body_by (script_of text.now) script_name.now) machine.old result machine.new }
+    ensures { Runs body_view (body_by (script_of text.now) script_name.now) machine.old
+        (in_text script_name.now result) machine.new }
 {
     match load(alloc, text.as_str()) {
         Ok(Loaded { script, last_line }) => {
@@ -54,37 +70,24 @@ pub(crate) fn load_body(
                 last_line,
             })
         }
-        Err(LoadFault::Lex { kind, line }) => {
-            Err(fault_at(
-                alloc,
-                ScriptKind::Lex(kind),
-                At {
-                    name: script_name,
-                    line,
-                },
-            ))
-        }
-        Err(LoadFault::Syntax { line }) => {
-            Err(fault_at(
-                alloc,
-                ScriptKind::Syntax,
-                At {
-                    name: script_name,
-                    line,
-                },
-            ))
-        }
-        Err(LoadFault::NestLimit { line }) => {
-            Err(fault_at(
-                alloc,
-                ScriptKind::NestLimit,
-                At {
-                    name: script_name,
-                    line,
-                },
-            ))
-        }
-        Err(LoadFault::Memory) => Err(EvalError::Memory),
+        Err(fault) => Err(load_stop(fault)),
+    }
+}
+
+/// Reads the text of this name and adds its functions. The name is copied first, so that no fault takes memory for it.
+pub(crate) fn load_body(
+    alloc: Global,
+    machine: &mut Machine,
+    script_name: &Text,
+    text: &Text,
+) -> Result<Body, EvalError>
+    requires { length text.now ≤ text_limit }
+    ensures { Runs body_view (body_by (script_of text.now) script_name.now) machine.old result machine.new }
+{
+    let name = Text::from_str(alloc, script_name.as_str())?;
+    match read_body(alloc, machine, script_name, text) {
+        Ok(body) => Ok(body),
+        Err(stop) => Err(stop.named(name)),
     }
 }
 
@@ -119,19 +122,21 @@ impl<
         from: &Text,
         text: &Text,
         line: u32,
-    ) -> Result<Value, EvalError>
+    ) -> Result<Value, Stop>
         requires deeper { Deeper H.Host self.now.depth F.Fn self.now.run }
         requires room { 0 < self.now.depth }
         ensures told { Told H.told (λ v. v)
             (e.execute (context_in H.Host self.now.depth) from.now text.now self.now.script_name.now line)
-            machine.old result machine.new }
-        ensures kept { Keeps H.Host machine.old host.old (stop_in result) machine.new host.new }
+            machine.old (in_text self.now.script_name.now result) machine.new }
+        ensures kept { Keeps H.Host machine.old host.old (stop_in (in_text self.now.script_name.now result))
+            machine.new host.new }
+        ensures limit { text_limit < length text.now → result ≡ Err (s.Fault k.TextLimit line) }
     {
         if text.as_str().len() > TEXT_LIMIT {
-            return Err(self.fault(ScriptKind::TextLimit, line));
+            return Err(Stop::Fault(ScriptKind::TextLimit, line));
         }
         let body = load_body(self.alloc, machine, from, text)?;
-        self.deeper(machine, host, from, &body.statements)
+        Ok(self.deeper(machine, host, from, &body.statements)?)
     }
 
     // Executes a text that the script made.
@@ -141,13 +146,14 @@ impl<
         host: &mut H,
         text: &Text,
         line: u32,
-    ) -> Result<Value, EvalError>
+    ) -> Result<Value, Stop>
         requires deeper { Deeper H.Host self.now.depth F.Fn self.now.run }
         requires room { 0 < self.now.depth }
         ensures told { Told H.told (λ v. v)
             (e.execute (context_in H.Host self.now.depth) e.eval_name text.now self.now.script_name.now line)
-            machine.old result machine.new }
-        ensures kept { Keeps H.Host machine.old host.old (stop_in result) machine.new host.new }
+            machine.old (in_text self.now.script_name.now result) machine.new }
+        ensures kept { Keeps H.Host machine.old host.old (stop_in (in_text self.now.script_name.now result))
+            machine.new host.new }
     {
         let from = Text::from_str(self.alloc, "Eval")?;
         self.execute(machine, host, &from, text, line)
@@ -161,15 +167,17 @@ impl<
         host: &mut H,
         text: &Text,
         line: u32,
-    ) -> Result<Value, EvalError>
+    ) -> Result<Value, Stop>
         requires deeper { Deeper H.Host self.now.depth F.Fn self.now.run }
         ensures told { Told H.told (λ v. v)
             (b.eval_text (context_in H.Host self.now.depth) self.now.script_name.now text.now line)
-            machine.old result machine.new }
-        ensures kept { Keeps H.Host machine.old host.old (stop_in result) machine.new host.new }
+            machine.old (in_text self.now.script_name.now result) machine.new }
+        ensures kept { Keeps H.Host machine.old host.old (stop_in (in_text self.now.script_name.now result))
+            machine.new host.new }
+        ensures deep { self.now.depth ≡ 0 → result ≡ Err (s.Fault k.CallDepth line) }
     {
         if self.depth == 0 {
-            return Err(self.fault(ScriptKind::CallDepth, line));
+            return Err(Stop::Fault(ScriptKind::CallDepth, line));
         }
         self.execute_made(machine, host, text, line)
     }
@@ -181,16 +189,17 @@ impl<
         host: &mut H,
         values: &[Value],
         line: u32,
-    ) -> Result<Value, EvalError>
+    ) -> Result<Value, Stop>
         requires deeper { Deeper H.Host self.now.depth F.Fn self.now.run }
         ensures told { Told H.told (λ v. v)
-            (e.eval (context_in H.Host self.now.depth) self.now.script_name.now values.now line) machine.old result
-            machine.new }
-        ensures kept { Keeps H.Host machine.old host.old (stop_in result) machine.new host.new }
+            (e.eval (context_in H.Host self.now.depth) self.now.script_name.now values.now line)
+            machine.old (in_text self.now.script_name.now result) machine.new }
+        ensures kept { Keeps H.Host machine.old host.old (stop_in (in_text self.now.script_name.now result))
+            machine.new host.new }
     {
         match values {
             [Value::Text(text)] => self.eval_text(machine, host, text, line),
-            _ => Err(self.fault(ScriptKind::NoMatch, line)),
+            _ => Err(Stop::Fault(ScriptKind::NoMatch, line)),
         }
     }
 
@@ -201,28 +210,22 @@ impl<
         host: &mut H,
         name: &Text,
         line: u32,
-    ) -> Result<Text, EvalError>
+    ) -> Result<Text, Stop>
         ensures told { Told H.told (λ text. text) (e.script_by self.now.script_name.now (H.scripts name.now) line)
-            machine.old result machine.new }
-        ensures kept { Keeps H.Host machine.old host.old (stop_in result) machine.new host.new }
+            machine.old (in_text self.now.script_name.now result) machine.new }
+        ensures kept { Keeps H.Host machine.old host.old (stop_in (in_text self.now.script_name.now result))
+            machine.new host.new }
     {
         if !machine.can_import() {
-            return Err(EvalError::Memory);
+            return Err(Stop::Whole(EvalError::Memory));
         }
+        let file = Text::from_str(self.alloc, name.as_str())?;
         match host.script(name) {
             Ok(text) => {
                 machine.count_import();
                 Ok(text)
             }
-            Err(fault) => Err(stop_of(
-                self.alloc,
-                fault,
-                name,
-                At {
-                    name: self.script_name,
-                    line,
-                },
-            )),
+            Err(fault) => Err(stop_of(fault, file, line)),
         }
     }
 
@@ -233,18 +236,19 @@ impl<
         host: &mut H,
         values: &[Value],
         line: u32,
-    ) -> Result<Value, EvalError>
+    ) -> Result<Value, Stop>
         requires deeper { Deeper H.Host self.now.depth F.Fn self.now.run }
         ensures told { Told H.told (λ v. v)
             (e.import_ (context_in H.Host self.now.depth) self.now.script_name.now values.now line)
-            machine.old result machine.new }
-        ensures kept { Keeps H.Host machine.old host.old (stop_in result) machine.new host.new }
+            machine.old (in_text self.now.script_name.now result) machine.new }
+        ensures kept { Keeps H.Host machine.old host.old (stop_in (in_text self.now.script_name.now result))
+            machine.new host.new }
     {
         let [Value::Text(file)] = values else {
-            return Err(self.fault(ScriptKind::NoMatch, line));
+            return Err(Stop::Fault(ScriptKind::NoMatch, line));
         };
         if self.depth == 0 {
-            return Err(self.fault(ScriptKind::CallDepth, line));
+            return Err(Stop::Fault(ScriptKind::CallDepth, line));
         }
         let text = self.script(machine, host, file, line)?;
         self.execute(machine, host, file, &text, line)

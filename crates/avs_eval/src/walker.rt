@@ -1,11 +1,10 @@
 // What a run has in one text.
-ghost use Rattle.avs_meaning.specs.Faults.{Shows, script};
 ghost use Rattle.avs_eval.specs.Deeper.{Deeper};
 ghost use Rattle.avs_eval.specs.OutsideBy.{context_in};
 
 use avs_expressions::{Callee, Calls, value_of};
-use avs_meaning::{EvalError, ScriptKind};
-use avs_state::{At, Host, Machine, fault_at};
+use avs_meaning::EvalError;
+use avs_state::{Host, Machine, Stop};
 use avs_statements::Evaluator;
 use avs_tree::{Expr, Statement};
 use avs_values::{Given, Value};
@@ -26,22 +25,6 @@ pub(crate) struct Walker<'t, H, F> {
     pub(crate) of: PhantomData<H>,
 }
 
-impl<'t, H, F> Walker<'t, H, F> {
-    /// A fault at a line of the text.
-    pub(crate) fn fault(&self, kind: ScriptKind, line: u32) -> EvalError
-        ensures { Shows (script kind self.now.script_name.now line) result }
-    {
-        fault_at(
-            self.alloc,
-            kind,
-            At {
-                name: self.script_name,
-                line,
-            },
-        )
-    }
-}
-
 impl<
     't,
     H: Host,
@@ -53,10 +36,6 @@ impl<
 
     ghost context = { λ walker. context_in H.Host walker.depth };
 
-    fn script_name(&self) -> &Text {
-        self.script_name
-    }
-
     fn apply(
         &self,
         machine: &mut Machine,
@@ -65,7 +44,7 @@ impl<
         args: Vec<Given>,
         last: Option<Value>,
         line: u32,
-    ) -> Result<Value, EvalError> {
+    ) -> Result<Value, Stop> {
         self.call(machine, host, callee, args, last, line)
     }
 }
@@ -81,16 +60,7 @@ impl<
 
     ghost context = { λ walker. context_in H.Host walker.depth };
 
-    fn script_name(&self) -> &Text {
-        self.script_name
-    }
-
-    fn value_of(
-        &self,
-        machine: &mut Machine,
-        host: &mut H,
-        expr: &Expr,
-    ) -> Result<Value, EvalError> {
+    fn value_of(&self, machine: &mut Machine, host: &mut H, expr: &Expr) -> Result<Value, Stop> {
         value_of(self.alloc, self, machine, host, expr)
     }
 }

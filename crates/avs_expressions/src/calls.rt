@@ -1,9 +1,7 @@
 // `Calls`: what makes the calls of a text.
 use crate::callee::Callee;
-use avs_meaning::EvalError;
-use avs_state::{Host, Machine};
+use avs_state::{Host, Machine, Stop};
 use avs_values::{Given, Value};
-use fv_io::Text;
 
 /// What makes the calls of a text, over a host.
 pub trait Calls<H: Host> {
@@ -12,6 +10,7 @@ pub trait Calls<H: Host> {
     ghost use Rattle.avs_meaning.specs.State.{Context};
     ghost use Rattle.avs_meaning.specs.Expressions as e;
     ghost use Rattle.avs_state.specs.Hosts.{Told};
+    ghost use Rattle.avs_state.specs.Stops.{in_text};
     ghost use Rattle.avs_state.specs.Walks.{Keeps, stop_in};
     ghost use Rattle.avs_expressions.specs.Views.{callee_view};
 
@@ -24,10 +23,6 @@ pub trait Calls<H: Host> {
     /// What the calls are made in.
     ghost context: { Self → Context };
 
-    /// The name of the text.
-    fn script_name(&self) -> &Text
-        ensures { result.now ≡ here self.now };
-
     /// A call with these arguments, tried again with `last` first, if it is given.
     fn apply(
         &self,
@@ -37,10 +32,11 @@ pub trait Calls<H: Host> {
         args: Vec<Given>,
         last: Option<Value>,
         line: u32,
-    ) -> Result<Value, EvalError>
+    ) -> Result<Value, Stop>
         requires may { may self.now }
         ensures told { Told H.told (λ v. v)
             (e.apply (context self.now) (callee_view callee.now) args.items last (here self.now) line)
-            machine.old result machine.new }
-        ensures kept { Keeps H.Host machine.old host.old (stop_in result) machine.new host.new };
+            machine.old (in_text (here self.now) result) machine.new }
+        ensures kept { Keeps H.Host machine.old host.old (stop_in (in_text (here self.now) result))
+            machine.new host.new };
 }

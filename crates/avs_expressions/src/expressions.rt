@@ -4,14 +4,15 @@ ghost use Rattle.avs_tree.specs.Tree as t;
 ghost use Rattle.avs_tree.specs.View.{expr_view, arg_view, method_call_view, step_view, args_of, method_calls_of, steps_of};
 ghost use Rattle.avs_meaning.specs.Expressions as m;
 ghost use Rattle.avs_state.specs.Hosts.{Told};
+ghost use Rattle.avs_state.specs.Stops.{in_text};
 ghost use Rattle.avs_state.specs.Walks.{Keeps, stop_in};
 ghost use Rattle.avs_expressions.specs.Operands as s;
 
 use crate::calls::Calls;
 use crate::evaluation::Evaluation;
+use crate::names::called;
 use crate::operate::{combined, compared, prefixed};
-use avs_meaning::EvalError;
-use avs_state::{At, Host, Machine, truth};
+use avs_state::{Host, Machine, Stop, truth};
 use avs_tree::{Arg, DotCall, Expr, Operator, Step};
 use avs_values::{Given, UnaryOp, Value};
 use fv_io::Text;
@@ -21,12 +22,13 @@ use std::marker::PhantomData;
 impl<'c, H: Host, C: Calls<H>> Evaluation<'c, H, C> {
     // The value of an expression.
     #[cycle(expressions)]
-    fn value_of(&self, machine: &mut Machine, host: &mut H, e: &Expr) -> Result<Value, EvalError>
+    fn value_of(&self, machine: &mut Machine, host: &mut H, e: &Expr) -> Result<Value, Stop>
         requires may { C.may self.now.calls.now }
         ensures told { Told H.told (λ v. v)
             (m.value_of (C.context self.now.calls.now) (C.here self.now.calls.now) (expr_view e.now))
-            machine.old result machine.new }
-        ensures kept { Keeps H.Host machine.old host.old (stop_in result) machine.new host.new }
+            machine.old (in_text (C.here self.now.calls.now) result) machine.new }
+        ensures kept { Keeps H.Host machine.old host.old (stop_in (in_text (C.here self.now.calls.now) result))
+            machine.new host.new }
     {
         match e {
             Expr::Int(n) => Ok(Value::Int(*n)),
@@ -40,27 +42,11 @@ impl<'c, H: Host, C: Calls<H>> Evaluation<'c, H, C> {
             }
             Expr::Minus { operand, line } => {
                 let value = self.value_of(machine, host, operand)?;
-                prefixed(
-                    self.alloc,
-                    UnaryOp::Negative,
-                    &value,
-                    At {
-                        name: self.calls.script_name(),
-                        line: *line,
-                    },
-                )
+                prefixed(UnaryOp::Negative, &value, *line)
             }
             Expr::Not { operand, line } => {
                 let value = self.value_of(machine, host, operand)?;
-                prefixed(
-                    self.alloc,
-                    UnaryOp::Not,
-                    &value,
-                    At {
-                        name: self.calls.script_name(),
-                        line: *line,
-                    },
-                )
+                prefixed(UnaryOp::Not, &value, *line)
             }
             Expr::Chain { first, rest } => {
                 let value = self.value_of(machine, host, first)?;
@@ -74,16 +60,7 @@ impl<'c, H: Host, C: Calls<H>> Evaluation<'c, H, C> {
             } => {
                 let a = self.value_of(machine, host, left)?;
                 let b = self.value_of(machine, host, right)?;
-                compared(
-                    self.alloc,
-                    *op,
-                    &a,
-                    &b,
-                    At {
-                        name: self.calls.script_name(),
-                        line: *line,
-                    },
-                )
+                compared(self.alloc, *op, &a, &b, *line)
             }
             Expr::Pick {
                 condition,
@@ -92,14 +69,7 @@ impl<'c, H: Host, C: Calls<H>> Evaluation<'c, H, C> {
                 line,
             } => {
                 let value = self.value_of(machine, host, condition)?;
-                if truth(
-                    self.alloc,
-                    &value,
-                    At {
-                        name: self.calls.script_name(),
-                        line: *line,
-                    },
-                )? {
+                if truth(&value, *line)? {
                     self.value_of(machine, host, yes)
                 } else {
                     self.value_of(machine, host, no)
@@ -118,13 +88,15 @@ impl<'c, H: Host, C: Calls<H>> Evaluation<'c, H, C> {
         name: &Text,
         args: &[Arg],
         line: u32,
-    ) -> Result<Value, EvalError>
+    ) -> Result<Value, Stop>
         requires may { C.may self.now.calls.now }
         ensures told { Told H.told (λ v. v) (m.value_of (C.context self.now.calls.now) (C.here self.now.calls.now)
-            (t.call name.now (args_of (map arg_view args.now)) line)) machine.old result machine.new }
-        ensures kept { Keeps H.Host machine.old host.old (stop_in result) machine.new host.new }
+            (t.call name.now (args_of (map arg_view args.now)) line))
+            machine.old (in_text (C.here self.now.calls.now) result) machine.new }
+        ensures kept { Keeps H.Host machine.old host.old (stop_in (in_text (C.here self.now.calls.now) result))
+            machine.new host.new }
     {
-        let callee = self.called(machine, name, line)?;
+        let callee = called(self.alloc, machine, name, line)?;
         let given = self.givens_of(machine, host, args, Vec::new(self.alloc))?;
         self.apply_last(machine, host, &callee, given, line)
     }
@@ -138,11 +110,13 @@ impl<'c, H: Host, C: Calls<H>> Evaluation<'c, H, C> {
         host: &mut H,
         args: &[Arg],
         mut given: Vec<Given>,
-    ) -> Result<Vec<Given>, EvalError>
+    ) -> Result<Vec<Given>, Stop>
         requires may { C.may self.now.calls.now }
         ensures told { Told H.told (λ v. v.items) (m.givens_of (C.context self.now.calls.now) (C.here self.now.calls.now)
-            (args_of (map arg_view args.now)) given.items) machine.old result machine.new }
-        ensures kept { Keeps H.Host machine.old host.old (stop_in result) machine.new host.new }
+            (args_of (map arg_view args.now)) given.items)
+            machine.old (in_text (C.here self.now.calls.now) result) machine.new }
+        ensures kept { Keeps H.Host machine.old host.old (stop_in (in_text (C.here self.now.calls.now) result))
+            machine.new host.new }
     {
         for arg in args {
             let value = self.value_of(machine, host, &arg.value)?;
@@ -164,11 +138,13 @@ impl<'c, H: Host, C: Calls<H>> Evaluation<'c, H, C> {
         host: &mut H,
         calls: &[DotCall],
         first: Value,
-    ) -> Result<Value, EvalError>
+    ) -> Result<Value, Stop>
         requires may { C.may self.now.calls.now }
         ensures told { Told H.told (λ v. v) (m.calls_from (C.context self.now.calls.now) (C.here self.now.calls.now)
-            (method_calls_of (map method_call_view calls.now)) first) machine.old result machine.new }
-        ensures kept { Keeps H.Host machine.old host.old (stop_in result) machine.new host.new }
+            (method_calls_of (map method_call_view calls.now)) first)
+            machine.old (in_text (C.here self.now.calls.now) result) machine.new }
+        ensures kept { Keeps H.Host machine.old host.old (stop_in (in_text (C.here self.now.calls.now) result))
+            machine.new host.new }
     {
         let mut value = first;
         for call in calls {
@@ -184,13 +160,15 @@ impl<'c, H: Host, C: Calls<H>> Evaluation<'c, H, C> {
         host: &mut H,
         call: &DotCall,
         first: Value,
-    ) -> Result<Value, EvalError>
+    ) -> Result<Value, Stop>
         requires may { C.may self.now.calls.now }
         ensures told { Told H.told (λ v. v) (m.calls_from (C.context self.now.calls.now) (C.here self.now.calls.now)
-            (method_calls_of (method_call_view call.now ∷ [])) first) machine.old result machine.new }
-        ensures kept { Keeps H.Host machine.old host.old (stop_in result) machine.new host.new }
+            (method_calls_of (method_call_view call.now ∷ [])) first)
+            machine.old (in_text (C.here self.now.calls.now) result) machine.new }
+        ensures kept { Keeps H.Host machine.old host.old (stop_in (in_text (C.here self.now.calls.now) result))
+            machine.new host.new }
     {
-        let callee = self.called(machine, &call.name, call.line)?;
+        let callee = called(self.alloc, machine, &call.name, call.line)?;
         let mut given = Vec::new(self.alloc);
         given.push(Given {
             name: None,
@@ -217,11 +195,13 @@ impl<'c, H: Host, C: Calls<H>> Evaluation<'c, H, C> {
         host: &mut H,
         steps: &[Step],
         first: Value,
-    ) -> Result<Value, EvalError>
+    ) -> Result<Value, Stop>
         requires may { C.may self.now.calls.now }
         ensures told { Told H.told (λ v. v) (m.steps_from (C.context self.now.calls.now) (C.here self.now.calls.now)
-            (steps_of (map step_view steps.now)) first) machine.old result machine.new }
-        ensures kept { Keeps H.Host machine.old host.old (stop_in result) machine.new host.new }
+            (steps_of (map step_view steps.now)) first)
+            machine.old (in_text (C.here self.now.calls.now) result) machine.new }
+        ensures kept { Keeps H.Host machine.old host.old (stop_in (in_text (C.here self.now.calls.now) result))
+            machine.new host.new }
     {
         let mut value = first;
         for step in steps {
@@ -240,52 +220,24 @@ impl<'c, H: Host, C: Calls<H>> Evaluation<'c, H, C> {
         op: Operator,
         line: u32,
         first: Value,
-    ) -> Result<Value, EvalError>
+    ) -> Result<Value, Stop>
         requires may { C.may self.now.calls.now }
         ensures told { Told H.told (λ v. v) (s.joined (C.context self.now.calls.now) (C.here self.now.calls.now) op
-            line (expr_view operand.now) first) machine.old result machine.new }
-        ensures kept { Keeps H.Host machine.old host.old (stop_in result) machine.new host.new }
+            line (expr_view operand.now) first) machine.old (in_text (C.here self.now.calls.now) result) machine.new }
+        ensures kept { Keeps H.Host machine.old host.old (stop_in (in_text (C.here self.now.calls.now) result))
+            machine.new host.new }
     {
         match op {
-            Operator::Or => {
-                if truth(
-                    self.alloc,
-                    &first,
-                    At {
-                        name: self.calls.script_name(),
-                        line,
-                    },
-                )? {
-                    return Ok(Value::Bool(true));
+            Operator::Or | Operator::And => {
+                let holds = truth(&first, line)?;
+                if holds == (op == Operator::Or) {
+                    return Ok(Value::Bool(holds));
                 }
                 self.truth_of(machine, host, operand, line)
             }
-            Operator::And => {
-                if truth(
-                    self.alloc,
-                    &first,
-                    At {
-                        name: self.calls.script_name(),
-                        line,
-                    },
-                )? {
-                    return self.truth_of(machine, host, operand, line);
-                }
-                Ok(Value::Bool(false))
-            }
             _ => {
                 let second = self.value_of(machine, host, operand)?;
-                combined(
-                    self.alloc,
-                    machine,
-                    op,
-                    &first,
-                    &second,
-                    At {
-                        name: self.calls.script_name(),
-                        line,
-                    },
-                )
+                combined(self.alloc, machine, op, &first, &second, line)
             }
         }
     }
@@ -298,21 +250,16 @@ impl<'c, H: Host, C: Calls<H>> Evaluation<'c, H, C> {
         host: &mut H,
         operand: &Expr,
         line: u32,
-    ) -> Result<Value, EvalError>
+    ) -> Result<Value, Stop>
         requires may { C.may self.now.calls.now }
         ensures told { Told H.told (λ v. v) (s.truth_of (C.context self.now.calls.now)
-            (C.here self.now.calls.now) line (expr_view operand.now)) machine.old result machine.new }
-        ensures kept { Keeps H.Host machine.old host.old (stop_in result) machine.new host.new }
+            (C.here self.now.calls.now) line (expr_view operand.now))
+            machine.old (in_text (C.here self.now.calls.now) result) machine.new }
+        ensures kept { Keeps H.Host machine.old host.old (stop_in (in_text (C.here self.now.calls.now) result))
+            machine.new host.new }
     {
         let value = self.value_of(machine, host, operand)?;
-        let holds = truth(
-            self.alloc,
-            &value,
-            At {
-                name: self.calls.script_name(),
-                line,
-            },
-        )?;
+        let holds = truth(&value, line)?;
         Ok(Value::Bool(holds))
     }
 }
@@ -324,11 +271,12 @@ pub fn value_of<H: Host, C: Calls<H>>(
     machine: &mut Machine,
     host: &mut H,
     e: &Expr,
-) -> Result<Value, EvalError>
+) -> Result<Value, Stop>
     requires may { C.may calls.now }
     ensures told { Told H.told (λ v. v) (m.value_of (C.context calls.now) (C.here calls.now) (expr_view e.now))
-        machine.old result machine.new }
-    ensures kept { Keeps H.Host machine.old host.old (stop_in result) machine.new host.new }
+        machine.old (in_text (C.here calls.now) result) machine.new }
+    ensures kept { Keeps H.Host machine.old host.old (stop_in (in_text (C.here calls.now) result))
+        machine.new host.new }
 {
     let evaluation = Evaluation {
         alloc,

@@ -1,60 +1,36 @@
 // Names: of what is called, of variables, and of what is called with `last`.
 ghost use Rattle.std.specs.Prelude.{◌≡◌};
 ghost use Rattle.avs_tree.specs.Tree as t;
+ghost use Rattle.avs_values.specs.Values.{Text as Name};
 ghost use Rattle.avs_meaning.specs.Expressions as e;
 ghost use Rattle.avs_state.specs.Answers.{Gives};
 ghost use Rattle.avs_state.specs.Hosts.{Told};
 ghost use Rattle.avs_state.specs.States.{state_of};
+ghost use Rattle.avs_state.specs.Stops.{in_text};
 ghost use Rattle.avs_state.specs.Walks.{Keeps, stop_in};
 ghost use Rattle.avs_expressions.specs.Views.{callee_view};
 
 use crate::callee::{Callee, callee_of};
 use crate::calls::Calls;
 use crate::evaluation::Evaluation;
-use avs_meaning::{EvalError, ScriptKind};
-use avs_state::{At, Host, Machine, fault_at};
+use avs_meaning::ScriptKind;
+use avs_state::{Host, Machine, Stop};
 use avs_values::{Given, Value};
 use fv_io::Text;
 use std::alloc::{AllocError, Global};
 
-/// What a name calls, at a line of a text.
-pub fn called(
-    alloc: Global,
-    machine: &Machine,
-    name: &Text,
-    at: At<'_>,
-) -> Result<Callee, EvalError>
-    ensures { Gives callee_view (e.called at.entry.name.now name.now at.entry.line (state_of machine.now)) result
-        (state_of machine.now) }
+/// What a name calls, at a line.
+pub fn called(alloc: Global, machine: &Machine, name: &Text, line: u32) -> Result<Callee, Stop>
+    ensures { (here : Name) → Gives callee_view (e.called here name.now line (state_of machine.now))
+        (in_text here result) (state_of machine.now) }
 {
     match callee_of(alloc, machine, name)? {
         Some(callee) => Ok(callee),
-        None => Err(fault_at(alloc, ScriptKind::UnknownName, at)),
+        None => Err(Stop::Fault(ScriptKind::UnknownName, line)),
     }
 }
 
 impl<'c, H: Host, C: Calls<H>> Evaluation<'c, H, C> {
-    /// What a name calls.
-    pub(crate) fn called(
-        &self,
-        machine: &Machine,
-        name: &Text,
-        line: u32,
-    ) -> Result<Callee, EvalError>
-        ensures { Gives callee_view (e.called (C.here self.now.calls.now) name.now line (state_of machine.now)) result
-            (state_of machine.now) }
-    {
-        called(
-            self.alloc,
-            machine,
-            name,
-            At {
-                name: self.calls.script_name(),
-                line,
-            },
-        )
-    }
-
     /// A call with these arguments, tried again with the variable `last` first, where that is set.
     pub(crate) fn apply_last(
         &self,
@@ -63,11 +39,13 @@ impl<'c, H: Host, C: Calls<H>> Evaluation<'c, H, C> {
         callee: &Callee,
         args: Vec<Given>,
         line: u32,
-    ) -> Result<Value, EvalError>
+    ) -> Result<Value, Stop>
         requires may { C.may self.now.calls.now }
         ensures told { Told H.told (λ v. v) (e.apply_last (C.context self.now.calls.now) (C.here self.now.calls.now)
-            (callee_view callee.now) args.items line) machine.old result machine.new }
-        ensures kept { Keeps H.Host machine.old host.old (stop_in result) machine.new host.new }
+            (callee_view callee.now) args.items line)
+            machine.old (in_text (C.here self.now.calls.now) result) machine.new }
+        ensures kept { Keeps H.Host machine.old host.old (stop_in (in_text (C.here self.now.calls.now) result))
+            machine.new host.new }
     {
         let name = Text::from_str(self.alloc, "last")?;
         let last = machine.local(self.alloc, &name)?;
@@ -81,16 +59,17 @@ impl<'c, H: Host, C: Calls<H>> Evaluation<'c, H, C> {
         host: &mut H,
         name: &Text,
         line: u32,
-    ) -> Result<Value, EvalError>
+    ) -> Result<Value, Stop>
         requires may { C.may self.now.calls.now }
         ensures told { Told H.told (λ v. v) (e.value_of (C.context self.now.calls.now) (C.here self.now.calls.now)
-            (t.name name.now line)) machine.old result machine.new }
-        ensures kept { Keeps H.Host machine.old host.old (stop_in result) machine.new host.new }
+            (t.name name.now line)) machine.old (in_text (C.here self.now.calls.now) result) machine.new }
+        ensures kept { Keeps H.Host machine.old host.old (stop_in (in_text (C.here self.now.calls.now) result))
+            machine.new host.new }
     {
         if let Some(value) = machine.variable(self.alloc, name)? {
             return Ok(value);
         }
-        let callee = self.called(machine, name, line)?;
+        let callee = called(self.alloc, machine, name, line)?;
         self.apply_last(machine, host, &callee, Vec::new(self.alloc), line)
     }
 }

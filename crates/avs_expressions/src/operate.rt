@@ -1,16 +1,17 @@
 // Operators.
 ghost use Rattle.std.specs.Prelude.{◌≡◌};
 ghost use Rattle.avs_values.specs.Operators as v;
+ghost use Rattle.avs_values.specs.Values.{Text as Name};
 ghost use Rattle.avs_meaning.specs.Expressions as m;
 ghost use Rattle.avs_state.specs.Answers.{Answers};
+ghost use Rattle.avs_state.specs.Stops.{in_text, TakesNone};
 ghost use Rattle.avs_state.specs.Walks.{Runs};
 
-use avs_meaning::{EvalError, ScriptKind};
-use avs_state::{At, Machine, fault_at, value_fault};
+use avs_meaning::ScriptKind;
+use avs_state::{Machine, Stop, value_fault};
 use avs_tree::Operator;
 use avs_values::{BinaryOp, UnaryOp, Value, binary, unary};
 use clip_term::{Filter, Op, TimeOp};
-use fv_io::Text;
 use std::alloc::Global;
 
 // The operator of numbers, texts and truth values that is written so.
@@ -38,29 +39,25 @@ pub(crate) fn compared(
     op: Operator,
     left: &Value,
     right: &Value,
-    at: At<'_>,
-) -> Result<Value, EvalError>
-    ensures { Answers (λ x. x) (m.placed at.entry.name.now at.entry.line
-        (v.binary (m.binary_of op) left.now right.now)) result }
+    line: u32,
+) -> Result<Value, Stop>
+    ensures { (here : Name) → Answers (λ x. x) (m.placed here line (v.binary (m.binary_of op) left.now right.now))
+        (in_text here result) }
 {
     match binary(alloc, binary_of(op), left, right) {
         Ok(value) => Ok(value),
-        Err(fault) => Err(value_fault(alloc, fault, at)),
+        Err(fault) => Err(value_fault(fault, line)),
     }
 }
 
 /// An operator before a value.
-pub(crate) fn prefixed(
-    alloc: Global,
-    op: UnaryOp,
-    operand: &Value,
-    at: At<'_>,
-) -> Result<Value, EvalError>
-    ensures { Answers (λ x. x) (m.placed at.entry.name.now at.entry.line (v.unary op operand.now)) result }
+pub(crate) fn prefixed(op: UnaryOp, operand: &Value, line: u32) -> Result<Value, Stop>
+    ensures told { (here : Name) → Answers (λ x. x) (m.placed here line (v.unary op operand.now)) (in_text here result) }
+    ensures memory { TakesNone result }
 {
     match unary(op, operand) {
         Ok(value) => Ok(value),
-        Err(fault) => Err(value_fault(alloc, fault, at)),
+        Err(fault) => Err(value_fault(fault, line)),
     }
 }
 
@@ -71,10 +68,10 @@ pub(crate) fn combined(
     op: Operator,
     left: &Value,
     right: &Value,
-    at: At<'_>,
-) -> Result<Value, EvalError>
-    ensures { Runs (λ x. x) (m.combined at.entry.name.now op at.entry.line left.now right.now)
-        machine.old result machine.new }
+    line: u32,
+) -> Result<Value, Stop>
+    ensures { (here : Name) → Runs (λ x. x) (m.combined here op line left.now right.now) machine.old
+        (in_text here result) machine.new }
 {
     match (op, left, right) {
         (Operator::Plus, Value::Clip(i), Value::Clip(j)) => machine.make(
@@ -82,16 +79,16 @@ pub(crate) fn combined(
             Filter::UnalignedSplice,
             Op::Time(TimeOp::UnalignedSplice),
             &[*i, *j],
-            at,
+            line,
         ),
         (Operator::PlusPlus, Value::Clip(i), Value::Clip(j)) => machine.make(
             alloc,
             Filter::AlignedSplice,
             Op::Time(TimeOp::AlignedSplice),
             &[*i, *j],
-            at,
+            line,
         ),
-        (Operator::PlusPlus, _, _) => Err(fault_at(alloc, ScriptKind::TypeFault, at)),
-        _ => compared(alloc, op, left, right, at),
+        (Operator::PlusPlus, _, _) => Err(Stop::Fault(ScriptKind::TypeFault, line)),
+        _ => compared(alloc, op, left, right, line),
     }
 }

@@ -1,6 +1,6 @@
 -- How a part of a run that fails makes the whole fail.
 use Rattle.std.proofs.Common.{◌≡◌, ◌∙◌, refl, sym, ap, subst, ℕ, Result, Ok, Err}
-use Rattle.avs_meaning.specs.Faults.{Fault, Shows}
+use Rattle.avs_meaning.specs.Faults.{Fault}
 use Rattle.avs_meaning.specs.State.{State, Outcome, Run, and_then}
 use Rattle.avs_meaning.specs.declared.stop.EvalError.{EvalError}
 use Rattle.avs_meaning.specs.declared.stop.EvalError.TheVariants as e
@@ -15,13 +15,6 @@ then_fails one f e.Memory h = tt
 
 pub is_fault : {Y : Type 0} (one other : Outcome Y) (stop : EvalError) → other ≡ one → Fails (Unit {0}) one stop → Fails (Unit {0}) other stop
 is_fault one other stop is h = subst (λ o. Fails (Unit {0}) o stop) (sym is) h
-
--- what shows the fault of a part stops it
-pub shown_fails : {Y : Type 0} (o : Outcome Y) (fault : Fault) (stop : EvalError) → o ≡ Err fault → Shows fault stop → Fails (Unit {0}) o stop
-shown_fails o fault (e.Fault kind name line) is shows = is ∙ ap Err shows
-shown_fails o fault (e.Input name why) is shows = is ∙ ap Err shows
-shown_fails o fault e.Read is shows = tt
-shown_fails o fault e.Memory is shows = tt
 
 pub first_fails : {X Y : Type 0} (whole : Outcome Y) (one : Outcome X) (f : X → Run Y) (stop : EvalError)
     → whole ≡ and_then one f → Fails (Unit {0}) one stop → Fails (Unit {0}) whole stop

@@ -3,7 +3,6 @@ use Rattle.std.specs.Prelude.{◌≡◌, List, [], ◌∷◌, ◌++◌, Option, 
 use Rattle.clip_term.specs.Terms.{Act, SourcePart, source_part}
 use Rattle.clip_graph.specs.Plan.{Application}
 use Rattle.avs_meaning.specs.declared.state.SourceClip.{SourceClip}
-use Rattle.avs_meaning.specs.declared.stop.EvalError.{EvalError}
 use Rattle.avs_state.specs.States.{state_of}
 use Rattle.avs_state.specs.declared.machine.Machine.{Machine}
 
@@ -21,7 +20,7 @@ sources_of [] = []
 sources_of (application ∷ rest) = source_of application.act ++ sources_of rest
 
 -- the clips that were opened stay those of the sources of the plan
-abbrev pub Lists : {X : Type 0} → Machine → Result X EvalError → Machine → Type 0
+abbrev pub Lists : {X E : Type 0} → Machine → Result X E → Machine → Type 0
 Lists old result new =
     sources_of (state_of old).plan ≡ (state_of old).opened
     → OnOk result (sources_of (state_of new).plan ≡ (state_of new).opened)

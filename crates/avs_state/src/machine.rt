@@ -3,6 +3,7 @@ ghost use Rattle.std.specs.Prelude.{◌≡◌, ◌↔◌, IsTrue, ◌+◌, ◌^�
 ghost use Rattle.std.specs.List.{All};
 ghost use Rattle.fv_plane.specs.Info.{IsLawful};
 ghost use Rattle.avs_tree.specs.View.{function_view};
+ghost use Rattle.avs_values.specs.Values.{Text as Name};
 ghost use Rattle.clip_term.specs.Terms.{act_of, IsSound, check};
 ghost use Rattle.clip_term.specs.Filters.{IsMode};
 ghost use Rattle.clip_graph.specs.Plan.{IsCounted, infos_among, sources_in};
@@ -11,12 +12,13 @@ ghost use Rattle.avs_meaning.specs.Filters as f;
 ghost use Rattle.avs_meaning.specs.Meaning as m;
 ghost use Rattle.avs_meaning.specs.State as d;
 ghost use Rattle.avs_state.specs.Answers.{Gives};
+ghost use Rattle.avs_state.specs.Stops.{in_text, TakesNone, HidesNone};
 ghost use Rattle.avs_state.specs.Sources.{source_of, sources_of, Lists};
 ghost use Rattle.avs_state.specs.Walks.{Runs};
 ghost use Rattle.avs_state.specs.States.{state_of, defined_view, AsksNothing};
 
 use crate::variables::{set_in, value_in};
-use crate::{At, ByName, Definition, fault_at};
+use crate::{ByName, Definition, Stop};
 use avs_meaning::{Crew, EvalError, ScriptKind, SourceClip, Variable};
 use avs_tree::Function;
 use avs_values::Value;
@@ -109,11 +111,15 @@ impl Machine {
 
     /// Pays a unit for a statement or a turn at a line.
     #[tactic(auto, unfolding(crate::specs::States::state_of))]
-    pub fn spend(&mut self, alloc: Global, at: At<'_>) -> Result<(), EvalError>
-        ensures { Runs (λ u. u) (d.spend at.entry.name.now at.entry.line) self.old result self.new }
+    pub fn spend(&mut self, line: u32) -> Result<(), Stop>
+        ensures gives { (here : Name) → Gives (λ u. u) (d.spend here line (state_of self.old)) (in_text here result)
+            (state_of self.new) }
+        ensures asks { AsksNothing self.old self.new }
+        ensures plan { (state_of self.new).plan ≡ (state_of self.old).plan }
+        ensures memory { TakesNone result }
     {
         if self.units == 0 {
-            return Err(fault_at(alloc, ScriptKind::StepLimit, at));
+            return Err(Stop::Fault(ScriptKind::StepLimit, line));
         }
         self.units -= 1;
         Ok(())
@@ -208,20 +214,14 @@ impl Machine {
         alloc: Global,
         function: Function,
         script_name: &Text,
-    ) -> Result<(), EvalError>
-        ensures { Runs (λ u. u) (d.define (function_view function) script_name.now) self.old result self.new }
+    ) -> Result<(), Stop>
+        ensures { Runs (λ u. u) (d.define (function_view function) script_name.now) self.old
+            (in_text script_name.now result) self.new }
     {
         match self.find(alloc, &function.name)? {
             Some(_) => {
                 let kind = ScriptKind::DuplicateFunction;
-                return Err(fault_at(
-                    alloc,
-                    kind,
-                    At {
-                        name: script_name,
-                        line: function.line,
-                    },
-                ));
+                return Err(Stop::Fault(kind, function.line));
             }
             None => {}
         }
@@ -237,9 +237,9 @@ impl Machine {
         alloc: Global,
         functions: Vec<Function>,
         script_name: &Text,
-    ) -> Result<(), EvalError>
+    ) -> Result<(), Stop>
         ensures { Runs (λ u. u) (d.define_all (map function_view functions.items) script_name.now)
-            self.old result self.new }
+            self.old (in_text script_name.now result) self.new }
     {
         for function in functions {
             self.define(alloc, function, script_name)?;
@@ -249,14 +249,15 @@ impl Machine {
 
     /// The info of a clip, by its place.
     #[tactic(auto, unfolding(crate::specs::States::state_of))]
-    pub fn info_of(&self, alloc: Global, i: u32, at: At<'_>) -> Result<Info, EvalError>
-        ensures gives { Gives (λ info. info) (f.info_of at.entry.name.now i at.entry.line (state_of self.now)) result
-            (state_of self.now) }
+    pub fn info_of(&self, i: u32, line: u32) -> Result<Info, Stop>
+        ensures gives { (here : Name) → Gives (λ info. info) (f.info_of here i line (state_of self.now))
+            (in_text here result) (state_of self.now) }
+        ensures memory { TakesNone result }
         ensures lawful { IfOk result IsLawful }
         ensures inside { OnOk result (i < length (state_of self.now).plan) }
     {
         if i >= self.plan.len() {
-            return Err(fault_at(alloc, ScriptKind::TypeFault, at));
+            return Err(Stop::Fault(ScriptKind::TypeFault, line));
         }
         Ok(self.plan.node(i).info)
     }
@@ -265,29 +266,30 @@ impl Machine {
     #[tactic(auto, using(crate::proofs::SourceLemmas::sources_more), unfolding(crate::specs::States::state_of))]
     fn add(
         &mut self,
-        alloc: Global,
         op: Op,
         inputs: &[u32],
         info: Info,
         mode: u8,
-        at: At<'_>,
-    ) -> Result<Value, EvalError>
+        line: u32,
+    ) -> Result<Value, Stop>
         requires places { All (λ i. i < length (state_of self.old).plan) inputs.now }
         requires sound { IsSound (act_of op) (length inputs.now) }
         requires told { check (act_of op) (infos_among (state_of self.old).plan inputs.now) ≡ Ok info }
         requires mode { IsMode mode }
         requires counted { IsCounted (act_of op) (sources_in (state_of self.old).plan) mode }
-        ensures gives { Gives (λ v. v) (f.add at.entry.name.now (act_of op) inputs.now info mode at.entry.line (state_of
-            self.old)) result (state_of self.new) }
+        ensures gives { (here : Name) → Gives (λ v. v) (f.add here (act_of op) inputs.now info mode line
+            (state_of self.old)) (in_text here result) (state_of self.new) }
+        ensures memory { (here : Name) → HidesNone (f.add here (act_of op) inputs.now info mode line (state_of self.old))
+            result }
         ensures asks { AsksNothing self.old self.new }
         ensures sources { OnOk result (sources_of (state_of self.new).plan
             ≡ sources_of (state_of self.old).plan ++ source_of (act_of op)) }
     {
         match self.plan.add(op, inputs, info, mode) {
             Ok(place) => Ok(Value::Clip(place)),
-            Err(GraphFault::NodeLimit) => Err(fault_at(alloc, ScriptKind::NodeLimit, at)),
-            Err(GraphFault::DepthLimit) => Err(fault_at(alloc, ScriptKind::DepthLimit, at)),
-            Err(GraphFault::Memory) => Err(EvalError::Memory),
+            Err(GraphFault::NodeLimit) => Err(Stop::Fault(ScriptKind::NodeLimit, line)),
+            Err(GraphFault::DepthLimit) => Err(Stop::Fault(ScriptKind::DepthLimit, line)),
+            Err(GraphFault::Memory) => Err(Stop::Whole(EvalError::Memory)),
         }
     }
 
@@ -299,27 +301,27 @@ impl Machine {
         filter: Filter,
         op: Op,
         inputs: &[u32],
-        at: At<'_>,
-    ) -> Result<Value, EvalError>
+        line: u32,
+    ) -> Result<Value, Stop>
         requires sound { IsSound (act_of op) (length inputs.now) }
         requires counted { IsCounted (act_of op) (sources_in (state_of self.old).plan)
             (mode_in (state_of self.old).modes filter) }
-        ensures gives { Gives (λ v. v) (f.made at.entry.name.now filter (act_of op) inputs.now at.entry.line
-            (state_of self.old)) result (state_of self.new) }
+        ensures gives { (here : Name) → Gives (λ v. v) (f.made here filter (act_of op) inputs.now line
+            (state_of self.old)) (in_text here result) (state_of self.new) }
         ensures asks { AsksNothing self.old self.new }
         ensures sources { OnOk result (sources_of (state_of self.new).plan
             ≡ sources_of (state_of self.old).plan ++ source_of (act_of op)) }
     {
         if !are_places(&self.plan, inputs) {
-            return Err(fault_at(alloc, ScriptKind::TypeFault, at));
+            return Err(Stop::Fault(ScriptKind::TypeFault, line));
         }
         let infos = infos_among(alloc, &self.plan, inputs)?;
         match check(&op, &infos) {
             Ok(info) => {
                 let mode = self.modes.mode_for(filter);
-                self.add(alloc, op, inputs, info, mode, at)
+                self.add(op, inputs, info, mode, line)
             }
-            Err(fault) => Err(fault_at(alloc, ScriptKind::Filter(fault), at)),
+            Err(fault) => Err(Stop::Fault(ScriptKind::Filter(fault), line)),
         }
     }
 
@@ -327,21 +329,22 @@ impl Machine {
     #[tactic(auto, unfolding(crate::specs::States::state_of))]
     pub fn set_mode(
         &mut self,
-        alloc: Global,
         name: &Text,
         mode: i32,
         force: bool,
-        at: At<'_>,
-    ) -> Result<Value, EvalError>
-        ensures gives { Gives (λ v. v) (f.set_mode_of at.entry.name.now name.now mode force at.entry.line
-            (state_of self.old)) result (state_of self.new) }
+        line: u32,
+    ) -> Result<Value, Stop>
+        ensures gives { (here : Name) → Gives (λ v. v) (f.set_mode_of here name.now mode force line (state_of self.old))
+            (in_text here result) (state_of self.new) }
+        ensures memory { (here : Name) → HidesNone (f.set_mode_of here name.now mode force line (state_of self.old))
+            result }
         ensures asks { AsksNothing self.old self.new }
         ensures plan { (state_of self.new).plan ≡ (state_of self.old).plan }
     {
         match self.modes.set(name, mode, force) {
             Ok(()) => Ok(Value::Undefined),
-            Err(ModeFault::ModeRefused) => { Err(fault_at(alloc, ScriptKind::ModeRefused, at)) }
-            Err(ModeFault::Memory) => Err(EvalError::Memory),
+            Err(ModeFault::ModeRefused) => { Err(Stop::Fault(ScriptKind::ModeRefused, line)) }
+            Err(ModeFault::Memory) => Err(Stop::Whole(EvalError::Memory)),
         }
     }
 
@@ -370,23 +373,22 @@ impl Machine {
     pub fn add_source(
         &mut self,
         alloc: Global,
-        name: &Text,
+        name: Text,
         info: Info,
-        at: At<'_>,
-    ) -> Result<Value, EvalError>
+        line: u32,
+    ) -> Result<Value, Stop>
         requires lawful { IsLawful info }
-        ensures gives { Gives (λ v. v) (f.open_by at.entry.name.now (Ok info) name.now at.entry.line
-            (state_of self.old)) result (state_of self.new) }
+        ensures gives { (here : Name) → Gives (λ v. v) (f.open_by here (Ok info) name line (state_of self.old))
+            (in_text here result) (state_of self.new) }
         ensures opened { OnOk result ((state_of self.new).opened
-            ≡ (state_of self.old).opened ++ record { name = name.now; info = info } ∷ []) }
+            ≡ (state_of self.old).opened ++ record { name = name; info = info } ∷ []) }
         ensures imports { (state_of self.new).imports ≡ (state_of self.old).imports }
         ensures listed { Lists self.old result self.new }
     {
-        self.list(alloc, name, info)?;
+        self.list(alloc, &name, info)?;
         let number = self.sources();
-        let name = Text::from_str(alloc, name.as_str())?;
         let op = Op::Source { name, number, info };
-        self.make(alloc, Filter::Y4MSource, op, &[], at)
+        self.make(alloc, Filter::Y4MSource, op, &[], line)
     }
 
     // How many sources the graph has.

@@ -1,9 +1,7 @@
 // `Evaluator`: what gives the expressions of a text their values.
-use avs_meaning::EvalError;
-use avs_state::{Host, Machine};
+use avs_state::{Host, Machine, Stop};
 use avs_tree::Expr;
 use avs_values::Value;
-use fv_io::Text;
 
 /// What gives the expressions of a text their values, over a host.
 pub trait Evaluator<H: Host> {
@@ -13,6 +11,7 @@ pub trait Evaluator<H: Host> {
     ghost use Rattle.avs_meaning.specs.State.{Context};
     ghost use Rattle.avs_meaning.specs.Expressions as e;
     ghost use Rattle.avs_state.specs.Hosts.{Told};
+    ghost use Rattle.avs_state.specs.Stops.{in_text};
     ghost use Rattle.avs_state.specs.Walks.{Keeps, stop_in};
 
     /// Whether it may be asked.
@@ -24,14 +23,11 @@ pub trait Evaluator<H: Host> {
     /// What it evaluates expressions in.
     ghost context: { Self → Context };
 
-    /// The name of the text.
-    fn script_name(&self) -> &Text
-        ensures { result.now ≡ here self.now };
-
     /// The value of an expression.
-    fn value_of(&self, machine: &mut Machine, host: &mut H, expr: &Expr) -> Result<Value, EvalError>
+    fn value_of(&self, machine: &mut Machine, host: &mut H, expr: &Expr) -> Result<Value, Stop>
         requires may { may self.now }
         ensures told { Told H.told (λ v. v) (e.value_of (context self.now) (here self.now) (expr_view expr.now))
-            machine.old result machine.new }
-        ensures kept { Keeps H.Host machine.old host.old (stop_in result) machine.new host.new };
+            machine.old (in_text (here self.now) result) machine.new }
+        ensures kept { Keeps H.Host machine.old host.old (stop_in (in_text (here self.now) result))
+            machine.new host.new };
 }

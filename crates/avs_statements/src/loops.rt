@@ -1,16 +1,19 @@
 // The numbers of `for`, and the conditions of `if` and `while`.
-ghost use Rattle.std.specs.Prelude.{◌≡◌, ℤ, ◌+ℤ◌, option_map};
+ghost use Rattle.std.specs.Prelude.{◌≡◌, ℤ, ◌+ℤ◌, option_map, OnOk};
 ghost use Rattle.avs_tree.specs.View.{expr_view};
+ghost use Rattle.avs_values.specs.Values.{Text as Name};
 ghost use Rattle.avs_meaning.specs.Statements as s;
 ghost use Rattle.avs_state.specs.Answers.{Answers, Gives};
 ghost use Rattle.avs_state.specs.Hosts.{Told};
-ghost use Rattle.avs_state.specs.States.{state_of};
-ghost use Rattle.avs_state.specs.Walks.{Keeps, Runs, stop_in};
+ghost use Rattle.avs_state.specs.Sources.{sources_of};
+ghost use Rattle.avs_state.specs.States.{state_of, AsksNothing};
+ghost use Rattle.avs_state.specs.Stops.{in_text, TakesNone};
+ghost use Rattle.avs_state.specs.Walks.{Keeps, stop_in};
 
 use crate::evaluator::Evaluator;
 use crate::executor::Executor;
-use avs_meaning::{EvalError, ScriptKind};
-use avs_state::{At, Host, Machine, fault_at, truth};
+use avs_meaning::ScriptKind;
+use avs_state::{Host, Machine, Stop, truth};
 use avs_tree::Expr;
 use avs_values::Value;
 use fv_io::Text;
@@ -31,22 +34,23 @@ fn next_number(before: i64, step: i64) -> Option<i64>
 }
 
 // The number that the variable of a loop is.
-fn number_by(alloc: Global, value: Option<Value>, at: At<'_>) -> Result<i64, EvalError>
-    ensures { Answers (λ n. n) (s.number_by at.entry.name.now value at.entry.line) result }
+fn number_by(value: Option<Value>, line: u32) -> Result<i64, Stop>
+    ensures told { (here : Name) → Answers (λ n. n) (s.number_by here value line) (in_text here result) }
+    ensures memory { TakesNone result }
 {
     match value {
         Some(Value::Int(n)) => Ok(n),
-        _ => Err(fault_at(alloc, ScriptKind::TypeFault, at)),
+        _ => Err(Stop::Fault(ScriptKind::TypeFault, line)),
     }
 }
 
 // The variable of a loop, read again after a turn.
-fn read_number(alloc: Global, machine: &Machine, name: &Text, at: At<'_>) -> Result<i64, EvalError>
-    ensures { Gives (λ n. n) (s.read_number at.entry.name.now name.now at.entry.line (state_of machine.now)) result
-        (state_of machine.now) }
+fn read_number(alloc: Global, machine: &Machine, name: &Text, line: u32) -> Result<i64, Stop>
+    ensures { (here : Name) → Gives (λ n. n) (s.read_number here name.now line (state_of machine.now))
+        (in_text here result) (state_of machine.now) }
 {
     let value = machine.variable(alloc, name)?;
-    number_by(alloc, value, at)
+    number_by(value, line)
 }
 
 /// Sets the variable of a loop to the next number. There is none past 64 bits.
@@ -55,11 +59,14 @@ pub(crate) fn advance(
     machine: &mut Machine,
     name: &Text,
     step: i64,
-    at: At<'_>,
-) -> Result<Option<i64>, EvalError>
-    ensures { Runs (λ n. n) (s.advance at.entry.name.now name.now step at.entry.line) machine.old result machine.new }
+    line: u32,
+) -> Result<Option<i64>, Stop>
+    ensures gives { (here : Name) → Gives (λ n. n) (s.advance here name.now step line (state_of machine.old))
+        (in_text here result) (state_of machine.new) }
+    ensures asks { AsksNothing machine.old machine.new }
+    ensures sources { OnOk result (sources_of (state_of machine.new).plan ≡ sources_of (state_of machine.old).plan) }
 {
-    let before = read_number(alloc, machine, name, at)?;
+    let before = read_number(alloc, machine, name, line)?;
     let Some(next) = next_number(before, step) else {
         return Ok(None);
     };
@@ -68,23 +75,19 @@ pub(crate) fn advance(
 }
 
 // The first number of a loop, the last, and the step, which is not 0.
-fn numbers(
-    alloc: Global,
-    first: &Value,
-    last: &Value,
-    step: &Value,
-    at: At<'_>,
-) -> Result<(i64, i64, i64), EvalError>
-    ensures { Answers (λ n. n) (s.numbers at.entry.name.now at.entry.line first.now last.now step.now) result }
+fn numbers(first: &Value, last: &Value, step: &Value, line: u32) -> Result<(i64, i64, i64), Stop>
+    ensures told { (here : Name) → Answers (λ n. n) (s.numbers here line first.now last.now step.now)
+        (in_text here result) }
+    ensures memory { TakesNone result }
 {
     match (first, last, step) {
         (Value::Int(first), Value::Int(last), Value::Int(step)) => {
             if *step == 0 {
-                return Err(fault_at(alloc, ScriptKind::BadRange, at));
+                return Err(Stop::Fault(ScriptKind::BadRange, line));
             }
             Ok((*first, *last, *step))
         }
-        _ => Err(fault_at(alloc, ScriptKind::TypeFault, at)),
+        _ => Err(Stop::Fault(ScriptKind::TypeFault, line)),
     }
 }
 
@@ -96,22 +99,16 @@ impl<'e, H: Host, E: Evaluator<H>> Executor<'e, H, E> {
         host: &mut H,
         e: &Expr,
         line: u32,
-    ) -> Result<bool, EvalError>
+    ) -> Result<bool, Stop>
         requires may { E.may self.now.evaluator.now }
         ensures told { Told H.told (λ b. b)
             (s.condition (E.context self.now.evaluator.now) (E.here self.now.evaluator.now) (expr_view e.now) line)
-            machine.old result machine.new }
-        ensures kept { Keeps H.Host machine.old host.old (stop_in result) machine.new host.new }
+            machine.old (in_text (E.here self.now.evaluator.now) result) machine.new }
+        ensures kept { Keeps H.Host machine.old host.old (stop_in (in_text (E.here self.now.evaluator.now) result))
+            machine.new host.new }
     {
         let value = self.evaluator.value_of(machine, host, e)?;
-        truth(
-            self.alloc,
-            &value,
-            At {
-                name: self.evaluator.script_name(),
-                line,
-            },
-        )
+        truth(&value, line)
     }
 
     // The step of a loop, which is 1 where none is written.
@@ -120,11 +117,13 @@ impl<'e, H: Host, E: Evaluator<H>> Executor<'e, H, E> {
         machine: &mut Machine,
         host: &mut H,
         step: &Option<Expr>,
-    ) -> Result<Value, EvalError>
+    ) -> Result<Value, Stop>
         requires may { E.may self.now.evaluator.now }
         ensures told { Told H.told (λ x. x) (s.step_of (E.context self.now.evaluator.now) (E.here self.now.evaluator.now)
-            (option_map expr_view step.now)) machine.old result machine.new }
-        ensures kept { Keeps H.Host machine.old host.old (stop_in result) machine.new host.new }
+            (option_map expr_view step.now))
+            machine.old (in_text (E.here self.now.evaluator.now) result) machine.new }
+        ensures kept { Keeps H.Host machine.old host.old (stop_in (in_text (E.here self.now.evaluator.now) result))
+            machine.new host.new }
     {
         match step {
             Some(e) => self.evaluator.value_of(machine, host, e),
@@ -141,25 +140,17 @@ impl<'e, H: Host, E: Evaluator<H>> Executor<'e, H, E> {
         last: &Expr,
         step: &Option<Expr>,
         line: u32,
-    ) -> Result<(i64, i64, i64), EvalError>
+    ) -> Result<(i64, i64, i64), Stop>
         requires may { E.may self.now.evaluator.now }
         ensures told { Told H.told (λ n. n) (s.bounds (E.context self.now.evaluator.now) (E.here self.now.evaluator.now)
-            (expr_view first.now) (expr_view last.now) (option_map expr_view step.now) line) machine.old result
-            machine.new }
-        ensures kept { Keeps H.Host machine.old host.old (stop_in result) machine.new host.new }
+            (expr_view first.now) (expr_view last.now) (option_map expr_view step.now) line)
+            machine.old (in_text (E.here self.now.evaluator.now) result) machine.new }
+        ensures kept { Keeps H.Host machine.old host.old (stop_in (in_text (E.here self.now.evaluator.now) result))
+            machine.new host.new }
     {
         let first = self.evaluator.value_of(machine, host, first)?;
         let last = self.evaluator.value_of(machine, host, last)?;
         let step = self.step_of(machine, host, step)?;
-        numbers(
-            self.alloc,
-            &first,
-            &last,
-            &step,
-            At {
-                name: self.evaluator.script_name(),
-                line,
-            },
-        )
+        numbers(&first, &last, &step, line)
     }
 }

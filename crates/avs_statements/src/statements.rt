@@ -8,6 +8,7 @@ ghost use Rattle.avs_state.specs.Hosts.{Told};
 ghost use Rattle.avs_state.specs.States.{state_of};
 ghost use Rattle.avs_statements.specs.Flows.{flow_view, turn_view};
 ghost use Rattle.avs_statements.specs.Turns as r;
+ghost use Rattle.avs_state.specs.Stops.{in_text};
 ghost use Rattle.avs_state.specs.Walks.{Keeps, Runs, stop_in};
 
 use crate::evaluator::Evaluator;
@@ -15,7 +16,7 @@ use crate::executor::Executor;
 use crate::flow::{Counter, Flow, Turn};
 use crate::loops::{advance, is_past};
 use avs_meaning::{EvalError, ScriptKind};
-use avs_state::{At, Host, Machine};
+use avs_state::{Host, Machine, Stop};
 use avs_tree::{Arm, Expr, Statement, StatementKind};
 use avs_values::Value;
 use fv_io::Text;
@@ -57,11 +58,13 @@ impl<'e, H: Host, E: Evaluator<H>> Executor<'e, H, E> {
         host: &mut H,
         kind: &StatementKind,
         line: u32,
-    ) -> Result<Flow, EvalError>
+    ) -> Result<Flow, Stop>
         requires may { E.may self.now.evaluator.now }
         ensures told { Told H.told flow_view (m.effect_of (E.context self.now.evaluator.now) (E.here self.now.evaluator.now)
-            (kind_view kind.now) line) machine.old result machine.new }
-        ensures kept { Keeps H.Host machine.old host.old (stop_in result) machine.new host.new }
+            (kind_view kind.now) line)
+            machine.old (in_text (E.here self.now.evaluator.now) result) machine.new }
+        ensures kept { Keeps H.Host machine.old host.old (stop_in (in_text (E.here self.now.evaluator.now) result))
+            machine.new host.new }
     {
         match kind {
             StatementKind::Global { name, value } => {
@@ -97,7 +100,7 @@ impl<'e, H: Host, E: Evaluator<H>> Executor<'e, H, E> {
             } => { self.count(machine, host, body, name, first, last, step, line) }
             StatementKind::Value(e) => {
                 let value = self.evaluator.value_of(machine, host, e)?;
-                sets_last(self.alloc, machine, value)
+                Ok(sets_last(self.alloc, machine, value)?)
             }
         }
     }
@@ -111,11 +114,13 @@ impl<'e, H: Host, E: Evaluator<H>> Executor<'e, H, E> {
         host: &mut H,
         arms: &[Arm],
         line: u32,
-    ) -> Result<Option<Flow>, EvalError>
+    ) -> Result<Option<Flow>, Stop>
         requires may { E.may self.now.evaluator.now }
         ensures told { Told H.told (option_map flow_view) (m.arms_of (E.context self.now.evaluator.now)
-            (E.here self.now.evaluator.now) (arms_of (map arm_view arms.now)) line) machine.old result machine.new }
-        ensures kept { Keeps H.Host machine.old host.old (stop_in result) machine.new host.new }
+            (E.here self.now.evaluator.now) (arms_of (map arm_view arms.now)) line)
+            machine.old (in_text (E.here self.now.evaluator.now) result) machine.new }
+        ensures kept { Keeps H.Host machine.old host.old (stop_in (in_text (E.here self.now.evaluator.now) result))
+            machine.new host.new }
     {
         for arm in arms {
             if self.condition(machine, host, &arm.condition, line)? {
@@ -136,31 +141,27 @@ impl<'e, H: Host, E: Evaluator<H>> Executor<'e, H, E> {
         body: &[Statement],
         test: &Expr,
         line: u32,
-    ) -> Result<Flow, EvalError>
+    ) -> Result<Flow, Stop>
         requires may { E.may self.now.evaluator.now }
         ensures told { Told H.told flow_view (r.loop_of (E.context self.now.evaluator.now) (E.here self.now.evaluator.now)
-            (expr_view test.now) line (block_view body.now)) machine.old result machine.new }
-        ensures kept { Keeps H.Host machine.old host.old (stop_in result) machine.new host.new }
+            (expr_view test.now) line (block_view body.now))
+            machine.old (in_text (E.here self.now.evaluator.now) result) machine.new }
+        ensures kept { Keeps H.Host machine.old host.old (stop_in (in_text (E.here self.now.evaluator.now) result))
+            machine.new host.new }
     {
         let most = machine.units();
         for _turn in 0..most {
             if !self.condition(machine, host, test, line)? {
                 return Ok(Flow::On(Value::Undefined));
             }
-            machine.spend(
-                self.alloc,
-                At {
-                    name: self.evaluator.script_name(),
-                    line,
-                },
-            )?;
+            machine.spend(line)?;
             match self.block_of(machine, host, body)? {
                 Flow::On(_) => continue,
                 Flow::Back(value) => return Ok(Flow::Back(value)),
             }
         }
         if self.condition(machine, host, test, line)? {
-            return Err(self.fault(ScriptKind::StepLimit, line));
+            return Err(Stop::Fault(ScriptKind::StepLimit, line));
         }
         Ok(Flow::On(Value::Undefined))
     }
@@ -177,13 +178,15 @@ impl<'e, H: Host, E: Evaluator<H>> Executor<'e, H, E> {
         last: &Expr,
         step: &Option<Expr>,
         line: u32,
-    ) -> Result<Flow, EvalError>
+    ) -> Result<Flow, Stop>
         requires may { E.may self.now.evaluator.now }
         ensures told { Told H.told flow_view (m.effect_of (E.context self.now.evaluator.now) (E.here self.now.evaluator.now)
             (t.for name.now (expr_view first.now) (expr_view last.now) (option_map expr_view step.now) (block_view
             body.now))
-            line) machine.old result machine.new }
-        ensures kept { Keeps H.Host machine.old host.old (stop_in result) machine.new host.new }
+            line)
+            machine.old (in_text (E.here self.now.evaluator.now) result) machine.new }
+        ensures kept { Keeps H.Host machine.old host.old (stop_in (in_text (E.here self.now.evaluator.now) result))
+            machine.new host.new }
     {
         let (first, last, step) = self.bounds(machine, host, first, last, step, line)?;
         machine.set(self.alloc, name, Value::Int(first))?;
@@ -206,11 +209,13 @@ impl<'e, H: Host, E: Evaluator<H>> Executor<'e, H, E> {
         name: &Text,
         first: Counter,
         line: u32,
-    ) -> Result<Flow, EvalError>
+    ) -> Result<Flow, Stop>
         requires may { E.may self.now.evaluator.now }
         ensures told { Told H.told flow_view (r.count_of (E.context self.now.evaluator.now) (E.here self.now.evaluator.now)
-            name.now first.at first.last first.step line (block_view body.now)) machine.old result machine.new }
-        ensures kept { Keeps H.Host machine.old host.old (stop_in result) machine.new host.new }
+            name.now first.at first.last first.step line (block_view body.now))
+            machine.old (in_text (E.here self.now.evaluator.now) result) machine.new }
+        ensures kept { Keeps H.Host machine.old host.old (stop_in (in_text (E.here self.now.evaluator.now) result))
+            machine.new host.new }
     {
         let most = machine.units();
         let mut counter = first;
@@ -226,7 +231,7 @@ impl<'e, H: Host, E: Evaluator<H>> Executor<'e, H, E> {
         if is_past(counter.last, counter.step, counter.at) {
             return Ok(Flow::On(Value::Undefined));
         }
-        Err(self.fault(ScriptKind::StepLimit, line))
+        Err(Stop::Fault(ScriptKind::StepLimit, line))
     }
 
     // One turn of a loop over numbers, which costs a unit.
@@ -240,34 +245,21 @@ impl<'e, H: Host, E: Evaluator<H>> Executor<'e, H, E> {
         name: &Text,
         counter: &Counter,
         line: u32,
-    ) -> Result<Turn, EvalError>
+    ) -> Result<Turn, Stop>
         requires may { E.may self.now.evaluator.now }
         ensures told { Told H.told turn_view (r.turn (E.context self.now.evaluator.now) (E.here self.now.evaluator.now) name.now
-            counter.now.at counter.now.last counter.now.step line (block_view body.now)) machine.old result machine.new }
-        ensures kept { Keeps H.Host machine.old host.old (stop_in result) machine.new host.new }
+            counter.now.at counter.now.last counter.now.step line (block_view body.now))
+            machine.old (in_text (E.here self.now.evaluator.now) result) machine.new }
+        ensures kept { Keeps H.Host machine.old host.old (stop_in (in_text (E.here self.now.evaluator.now) result))
+            machine.new host.new }
     {
         if is_past(counter.last, counter.step, counter.at) {
             return Ok(Turn::Done(Flow::On(Value::Undefined)));
         }
-        machine.spend(
-            self.alloc,
-            At {
-                name: self.evaluator.script_name(),
-                line,
-            },
-        )?;
+        machine.spend(line)?;
         match self.block_of(machine, host, body)? {
             Flow::On(_) => {
-                match advance(
-                    self.alloc,
-                    machine,
-                    name,
-                    counter.step,
-                    At {
-                        name: self.evaluator.script_name(),
-                        line,
-                    },
-                )? {
+                match advance(self.alloc, machine, name, counter.step, line)? {
                     Some(next) => Ok(Turn::Next(next)),
                     None => Ok(Turn::Done(Flow::On(Value::Undefined))),
                 }
@@ -283,19 +275,15 @@ impl<'e, H: Host, E: Evaluator<H>> Executor<'e, H, E> {
         machine: &mut Machine,
         host: &mut H,
         statement: &Statement,
-    ) -> Result<Flow, EvalError>
+    ) -> Result<Flow, Stop>
         requires may { E.may self.now.evaluator.now }
         ensures told { Told H.told flow_view (r.statement (E.context self.now.evaluator.now) (E.here self.now.evaluator.now)
-            (statement_view statement.now)) machine.old result machine.new }
-        ensures kept { Keeps H.Host machine.old host.old (stop_in result) machine.new host.new }
+            (statement_view statement.now))
+            machine.old (in_text (E.here self.now.evaluator.now) result) machine.new }
+        ensures kept { Keeps H.Host machine.old host.old (stop_in (in_text (E.here self.now.evaluator.now) result))
+            machine.new host.new }
     {
-        machine.spend(
-            self.alloc,
-            At {
-                name: self.evaluator.script_name(),
-                line: statement.line,
-            },
-        )?;
+        machine.spend(statement.line)?;
         self.effect_of(machine, host, &statement.kind, statement.line)
     }
 
@@ -307,11 +295,13 @@ impl<'e, H: Host, E: Evaluator<H>> Executor<'e, H, E> {
         machine: &mut Machine,
         host: &mut H,
         body: &[Statement],
-    ) -> Result<Flow, EvalError>
+    ) -> Result<Flow, Stop>
         requires may { E.may self.now.evaluator.now }
         ensures told { Told H.told flow_view (m.block_of (E.context self.now.evaluator.now) (E.here self.now.evaluator.now)
-            (block_view body.now)) machine.old result machine.new }
-        ensures kept { Keeps H.Host machine.old host.old (stop_in result) machine.new host.new }
+            (block_view body.now))
+            machine.old (in_text (E.here self.now.evaluator.now) result) machine.new }
+        ensures kept { Keeps H.Host machine.old host.old (stop_in (in_text (E.here self.now.evaluator.now) result))
+            machine.new host.new }
     {
         for statement in body {
             match self.statement_of(machine, host, statement)? {
@@ -329,11 +319,13 @@ impl<'e, H: Host, E: Evaluator<H>> Executor<'e, H, E> {
         machine: &mut Machine,
         host: &mut H,
         body: &[Statement],
-    ) -> Result<Value, EvalError>
+    ) -> Result<Value, Stop>
         requires may { E.may self.now.evaluator.now }
         ensures told { Told H.told (λ x. x) (m.body_of (E.context self.now.evaluator.now) (E.here self.now.evaluator.now)
-            (block_view body.now) Value.Undefined) machine.old result machine.new }
-        ensures kept { Keeps H.Host machine.old host.old (stop_in result) machine.new host.new }
+            (block_view body.now) Value.Undefined)
+            machine.old (in_text (E.here self.now.evaluator.now) result) machine.new }
+        ensures kept { Keeps H.Host machine.old host.old (stop_in (in_text (E.here self.now.evaluator.now) result))
+            machine.new host.new }
     {
         let mut last = Value::Undefined;
         for statement in body {
@@ -345,7 +337,7 @@ impl<'e, H: Host, E: Evaluator<H>> Executor<'e, H, E> {
                 Flow::Back(value) => return Ok(value),
             }
         }
-        settled(self.alloc, machine, last)
+        Ok(settled(self.alloc, machine, last)?)
     }
 }
 
@@ -356,11 +348,13 @@ pub fn body_of<H: Host, E: Evaluator<H>>(
     machine: &mut Machine,
     host: &mut H,
     body: &[Statement],
-) -> Result<Value, EvalError>
+) -> Result<Value, Stop>
     requires may { E.may evaluator.now }
     ensures told { Told H.told (λ x. x) (m.body_of (E.context evaluator.now) (E.here evaluator.now) (block_view body.now)
-        Value.Undefined) machine.old result machine.new }
-    ensures kept { Keeps H.Host machine.old host.old (stop_in result) machine.new host.new }
+        Value.Undefined)
+        machine.old (in_text (E.here evaluator.now) result) machine.new }
+    ensures kept { Keeps H.Host machine.old host.old (stop_in (in_text (E.here evaluator.now) result))
+        machine.new host.new }
 {
     let executor = Executor {
         alloc,

@@ -10,16 +10,16 @@ use Rattle.serve_worker.specs.declared.instance.Instance.{Instance}
 use Rattle.serve_worker.specs.Furnishing.{sources_in as sources_of_table, fault_counts}
 use Rattle.clip_term.specs.Terms.{Act, source}
 use Rattle.clip_graph.specs.Plan.{Application, is_source, sources_in}
-use Rattle.avs_meaning.specs.Faults.{Fault, Shows, script}
 use Rattle.avs_meaning.specs.Meaning as m
 use Rattle.avs_meaning.specs.State.{Outside}
 use Rattle.avs_meaning.specs.declared.fault.FileKind.{FileKind}
 use Rattle.avs_meaning.specs.declared.fault.ScriptKind.TheVariants as k
 use Rattle.avs_meaning.specs.declared.state.SourceClip.{SourceClip}
-use Rattle.avs_meaning.specs.declared.stop.EvalError.{EvalError}
 use Rattle.avs_meaning.specs.declared.stop.EvalError.TheVariants as s
 use Rattle.avs_state.specs.Hosts.{TellsScript, StopsBy}
 use Rattle.avs_state.specs.Sources.{source_of, sources_of}
+use Rattle.avs_state.specs.Stops.{named}
+use Rattle.avs_state.specs.declared.stop.Stop as run
 use Rattle.avs_state.specs.declared.host.HostFault.{HostFault}
 use Rattle.avs_state.specs.declared.host.HostFault.TheVariants as h
 use Rattle.avs_eval.specs.Evaluates.{Evaluates}
@@ -35,17 +35,11 @@ use Rattle.serve_app.proofs.PlayLemmas.{told_as, in_told}
 
 -- ---- the file of the script
 
-shown : (fault : Fault) (stop : EvalError) → Shows fault stop → Evaluates (m.wrong fault) (Err stop)
-shown fault (s.Fault kind name line) is = ap m.wrong is
-shown fault (s.Input name why) is = ap m.wrong is
-shown fault s.Read is = absurd is
-shown fault s.Memory is = tt
-
 -- a file that is no script is told as the script's fault
-pub fault_told : (told : Result (List ℕ) FileKind) (outside : Outside) (name : List ℕ) (fault : HostFault) (stop : EvalError) → TellsScript told (Err fault) → StopsBy fault name name 0 stop
-    → Tells (m.script_meaning told outside name) (Err (stop_of stop))
+pub fault_told : (told : Result (List ℕ) FileKind) (outside : Outside) (name : List ℕ) (fault : HostFault) (stop : run.Stop) → TellsScript told (Err fault) → StopsBy fault name 0 stop
+    → Tells (m.script_meaning told outside name) (Err (stop_of (named name stop)))
 fault_told told outside name (h.Input why) stop tells by = absurd tells
-fault_told told outside name (h.Script kind) stop tells by = rw tells (told_as _ stop (shown (script (k.File kind) name 0) stop by))
+fault_told told outside name (h.Script kind) stop tells by = rw (tells, by) (told_as _ (s.Fault (k.File kind) name 0) refl)
 fault_told told outside name h.Read stop tells by = rw by tt
 fault_told told outside name h.Memory stop tells by = rw by tt
 

@@ -13,7 +13,7 @@ ghost use Rattle.serve_app.specs.Stop.{ScriptHasClip};
 
 use avs_eval::{Opened, eval};
 use avs_files::{FileHost, HeldFiles, Known, Lent, close_all};
-use avs_state::{At, Host, stop_of};
+use avs_state::{Host, stop_of};
 use fv_io::{Files, Source, Text};
 use seq_source::SeqSource;
 use serve_text::Stop;
@@ -37,15 +37,11 @@ fn evaluate<H: Host>(alloc: Global, host: &mut H, script: &Text) -> Result<Opene
     ensures fetched { IsTrue H.told → OnOk result (H.fetched host.new ≡
         H.fetched host.old + files_of (outside_by H.clips H.scripts) script.now) }
 {
+    let name = Text::from_str(alloc, script.as_str())?;
+    let file = Text::from_str(alloc, script.as_str())?;
     let text = match host.script(script) {
         Ok(text) => text,
-        Err(fault) => {
-            let at = At {
-                name: script,
-                line: 0,
-            };
-            return Err(Stop::from(stop_of(alloc, fault, script, at)));
-        }
+        Err(fault) => return Err(Stop::from(stop_of(fault, file, 0).named(name))),
     };
     let opened = eval(alloc, host, script, &text)?;
     Ok(opened)

@@ -22,8 +22,8 @@ returns-clause-fetched g c = λ told.
     let outside = outside_by g.H.Host.clips g.H.Host.scripts in
     let kept = c.in_ok-root.ensures.kept in
     let first = state_of c.new-machine.result in
-    let last = state_of c.execute.new.machine in
+    let last = state_of c.root_of.new.machine in
     let run : executed outside c.args.name.now c.args.text.now first ≡ Ok (c.in_ok-root.root, last) = c.in_ok-root.ensures.told told in
     let counted = ap imports_by (sym (ap (executed outside c.args.name.now c.args.text.now) c.new-machine.ensures) ∙ run) in
-    all_fetched (g.H.Host.fetched c.args.host.now) (g.H.Host.fetched c.execute.new.host) _ first last (g.H.Host.opened c.execute.new.host) c.new-machine.ensures
+    all_fetched (g.H.Host.fetched c.args.host.now) (g.H.Host.fetched c.root_of.new.host) _ first last (g.H.Host.opened c.root_of.new.host) c.new-machine.ensures
     (kept.given (ap (λ (s : State). s.opened) c.new-machine.ensures ∙ sym c.requires.none)) counted kept.fetched

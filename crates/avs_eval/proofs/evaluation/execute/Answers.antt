@@ -1,6 +1,7 @@
 -- The text is loaded, and its statements run.
 use Rattle.std.proofs.Common.{◌≡◌, Err, rules}
 use Rattle.avs_state.specs.States.{state_of}
+use Rattle.avs_state.specs.declared.stop.Stop.TheVariants as s
 use Rattle.avs_eval.specs.Bodies.{body_view}
 use Rattle.avs_eval.proofs.RunLemmas.{load_fails, loaded_runs}
 use Rattle.avs_eval.proofs.evaluation.execute.Goals as goal
@@ -8,7 +9,7 @@ use Rattle.avs_eval.proofs.evaluation.execute.Goals as goal
 pub returns-in_err-body-clause-told : goal.returns-in_err-body-clause-told
 returns-in_err-body-clause-told g c = λ told.
     let stop = c.in_err-body.field-0.0 in
-    let is : c.from_residual.result ≡ Err stop = search rules in
+    let is : c.from_residual.result ≡ Err (s.Whole stop) = search rules in
     rw is (load_fails g.H.Host.clips g.H.Host.scripts c.args.name.now c.args.text.now (state_of c.args.machine.now) stop c.in_err-body.ensures.gives)
 
 pub returns-clause-told : goal.returns-clause-told

@@ -2,12 +2,11 @@
 use Rattle.std.proofs.Common.{rules, ◌≡◌, ◌+◌, ◌≤◌, length, Some, arith}
 use Rattle.avs_values.specs.Views.{bound_view}
 use Rattle.avs_meaning.specs.Expressions.{builtin, takes, fit_or_last}
-use Rattle.avs_meaning.specs.Faults.{script}
 use Rattle.avs_meaning.specs.declared.builtin.Builtin.TheVariants as b
 use Rattle.avs_state.specs.States.{state_of}
+use Rattle.avs_state.specs.Stops.{named}
 use Rattle.avs_expressions.specs.Views.{callee_view}
 use Rattle.avs_eval.proofs.CallLemmas.{few_further, range_applies, range_fails, range_refused, range_shows}
-use Rattle.avs_state.proofs.Failures.{shown_fails}
 use Rattle.avs_eval.specs.OutsideBy.{context_in}
 use Rattle.avs_eval.specs.Ranges.{given_view}
 use Rattle.avs_eval.proofs.walker.Walker.+calls.Goals as goal
@@ -30,15 +29,13 @@ call_builtin-returns-in-ApplyRange-clause-told g t c = λ told.
 
 pub apply_range-returns-in-Err-clause-told : goal.apply_range-returns-in-Err-clause-told
 apply_range-returns-in-Err-clause-told g t c = λ told.
-    shown_fails _ (script c.in-Err.kind c.args.self.now.script_name.now c.args.line) c.fault.result
-    (range_refused (context_in g.H.Host c.args.self.now.depth) c.args.self.now.script_name.now c.args.line c.args.given.now.values.items c.args.given.now.rest.items c.in-Err.kind
-    (state_of c.args.machine.now) (search rules))
-    c.fault.ensures
+    range_refused (context_in g.H.Host c.args.self.now.depth) c.args.self.now.script_name.now c.args.line c.args.given.now.values.items c.args.given.now.rest.items c.in-Err.kind
+    (state_of c.args.machine.now) (search rules)
 
 pub apply_range-returns-in-Err-call-clause-told : goal.apply_range-returns-in-Err-call-clause-told
 apply_range-returns-in-Err-call-clause-told g t c = λ told.
     range_fails (context_in g.H.Host c.args.self.now.depth) c.args.self.now.script_name.now c.args.line c.args.given.now.values.items c.args.given.now.rest.items
-    (given_view c.in-Ok.range) (callee_view c.in_ok-callee.callee) c.in_ok-args.args.items c.in-Err-call.stop (state_of c.args.machine.now) (search rules) (search rules)
+    (given_view c.in-Ok.range) (callee_view c.in_ok-callee.callee) c.in_ok-args.args.items (named c.args.self.now.script_name.now c.in-Err-call.stop) (state_of c.args.machine.now) (search rules) (search rules)
     (rw c.deref-2.ensures.value at c.in_ok-args.ensures) (c.in-Err-call.ensures.told told)
 
 pub apply_range-returns-clause-told : goal.apply_range-returns-clause-told

@@ -2,6 +2,7 @@
 use Rattle.std.proofs.Common.{◌≡◌, map, Err, rules}
 use Rattle.avs_tree.specs.View.{method_call_view, method_calls_of}
 use Rattle.avs_state.specs.States.{state_of}
+use Rattle.avs_state.specs.Stops.{named}
 use Rattle.avs_meaning.specs.Expressions as m
 use Rattle.avs_expressions.proofs.Rows.{calls_fail}
 use Rattle.avs_expressions.proofs.evaluation.Evaluation.+expressions.Goals as goal
@@ -15,5 +16,5 @@ calls_from-returns-in_err-value-clause-told g t c = λ told.
     c.args.first (state_of c.args.machine.now) in
     let is : c.from_residual.result ≡ Err stop = search rules in
     rw is (calls_fail context here c.args.calls.now c.loop-call.call-index c.call-item.result
-    c.loop-call.value (state_of c.loop-call.machine) whole stop (search rules) c.call-item.is (c.loop-call.invariant.told told)
+    c.loop-call.value (state_of c.loop-call.machine) whole (named here stop) (search rules) c.call-item.is (c.loop-call.invariant.told told)
     (c.in_err-value.ensures.told told))

@@ -8,11 +8,11 @@ use Rattle.avs_state.proofs.machine.Machine.make.Goals as goal
 
 pub returns-in-Err-clause-gives : goal.returns-in-Err-clause-gives
 unfolding state_of
-returns-in-Err-clause-gives c =
+returns-in-Err-clause-gives c = λ here.
     let plan = c.args.self.now.plan in
     let inputs = c.args.inputs.now in
     let act = act_of c.args.op in
     let places : f.are_places inputs plan ≡ true = search rules in
     let checked : check act (infos_among plan inputs) ≡ Err c.in-Err.fault
     = ap (check act) (sym (c.deref.ensures.value ∙ c.in_ok-infos.ensures)) ∙ sym c.check.ensures.exact ∙ c.in-Err.is in
-    refused c.args.at.name.now c.args.filter act inputs c.args.at.line (state_of c.args.self.now) c.in-Err.fault c.fault_at-in-Err.result places checked c.fault_at-in-Err.ensures
+    refused here c.args.filter act inputs c.args.line (state_of c.args.self.now) c.in-Err.fault places checked
