@@ -11,7 +11,7 @@ ghost use Rattle.avs_calls.specs.Within.{RunsWithin};
 
 use crate::arguments::{number_at, text_at};
 use avs_meaning::ScriptKind;
-use avs_state::{Machine, Stop};
+use avs_state::{RunState, Stop};
 use avs_values::Value;
 use clip_term::{BLACK, Filter, FilterFault, Op, colour_of, is_colour};
 use fv_io::Text;
@@ -169,7 +169,7 @@ fn default_clip() -> Info
 // A blank clip. What isn't given is that of the base.
 fn blank_like(
     alloc: Global,
-    machine: &mut Machine,
+    state: &mut RunState,
     base: &Info,
     args: &BlankArgs<'_>,
     line: u32,
@@ -177,14 +177,14 @@ fn blank_like(
     requires par { IsPar base.now.par }
     requires depth { has_depth base.now.shape.kind base.now.shape.bits ≡ true }
     ensures { RunsWithin (λ x. x) (λ here. f.blank_like here base.now (args_view args.now) line)
-        machine.old result machine.new }
+        state.old result state.new }
 {
     if let Some(fault) = refusal(base, args) {
         return Err(Stop::Fault(ScriptKind::Filter(fault), line));
     }
     let info = blank_info(base, args);
     let colour = colour_of(colour_given(args));
-    machine.make(
+    state.make(
         alloc,
         Filter::BlankClip,
         Op::Blank { info, colour },
@@ -196,20 +196,20 @@ fn blank_like(
 // A blank clip. What isn't given is that of the clip, if there is one.
 fn blank_of(
     alloc: Global,
-    machine: &mut Machine,
+    state: &mut RunState,
     clip: Option<&Value>,
     args: &BlankArgs<'_>,
     line: u32,
 ) -> Result<Value, Stop>
     ensures { RunsWithin (λ x. x) (λ here. f.blank_of here (option_map (λ value. value.now) clip.entry) (args_view
-        args.now) line) machine.old result machine.new }
+        args.now) line) state.old result state.new }
 {
     match clip {
         Some(Value::Clip(i)) => {
-            let info = machine.info_of(*i, line)?;
-            blank_like(alloc, machine, &info, args, line)
+            let info = state.info_of(*i, line)?;
+            blank_like(alloc, state, &info, args, line)
         }
-        _ => blank_like(alloc, machine, &default_clip(), args, line),
+        _ => blank_like(alloc, state, &default_clip(), args, line),
     }
 }
 
@@ -217,18 +217,18 @@ fn blank_of(
 /// first by the other one.
 pub(crate) fn blank(
     alloc: Global,
-    machine: &mut Machine,
+    state: &mut RunState,
     signature: usize,
     values: &[Value],
     line: u32,
 ) -> Result<Value, Stop>
     requires fit { IsTrue (all_fit_filters values.now) }
-    ensures { RunsWithin (λ x. x) (λ here. f.blank here signature values.now line) machine.old result machine.new }
+    ensures { RunsWithin (λ x. x) (λ here. f.blank here signature values.now line) state.old result state.new }
 {
     if signature == 0 {
         let args = BlankArgs::of(values, 0);
-        return blank_of(alloc, machine, values.get(7), &args, line);
+        return blank_of(alloc, state, values.get(7), &args, line);
     }
     let args = BlankArgs::of(values, 1);
-    blank_of(alloc, machine, values.first(), &args, line)
+    blank_of(alloc, state, values.first(), &args, line)
 }

@@ -18,7 +18,7 @@ use crate::blank::blank;
 use crate::read::{op_given, takes};
 use crate::refused::Refused;
 use avs_meaning::{EvalError, ScriptKind};
-use avs_state::{Machine, Stop};
+use avs_state::{RunState, Stop};
 use avs_values::{Bound, Value};
 use clip_term::{Filter, FilterFault, Op, TimeOp};
 use fv_io::Text;
@@ -29,7 +29,7 @@ use std::alloc::Global;
 #[tactic(auto, using(crate::proofs::TakesLemmas::takes_none))]
 fn with_info(
     alloc: Global,
-    machine: &mut Machine,
+    state: &mut RunState,
     filter: Filter,
     given: &Bound,
     inputs: &[u32],
@@ -38,7 +38,7 @@ fn with_info(
 ) -> Result<Value, Stop>
     requires { clip.now.frames ≤ 1000000 }
     ensures { RunsWithin (λ x. x) (λ here. f.applied_by here (r.reading script_of (bound_view given.now) clip.now
-        filter) filter inputs.now line) machine.old result machine.new }
+        filter) filter inputs.now line) state.old result state.new }
 {
     let op = match op_given(alloc, given, clip, filter) {
         Ok(op) => op,
@@ -48,19 +48,19 @@ fn with_info(
     if !takes(&op, inputs.len()) {
         return Err(Stop::Fault(ScriptKind::NoMatch, line));
     }
-    machine.make(alloc, filter, op, inputs, line)
+    state.make(alloc, filter, op, inputs, line)
 }
 
 // Applies a filter but a source to the clips among its arguments.
 fn on_clips(
     alloc: Global,
-    machine: &mut Machine,
+    state: &mut RunState,
     filter: Filter,
     given: &Bound,
     line: u32,
 ) -> Result<Value, Stop>
     ensures { RunsWithin (λ x. x) (λ here. f.applied here script_of filter (bound_view given.now) (a.clips_given
-        (bound_view given.now)) line) machine.old result machine.new }
+        (bound_view given.now)) line) state.old result state.new }
 {
     let mut inputs = Vec::new(alloc);
     add_clips(&mut inputs, &given.values)?;
@@ -68,14 +68,14 @@ fn on_clips(
     let Some(first) = inputs.first() else {
         return Err(Stop::Fault(ScriptKind::NoMatch, line));
     };
-    let info = machine.info_of(*first, line)?;
-    with_info(alloc, machine, filter, given, &inputs, &info, line)
+    let info = state.info_of(*first, line)?;
+    with_info(alloc, state, filter, given, &inputs, &info, line)
 }
 
 /// Applies a filter but `Y4MSource`, whose arguments are bound by the signature of this number.
 pub fn apply_filter(
     alloc: Global,
-    machine: &mut Machine,
+    state: &mut RunState,
     filter: Filter,
     signature: usize,
     given: &Bound,
@@ -83,24 +83,24 @@ pub fn apply_filter(
 ) -> Result<Value, Stop>
     requires { filter ≡ Filter.Y4MSource → ⊥ }
     ensures gives { (here : Name) (outside : Outside) → outside.trees ≡ script_of → Gives (λ x. x)
-        (f.filtered here outside filter signature (bound_view given.now) line (state_of machine.old))
-        (in_text here result) (state_of machine.new) }
-    ensures asks { AsksNothing machine.old machine.new }
-    ensures sources { OnOk result (sources_of (state_of machine.new).plan ≡ sources_of (state_of machine.old).plan) }
+        (f.filtered here outside filter signature (bound_view given.now) line (state_of state.old))
+        (in_text here result) (state_of state.new) }
+    ensures asks { AsksNothing state.old state.new }
+    ensures sources { OnOk result (sources_of (state_of state.new).plan ≡ sources_of (state_of state.old).plan) }
 {
     if let Filter::BlankClip = filter {
         if !all_fit_filters(&given.values) {
             return Err(Stop::Fault(ScriptKind::Filter(FilterFault::BadRange), line));
         }
-        return blank(alloc, machine, signature, &given.values, line);
+        return blank(alloc, state, signature, &given.values, line);
     }
-    on_clips(alloc, machine, filter, given, line)
+    on_clips(alloc, state, filter, given, line)
 }
 
 /// What `ApplyRange` makes of a clip and of what its function gave: that in a range of frames, and the clip elsewhere.
 pub fn ranged(
     alloc: Global,
-    machine: &mut Machine,
+    state: &mut RunState,
     clip: u32,
     first: i32,
     last: i32,
@@ -108,10 +108,10 @@ pub fn ranged(
     line: u32,
 ) -> Result<Value, Stop>
     ensures { RunsWithin (λ x. x) (λ here. f.ranged here clip first last line shown.now)
-        machine.old result machine.new }
+        state.old result state.new }
 {
     match shown {
-        Value::Clip(shown) => machine.make(
+        Value::Clip(shown) => state.make(
             alloc,
             Filter::ApplyRange,
             Op::Time(TimeOp::ApplyRange { first, last }),

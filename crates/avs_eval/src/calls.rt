@@ -18,7 +18,7 @@ use crate::walker::Walker;
 use avs_calls::{apply_filter, clip_property, plain, prefetch, ranged, set_mode, signatures};
 use avs_expressions::{Callee, called, fit_or_last, parameters, signature_of};
 use avs_meaning::{Builtin, EvalError, ScriptKind, Variable};
-use avs_state::{ByName, Definition, Host, Machine, Stop, stop_of};
+use avs_state::{ByName, Definition, Host, RunState, Stop, stop_of};
 use avs_tree::Statement;
 use avs_values::{Bound, Given, Value};
 use clip_term::Filter;
@@ -28,24 +28,24 @@ use std::alloc::{AllocError, Global};
 impl<
     't,
     H: Host,
-    F: Fn(Global, &mut Machine, &mut H, u32, &Text, &[Statement]) -> Result<Value, EvalError>,
+    F: Fn(Global, &mut RunState, &mut H, u32, &Text, &[Statement]) -> Result<Value, EvalError>,
 > Walker<'t, H, F> {
     // Opens the clip of a file.
     fn open(
         &self,
-        machine: &mut Machine,
+        state: &mut RunState,
         host: &mut H,
         name: &Text,
         line: u32,
     ) -> Result<Value, Stop>
         ensures told { Told H.told (λ v. v) (f.open_by self.now.script_name.now (H.clips name.now) name.now line)
-            machine.old (in_text self.now.script_name.now result) machine.new }
-        ensures kept { Keeps H.Host machine.old host.old (stop_in (in_text self.now.script_name.now result))
-            machine.new host.new }
+            state.old (in_text self.now.script_name.now result) state.new }
+        ensures kept { Keeps H.Host state.old host.old (stop_in (in_text self.now.script_name.now result))
+            state.new host.new }
     {
         let file = Text::from_str(self.alloc, name.as_str())?;
         match host.clip(name) {
-            Ok(info) => machine.add_source(self.alloc, file, info, line),
+            Ok(info) => state.add_source(self.alloc, file, info, line),
             Err(fault) => Err(stop_of(fault, file, line)),
         }
     }
@@ -53,19 +53,19 @@ impl<
     // `Y4MSource`.
     fn open_source(
         &self,
-        machine: &mut Machine,
+        state: &mut RunState,
         host: &mut H,
         values: &[Value],
         line: u32,
     ) -> Result<Value, Stop>
         ensures told { Told H.told (λ v. v)
             (f.open_source self.now.script_name.now (outside_by H.clips H.scripts) values.now line)
-            machine.old (in_text self.now.script_name.now result) machine.new }
-        ensures kept { Keeps H.Host machine.old host.old (stop_in (in_text self.now.script_name.now result))
-            machine.new host.new }
+            state.old (in_text self.now.script_name.now result) state.new }
+        ensures kept { Keeps H.Host state.old host.old (stop_in (in_text self.now.script_name.now result))
+            state.new host.new }
     {
         match values {
-            [Value::Text(name)] => self.open(machine, host, name, line),
+            [Value::Text(name)] => self.open(state, host, name, line),
             _ => Err(Stop::Fault(ScriptKind::NoMatch, line)),
         }
     }
@@ -73,7 +73,7 @@ impl<
     // Executes a function of the script with variables of its own.
     fn inside(
         &self,
-        machine: &mut Machine,
+        state: &mut RunState,
         host: &mut H,
         definition: &Definition,
         env: ByName<Variable>,
@@ -82,20 +82,20 @@ impl<
         requires room { 0 < self.now.depth }
         ensures told { Told H.told (λ v. v) (e.inside (context_in H.Host self.now.depth) (defined_view definition.now)
             env)
-            machine.old (in_text self.now.script_name.now result) machine.new }
-        ensures kept { Keeps H.Host machine.old host.old (stop_in (in_text self.now.script_name.now result))
-            machine.new host.new }
+            state.old (in_text self.now.script_name.now result) state.new }
+        ensures kept { Keeps H.Host state.old host.old (stop_in (in_text self.now.script_name.now result))
+            state.new host.new }
     {
-        let before = machine.enter(env);
-        let value = self.deeper(machine, host, &definition.text, &definition.function.body)?;
-        machine.enter(before);
+        let before = state.enter(env);
+        let value = self.deeper(state, host, &definition.text, &definition.function.body)?;
+        state.enter(before);
         Ok(value)
     }
 
     // A filter of bound arguments.
     fn apply_filter(
         &self,
-        machine: &mut Machine,
+        state: &mut RunState,
         host: &mut H,
         applied: Filter,
         signature: usize,
@@ -104,20 +104,20 @@ impl<
     ) -> Result<Value, Stop>
         ensures told { Told H.told (λ v. v) (f.filtered self.now.script_name.now (outside_by H.clips H.scripts) applied
             signature (bound_view given.now) line)
-            machine.old (in_text self.now.script_name.now result) machine.new }
-        ensures kept { Keeps H.Host machine.old host.old (stop_in (in_text self.now.script_name.now result))
-            machine.new host.new }
+            state.old (in_text self.now.script_name.now result) state.new }
+        ensures kept { Keeps H.Host state.old host.old (stop_in (in_text self.now.script_name.now result))
+            state.new host.new }
     {
         match applied {
-            Filter::Y4MSource => self.open_source(machine, host, &given.values, line),
-            _ => apply_filter(self.alloc, machine, applied, signature, given, line),
+            Filter::Y4MSource => self.open_source(state, host, &given.values, line),
+            _ => apply_filter(self.alloc, state, applied, signature, given, line),
         }
     }
 
     // A built-in function but `ApplyRange`, of bound arguments.
     fn builtin(
         &self,
-        machine: &mut Machine,
+        state: &mut RunState,
         host: &mut H,
         builtin: Builtin,
         signature: usize,
@@ -128,22 +128,22 @@ impl<
         requires other { builtin ≡ Builtin.ApplyRange → ⊥ }
         ensures told { Told H.told (λ v. v) (e.performed (context_in H.Host self.now.depth) (e.builtin builtin) signature
             (bound_view given.now) self.now.script_name.now line)
-            machine.old (in_text self.now.script_name.now result) machine.new }
-        ensures kept { Keeps H.Host machine.old host.old (stop_in (in_text self.now.script_name.now result))
-            machine.new host.new }
+            state.old (in_text self.now.script_name.now result) state.new }
+        ensures kept { Keeps H.Host state.old host.old (stop_in (in_text self.now.script_name.now result))
+            state.new host.new }
     {
         match builtin {
-            Builtin::Eval => self.eval(machine, host, &given.values, line),
-            Builtin::Import => self.import(machine, host, &given.values, line),
-            Builtin::SetFilterMTMode => { set_mode(machine, &given.values, line) }
-            Builtin::Prefetch => prefetch(machine, &given.values, line),
+            Builtin::Eval => self.eval(state, host, &given.values, line),
+            Builtin::Import => self.import(state, host, &given.values, line),
+            Builtin::SetFilterMTMode => { set_mode(state, &given.values, line) }
+            Builtin::Prefetch => prefetch(state, &given.values, line),
             Builtin::ApplyRange => Err(Stop::Fault(ScriptKind::NoMatch, line)),
             Builtin::Plain(function) => plain(self.alloc, function, given, line),
             Builtin::Clip(function) => {
-                clip_property(self.alloc, machine, function, &given.values, line)
+                clip_property(self.alloc, state, function, &given.values, line)
             }
             Builtin::Filter(filter) => {
-                self.apply_filter(machine, host, filter, signature, given, line)
+                self.apply_filter(state, host, filter, signature, given, line)
             }
         }
     }
@@ -151,7 +151,7 @@ impl<
     // A function of the script, whose arguments are bound.
     fn run_defined(
         &self,
-        machine: &mut Machine,
+        state: &mut RunState,
         host: &mut H,
         definition: &Definition,
         given: &Bound,
@@ -160,22 +160,22 @@ impl<
         requires deeper { Deeper H.Host self.now.depth F.Fn self.now.run }
         ensures told { Told H.told (λ v. v) (e.performed (context_in H.Host self.now.depth)
             (e.user (defined_view definition.now)) 0 (bound_view given.now) self.now.script_name.now line)
-            machine.old (in_text self.now.script_name.now result) machine.new }
-        ensures kept { Keeps H.Host machine.old host.old (stop_in (in_text self.now.script_name.now result))
-            machine.new host.new }
+            state.old (in_text self.now.script_name.now result) state.new }
+        ensures kept { Keeps H.Host state.old host.old (stop_in (in_text self.now.script_name.now result))
+            state.new host.new }
         ensures deep { self.now.depth ≡ 0 → result ≡ Err (s.Fault k.CallDepth line) }
     {
         if self.depth == 0 {
             return Err(Stop::Fault(ScriptKind::CallDepth, line));
         }
         let env = parameters(self.alloc, &definition.function.params, &given.values)?;
-        self.inside(machine, host, definition, env)
+        self.inside(state, host, definition, env)
     }
 
     // A call of a function of the script.
     fn call_defined(
         &self,
-        machine: &mut Machine,
+        state: &mut RunState,
         host: &mut H,
         definition: &Definition,
         args: Vec<Given>,
@@ -185,15 +185,15 @@ impl<
         requires deeper { Deeper H.Host self.now.depth F.Fn self.now.run }
         ensures told { Told H.told (λ v. v) (e.apply (context_in H.Host self.now.depth)
             (e.user (defined_view definition.now)) args.items last self.now.script_name.now line)
-            machine.old (in_text self.now.script_name.now result) machine.new }
-        ensures kept { Keeps H.Host machine.old host.old (stop_in (in_text self.now.script_name.now result))
-            machine.new host.new }
+            state.old (in_text self.now.script_name.now result) state.new }
+        ensures kept { Keeps H.Host state.old host.old (stop_in (in_text self.now.script_name.now result))
+            state.new host.new }
     {
         let taken = signature_of(self.alloc, &definition.function.params)?;
         let Some((_, given)) = fit_or_last(self.alloc, &[taken], args, last)? else {
             return Err(Stop::Fault(ScriptKind::NoMatch, line));
         };
-        self.run_defined(machine, host, definition, &given, line)
+        self.run_defined(state, host, definition, &given, line)
     }
 
     // `ApplyRange`: calls the function of a name with the clip and further values, and shows what that gives in a range of
@@ -201,7 +201,7 @@ impl<
     #[cycle(calls)]
     fn apply_range(
         &self,
-        machine: &mut Machine,
+        state: &mut RunState,
         host: &mut H,
         given: &Bound,
         line: u32,
@@ -209,23 +209,23 @@ impl<
         requires deeper { Deeper H.Host self.now.depth F.Fn self.now.run }
         ensures told { Told H.told (λ v. v) (e.ranged_by (e.direct (context_in H.Host self.now.depth)) given.now.values.items
             given.now.rest.items self.now.script_name.now line)
-            machine.old (in_text self.now.script_name.now result) machine.new }
-        ensures kept { Keeps H.Host machine.old host.old (stop_in (in_text self.now.script_name.now result))
-            machine.new host.new }
+            state.old (in_text self.now.script_name.now result) state.new }
+        ensures kept { Keeps H.Host state.old host.old (stop_in (in_text self.now.script_name.now result))
+            state.new host.new }
     {
         let range = match range_in(&given.values) {
             Ok(range) => range,
             Err(kind) => return Err(Stop::Fault(kind, line)),
         };
-        let callee = called(self.alloc, machine, range.name, line)?;
+        let callee = called(self.alloc, state, range.name, line)?;
         let args = positional_args(self.alloc, range.clip, &given.rest)?;
-        let shown = match self.call(machine, host, &callee, args, None, line) {
+        let shown = match self.call(state, host, &callee, args, None, line) {
             Ok(shown) => shown,
             Err(stop) => return Err(stop),
         };
         ranged(
             self.alloc,
-            machine,
+            state,
             range.clip,
             range.first,
             range.last,
@@ -238,7 +238,7 @@ impl<
     #[cycle(calls)]
     fn call_builtin(
         &self,
-        machine: &mut Machine,
+        state: &mut RunState,
         host: &mut H,
         builtin: Builtin,
         args: Vec<Given>,
@@ -248,17 +248,17 @@ impl<
         requires deeper { Deeper H.Host self.now.depth F.Fn self.now.run }
         ensures told { Told H.told (λ v. v) (e.apply (context_in H.Host self.now.depth) (e.builtin builtin)
             args.items last self.now.script_name.now line)
-            machine.old (in_text self.now.script_name.now result) machine.new }
-        ensures kept { Keeps H.Host machine.old host.old (stop_in (in_text self.now.script_name.now result))
-            machine.new host.new }
+            state.old (in_text self.now.script_name.now result) state.new }
+        ensures kept { Keeps H.Host state.old host.old (stop_in (in_text self.now.script_name.now result))
+            state.new host.new }
     {
         let taken = signatures(self.alloc, builtin)?;
         let Some((signature, given)) = fit_or_last(self.alloc, &taken, args, last)? else {
             return Err(Stop::Fault(ScriptKind::NoMatch, line));
         };
         match builtin {
-            Builtin::ApplyRange => self.apply_range(machine, host, &given, line),
-            _ => self.builtin(machine, host, builtin, signature, &given, line),
+            Builtin::ApplyRange => self.apply_range(state, host, &given, line),
+            _ => self.builtin(state, host, builtin, signature, &given, line),
         }
     }
 
@@ -266,7 +266,7 @@ impl<
     #[cycle(calls)]
     pub(crate) fn call(
         &self,
-        machine: &mut Machine,
+        state: &mut RunState,
         host: &mut H,
         callee: &Callee,
         args: Vec<Given>,
@@ -276,16 +276,16 @@ impl<
         requires deeper { Deeper H.Host self.now.depth F.Fn self.now.run }
         ensures told { Told H.told (λ v. v) (e.apply (context_in H.Host self.now.depth) (callee_view callee.now)
             args.items last self.now.script_name.now line)
-            machine.old (in_text self.now.script_name.now result) machine.new }
-        ensures kept { Keeps H.Host machine.old host.old (stop_in (in_text self.now.script_name.now result))
-            machine.new host.new }
+            state.old (in_text self.now.script_name.now result) state.new }
+        ensures kept { Keeps H.Host state.old host.old (stop_in (in_text self.now.script_name.now result))
+            state.new host.new }
     {
         match callee {
             Callee::User(definition) => {
-                self.call_defined(machine, host, definition, args, last, line)
+                self.call_defined(state, host, definition, args, last, line)
             }
             Callee::Builtin(builtin) => {
-                self.call_builtin(machine, host, *builtin, args, last, line)
+                self.call_builtin(state, host, *builtin, args, last, line)
             }
         }
     }

@@ -7,7 +7,7 @@ ghost use Rattle.avs_state.specs.Walks.{Keeps, stop_in};
 
 use crate::walker::Walker;
 use avs_meaning::EvalError;
-use avs_state::{Host, Machine};
+use avs_state::{Host, RunState};
 use avs_statements::body_of;
 use avs_tree::Statement;
 use avs_values::Value;
@@ -19,7 +19,7 @@ use std::marker::PhantomData;
 /// that no fault takes memory.
 pub(crate) fn run<H: Host>(
     alloc: Global,
-    machine: &mut Machine,
+    state: &mut RunState,
     host: &mut H,
     depth: u32,
     script_name: &Text,
@@ -27,8 +27,8 @@ pub(crate) fn run<H: Host>(
 ) -> Result<Value, EvalError>
     ensures told { Told H.told (λ x. x) (m.run (outside_by H.clips H.scripts) depth script_name.now (block_view
         body.now))
-        machine.old result machine.new }
-    ensures kept { Keeps H.Host machine.old host.old (stop_in result) machine.new host.new }
+        state.old result state.new }
+    ensures kept { Keeps H.Host state.old host.old (stop_in result) state.new host.new }
 {
     let name = Text::from_str(alloc, script_name.as_str())?;
     let walker = Walker {
@@ -38,7 +38,7 @@ pub(crate) fn run<H: Host>(
         run: run::<H>,
         of: PhantomData,
     };
-    match body_of(alloc, &walker, machine, host, body) {
+    match body_of(alloc, &walker, state, host, body) {
         Ok(value) => Ok(value),
         Err(stop) => Err(stop.named(name)),
     }

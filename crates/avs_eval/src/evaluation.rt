@@ -14,7 +14,7 @@ ghost use Rattle.avs_state.specs.Walks.{Keeps, stop_in};
 use crate::depth::run;
 use crate::texts::load_body;
 use avs_meaning::{Crew, EvalError, ScriptKind};
-use avs_state::{Host, Machine, Stop};
+use avs_state::{Host, RunState, Stop};
 use avs_tree::Statement;
 use avs_values::Value;
 use clip_graph::Graph;
@@ -33,16 +33,16 @@ pub struct Opened {
 }
 
 // The place of the clip that the value of a script is.
-fn clip_of(machine: &Machine, value: Value, line: u32) -> Result<u32, Stop>
-    ensures gives { (here : Name) → Gives (λ i. i) (clip_or_not here line value (state_of machine.now))
-        (in_text here result) (state_of machine.now) }
+fn clip_of(state: &RunState, value: Value, line: u32) -> Result<u32, Stop>
+    ensures gives { (here : Name) → Gives (λ i. i) (clip_or_not here line value (state_of state.now))
+        (in_text here result) (state_of state.now) }
     ensures memory { TakesNone result }
-    ensures inside { IfOk result (λ i. i < length (state_of machine.now).plan) }
+    ensures inside { IfOk result (λ i. i < length (state_of state.now).plan) }
 {
     let Value::Clip(i) = value else {
         return Err(Stop::Fault(ScriptKind::NotClip, line));
     };
-    machine.info_of(i, line)?;
+    state.info_of(i, line)?;
     Ok(i)
 }
 
@@ -50,55 +50,55 @@ fn clip_of(machine: &Machine, value: Value, line: u32) -> Result<u32, Stop>
 #[tactic(auto, using(crate::proofs::RunLemmas::run_fails, crate::proofs::RunLemmas::run_ends))]
 fn clip_of_run<H: Host>(
     alloc: Global,
-    machine: &mut Machine,
+    state: &mut RunState,
     host: &mut H,
     name: &Text,
     statements: &[Statement],
     last_line: u32,
 ) -> Result<u32, Stop>
     ensures told { Told H.told (λ i. i) (to_clip (outside_by H.clips H.scripts) name.now (block_view statements.now)
-        last_line) machine.old (in_text name.now result) machine.new }
-    ensures kept { Keeps H.Host machine.old host.old (stop_in (in_text name.now result)) machine.new host.new }
-    ensures inside { IfOk result (λ i. i < length (state_of machine.new).plan) }
+        last_line) state.old (in_text name.now result) state.new }
+    ensures kept { Keeps H.Host state.old host.old (stop_in (in_text name.now result)) state.new host.new }
+    ensures inside { IfOk result (λ i. i < length (state_of state.new).plan) }
 {
-    let value = run(alloc, machine, host, CALL_LIMIT, name, statements)?;
-    clip_of(machine, value, last_line)
+    let value = run(alloc, state, host, CALL_LIMIT, name, statements)?;
+    clip_of(state, value, last_line)
 }
 
 // Executes a text as the script of this name.
 fn execute<H: Host>(
     alloc: Global,
-    machine: &mut Machine,
+    state: &mut RunState,
     host: &mut H,
     name: &Text,
     text: &Text,
 ) -> Result<u32, Stop>
     requires { length text.now ≤ text_limit }
     ensures told { Told H.told (λ i. i) (executed (outside_by H.clips H.scripts) name.now text.now)
-        machine.old (in_text name.now result) machine.new }
-    ensures kept { Keeps H.Host machine.old host.old (stop_in (in_text name.now result)) machine.new host.new }
-    ensures inside { IfOk result (λ i. i < length (state_of machine.new).plan) }
+        state.old (in_text name.now result) state.new }
+    ensures kept { Keeps H.Host state.old host.old (stop_in (in_text name.now result)) state.new host.new }
+    ensures inside { IfOk result (λ i. i < length (state_of state.new).plan) }
 {
-    let body = load_body(alloc, machine, name, text)?;
-    clip_of_run(alloc, machine, host, name, &body.statements, body.last_line)
+    let body = load_body(alloc, state, name, text)?;
+    clip_of_run(alloc, state, host, name, &body.statements, body.last_line)
 }
 
 // The place of the clip of a text, as the script of this name, which is copied first, so that no fault takes memory.
 fn root_of<H: Host>(
     alloc: Global,
-    machine: &mut Machine,
+    state: &mut RunState,
     host: &mut H,
     name: &Text,
     text: &Text,
 ) -> Result<u32, EvalError>
     requires { length text.now ≤ text_limit }
     ensures told { Told H.told (λ i. i) (executed (outside_by H.clips H.scripts) name.now text.now)
-        machine.old result machine.new }
-    ensures kept { Keeps H.Host machine.old host.old (stop_in result) machine.new host.new }
-    ensures inside { IfOk result (λ i. i < length (state_of machine.new).plan) }
+        state.old result state.new }
+    ensures kept { Keeps H.Host state.old host.old (stop_in result) state.new host.new }
+    ensures inside { IfOk result (λ i. i < length (state_of state.new).plan) }
 {
     let script_name = Text::from_str(alloc, name.as_str())?;
-    match execute(alloc, machine, host, name, text) {
+    match execute(alloc, state, host, name, text) {
         Ok(root) => Ok(root),
         Err(stop) => Err(stop.named(script_name)),
     }
@@ -126,11 +126,11 @@ pub fn eval<H: Host>(
     // Only a failed read counts a fault, so none is tried again.
     ensures faults { CountsFaults result (H.faults host.old) (H.faults host.new) }
 {
-    let mut machine = Machine::new(alloc);
-    let root = root_of(alloc, &mut machine, host, name, text)?;
-    let prefetch = machine.crew();
+    let mut state = RunState::new(alloc);
+    let root = root_of(alloc, &mut state, host, name, text)?;
+    let prefetch = state.crew();
     Ok(Opened {
-        graph: machine.into_graph(),
+        graph: state.into_graph(),
         root,
         prefetch,
     })

@@ -18,7 +18,7 @@ ghost use Rattle.avs_eval.specs.Deeper.{Deeper};
 use crate::walker::Walker;
 use avs_meaning::{EvalError, ScriptKind};
 use avs_parse::{LoadFault, Loaded, load};
-use avs_state::{Host, Machine, Stop, stop_of};
+use avs_state::{Host, RunState, Stop, stop_of};
 use avs_tree::{Script, Statement};
 use avs_values::Value;
 use fv_io::Text;
@@ -50,13 +50,13 @@ fn load_stop(fault: LoadFault) -> Stop
 #[tactic(auto, unfolding(crate::specs::Bodies::body_by))]
 fn read_body(
     alloc: Global,
-    machine: &mut Machine,
+    state: &mut RunState,
     script_name: &Text,
     text: &Text,
 ) -> Result<Body, Stop>
     requires { length text.now ≤ text_limit }
-    ensures { Runs body_view (body_by (script_of text.now) script_name.now) machine.old
-        (in_text script_name.now result) machine.new }
+    ensures { Runs body_view (body_by (script_of text.now) script_name.now) state.old
+        (in_text script_name.now result) state.new }
 {
     match load(alloc, text.as_str()) {
         Ok(Loaded { script, last_line }) => {
@@ -64,7 +64,7 @@ fn read_body(
                 functions,
                 statements,
             } = script;
-            machine.define_all(alloc, functions, script_name)?;
+            state.define_all(alloc, functions, script_name)?;
             Ok(Body {
                 statements,
                 last_line,
@@ -77,15 +77,15 @@ fn read_body(
 /// Reads the text of this name and adds its functions. The name is copied first, so that no fault takes memory for it.
 pub(crate) fn load_body(
     alloc: Global,
-    machine: &mut Machine,
+    state: &mut RunState,
     script_name: &Text,
     text: &Text,
 ) -> Result<Body, EvalError>
     requires { length text.now ≤ text_limit }
-    ensures { Runs body_view (body_by (script_of text.now) script_name.now) machine.old result machine.new }
+    ensures { Runs body_view (body_by (script_of text.now) script_name.now) state.old result state.new }
 {
     let name = Text::from_str(alloc, script_name.as_str())?;
-    match read_body(alloc, machine, script_name, text) {
+    match read_body(alloc, state, script_name, text) {
         Ok(body) => Ok(body),
         Err(stop) => Err(stop.named(name)),
     }
@@ -94,12 +94,12 @@ pub(crate) fn load_body(
 impl<
     't,
     H: Host,
-    F: Fn(Global, &mut Machine, &mut H, u32, &Text, &[Statement]) -> Result<Value, EvalError>,
+    F: Fn(Global, &mut RunState, &mut H, u32, &Text, &[Statement]) -> Result<Value, EvalError>,
 > Walker<'t, H, F> {
     /// Executes statements of the text of this name one call deeper.
     pub(crate) fn deeper(
         &self,
-        machine: &mut Machine,
+        state: &mut RunState,
         host: &mut H,
         script_name: &Text,
         body: &[Statement],
@@ -107,17 +107,17 @@ impl<
         requires deeper { Deeper H.Host self.now.depth F.Fn self.now.run }
         requires room { 0 < self.now.depth }
         ensures told { Told H.told (λ v. v) (m.below (outside_by H.clips H.scripts) self.now.depth script_name.now (block_view
-            body.now)) machine.old result machine.new }
-        ensures kept { Keeps H.Host machine.old host.old (stop_in result) machine.new host.new }
+            body.now)) state.old result state.new }
+        ensures kept { Keeps H.Host state.old host.old (stop_in result) state.new host.new }
     {
-        (self.run)(self.alloc, machine, host, self.depth - 1, script_name, body)
+        (self.run)(self.alloc, state, host, self.depth - 1, script_name, body)
     }
 
     // Executes a text that a call at a line has.
     #[tactic(auto, using(crate::proofs::BodyLemmas::executed, crate::proofs::BodyLemmas::execute_fails))]
     fn execute(
         &self,
-        machine: &mut Machine,
+        state: &mut RunState,
         host: &mut H,
         from: &Text,
         text: &Text,
@@ -127,22 +127,22 @@ impl<
         requires room { 0 < self.now.depth }
         ensures told { Told H.told (λ v. v)
             (e.execute (context_in H.Host self.now.depth) from.now text.now self.now.script_name.now line)
-            machine.old (in_text self.now.script_name.now result) machine.new }
-        ensures kept { Keeps H.Host machine.old host.old (stop_in (in_text self.now.script_name.now result))
-            machine.new host.new }
+            state.old (in_text self.now.script_name.now result) state.new }
+        ensures kept { Keeps H.Host state.old host.old (stop_in (in_text self.now.script_name.now result))
+            state.new host.new }
         ensures limit { text_limit < length text.now → result ≡ Err (s.Fault k.TextLimit line) }
     {
         if text.as_str().len() > TEXT_LIMIT {
             return Err(Stop::Fault(ScriptKind::TextLimit, line));
         }
-        let body = load_body(self.alloc, machine, from, text)?;
-        Ok(self.deeper(machine, host, from, &body.statements)?)
+        let body = load_body(self.alloc, state, from, text)?;
+        Ok(self.deeper(state, host, from, &body.statements)?)
     }
 
     // Executes a text that the script made.
     fn execute_made(
         &self,
-        machine: &mut Machine,
+        state: &mut RunState,
         host: &mut H,
         text: &Text,
         line: u32,
@@ -151,19 +151,19 @@ impl<
         requires room { 0 < self.now.depth }
         ensures told { Told H.told (λ v. v)
             (e.execute (context_in H.Host self.now.depth) e.eval_name text.now self.now.script_name.now line)
-            machine.old (in_text self.now.script_name.now result) machine.new }
-        ensures kept { Keeps H.Host machine.old host.old (stop_in (in_text self.now.script_name.now result))
-            machine.new host.new }
+            state.old (in_text self.now.script_name.now result) state.new }
+        ensures kept { Keeps H.Host state.old host.old (stop_in (in_text self.now.script_name.now result))
+            state.new host.new }
     {
         let from = Text::from_str(self.alloc, "Eval")?;
-        self.execute(machine, host, &from, text, line)
+        self.execute(state, host, &from, text, line)
     }
 
     // `Eval` of a text.
     #[tactic(auto, unfolding(crate::specs::Bodies::eval_text))]
     fn eval_text(
         &self,
-        machine: &mut Machine,
+        state: &mut RunState,
         host: &mut H,
         text: &Text,
         line: u32,
@@ -171,21 +171,21 @@ impl<
         requires deeper { Deeper H.Host self.now.depth F.Fn self.now.run }
         ensures told { Told H.told (λ v. v)
             (b.eval_text (context_in H.Host self.now.depth) self.now.script_name.now text.now line)
-            machine.old (in_text self.now.script_name.now result) machine.new }
-        ensures kept { Keeps H.Host machine.old host.old (stop_in (in_text self.now.script_name.now result))
-            machine.new host.new }
+            state.old (in_text self.now.script_name.now result) state.new }
+        ensures kept { Keeps H.Host state.old host.old (stop_in (in_text self.now.script_name.now result))
+            state.new host.new }
         ensures deep { self.now.depth ≡ 0 → result ≡ Err (s.Fault k.CallDepth line) }
     {
         if self.depth == 0 {
             return Err(Stop::Fault(ScriptKind::CallDepth, line));
         }
-        self.execute_made(machine, host, text, line)
+        self.execute_made(state, host, text, line)
     }
 
     /// `Eval`.
     pub(crate) fn eval(
         &self,
-        machine: &mut Machine,
+        state: &mut RunState,
         host: &mut H,
         values: &[Value],
         line: u32,
@@ -193,12 +193,12 @@ impl<
         requires deeper { Deeper H.Host self.now.depth F.Fn self.now.run }
         ensures told { Told H.told (λ v. v)
             (e.eval (context_in H.Host self.now.depth) self.now.script_name.now values.now line)
-            machine.old (in_text self.now.script_name.now result) machine.new }
-        ensures kept { Keeps H.Host machine.old host.old (stop_in (in_text self.now.script_name.now result))
-            machine.new host.new }
+            state.old (in_text self.now.script_name.now result) state.new }
+        ensures kept { Keeps H.Host state.old host.old (stop_in (in_text self.now.script_name.now result))
+            state.new host.new }
     {
         match values {
-            [Value::Text(text)] => self.eval_text(machine, host, text, line),
+            [Value::Text(text)] => self.eval_text(state, host, text, line),
             _ => Err(Stop::Fault(ScriptKind::NoMatch, line)),
         }
     }
@@ -206,23 +206,23 @@ impl<
     // The text of a script's file, which is read once, and counts as an import.
     fn script(
         &self,
-        machine: &mut Machine,
+        state: &mut RunState,
         host: &mut H,
         name: &Text,
         line: u32,
     ) -> Result<Text, Stop>
         ensures told { Told H.told (λ text. text) (e.script_by self.now.script_name.now (H.scripts name.now) line)
-            machine.old (in_text self.now.script_name.now result) machine.new }
-        ensures kept { Keeps H.Host machine.old host.old (stop_in (in_text self.now.script_name.now result))
-            machine.new host.new }
+            state.old (in_text self.now.script_name.now result) state.new }
+        ensures kept { Keeps H.Host state.old host.old (stop_in (in_text self.now.script_name.now result))
+            state.new host.new }
     {
-        if !machine.can_import() {
+        if !state.can_import() {
             return Err(Stop::Whole(EvalError::Memory));
         }
         let file = Text::from_str(self.alloc, name.as_str())?;
         match host.script(name) {
             Ok(text) => {
-                machine.count_import();
+                state.count_import();
                 Ok(text)
             }
             Err(fault) => Err(stop_of(fault, file, line)),
@@ -232,7 +232,7 @@ impl<
     /// `Import`: executes the script of a file.
     pub(crate) fn import(
         &self,
-        machine: &mut Machine,
+        state: &mut RunState,
         host: &mut H,
         values: &[Value],
         line: u32,
@@ -240,9 +240,9 @@ impl<
         requires deeper { Deeper H.Host self.now.depth F.Fn self.now.run }
         ensures told { Told H.told (λ v. v)
             (e.import_ (context_in H.Host self.now.depth) self.now.script_name.now values.now line)
-            machine.old (in_text self.now.script_name.now result) machine.new }
-        ensures kept { Keeps H.Host machine.old host.old (stop_in (in_text self.now.script_name.now result))
-            machine.new host.new }
+            state.old (in_text self.now.script_name.now result) state.new }
+        ensures kept { Keeps H.Host state.old host.old (stop_in (in_text self.now.script_name.now result))
+            state.new host.new }
     {
         let [Value::Text(file)] = values else {
             return Err(Stop::Fault(ScriptKind::NoMatch, line));
@@ -250,7 +250,7 @@ impl<
         if self.depth == 0 {
             return Err(Stop::Fault(ScriptKind::CallDepth, line));
         }
-        let text = self.script(machine, host, file, line)?;
-        self.execute(machine, host, file, &text, line)
+        let text = self.script(state, host, file, line)?;
+        self.execute(state, host, file, &text, line)
     }
 }

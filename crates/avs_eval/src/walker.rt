@@ -4,7 +4,7 @@ ghost use Rattle.avs_eval.specs.OutsideBy.{context_in};
 
 use avs_expressions::{Callee, Calls, value_of};
 use avs_meaning::EvalError;
-use avs_state::{Host, Machine, Stop};
+use avs_state::{Host, RunState, Stop};
 use avs_statements::Evaluator;
 use avs_tree::{Expr, Statement};
 use avs_values::{Given, Value};
@@ -28,7 +28,7 @@ pub(crate) struct Walker<'t, H, F> {
 impl<
     't,
     H: Host,
-    F: Fn(Global, &mut Machine, &mut H, u32, &Text, &[Statement]) -> Result<Value, EvalError>,
+    F: Fn(Global, &mut RunState, &mut H, u32, &Text, &[Statement]) -> Result<Value, EvalError>,
 > Calls<H> for Walker<'t, H, F> {
     ghost may = { λ walker. Deeper H.Host walker.depth F.Fn walker.run };
 
@@ -38,21 +38,21 @@ impl<
 
     fn apply(
         &self,
-        machine: &mut Machine,
+        state: &mut RunState,
         host: &mut H,
         callee: &Callee,
         args: Vec<Given>,
         last: Option<Value>,
         line: u32,
     ) -> Result<Value, Stop> {
-        self.call(machine, host, callee, args, last, line)
+        self.call(state, host, callee, args, last, line)
     }
 }
 
 impl<
     't,
     H: Host,
-    F: Fn(Global, &mut Machine, &mut H, u32, &Text, &[Statement]) -> Result<Value, EvalError>,
+    F: Fn(Global, &mut RunState, &mut H, u32, &Text, &[Statement]) -> Result<Value, EvalError>,
 > Evaluator<H> for Walker<'t, H, F> {
     ghost may = { λ walker. Deeper H.Host walker.depth F.Fn walker.run };
 
@@ -60,7 +60,7 @@ impl<
 
     ghost context = { λ walker. context_in H.Host walker.depth };
 
-    fn value_of(&self, machine: &mut Machine, host: &mut H, expr: &Expr) -> Result<Value, Stop> {
-        value_of(self.alloc, self, machine, host, expr)
+    fn value_of(&self, state: &mut RunState, host: &mut H, expr: &Expr) -> Result<Value, Stop> {
+        value_of(self.alloc, self, state, host, expr)
     }
 }

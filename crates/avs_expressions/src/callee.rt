@@ -6,7 +6,7 @@ ghost use Rattle.avs_state.specs.States.{state_of};
 ghost use Rattle.avs_expressions.specs.Views.{callee_view};
 
 use avs_meaning::{Builtin, Variable};
-use avs_state::{ByName, Definition, Machine, set_in};
+use avs_state::{ByName, Definition, RunState, set_in};
 use avs_tree::{Parameter, TypeWord};
 use avs_values::{Kind, Param, Signature, Value};
 use fv_io::Text;
@@ -21,14 +21,10 @@ pub enum Callee {
 }
 
 /// What a name calls. A function of the script hides a built-in one. An `Err` is out of memory.
-pub fn callee_of(
-    alloc: Global,
-    machine: &Machine,
-    name: &Text,
-) -> Result<Option<Callee>, AllocError>
-    ensures { IfOk result (λ found. option_map callee_view found ≡ m.callee name.now (state_of machine.now).functions) }
+pub fn callee_of(alloc: Global, state: &RunState, name: &Text) -> Result<Option<Callee>, AllocError>
+    ensures { IfOk result (λ found. option_map callee_view found ≡ m.callee name.now (state_of state.now).functions) }
 {
-    if let Some(definition) = machine.find(alloc, name)? {
+    if let Some(definition) = state.find(alloc, name)? {
         return Ok(Some(Callee::User(definition)));
     }
     match Builtin::named(name.as_str()) {

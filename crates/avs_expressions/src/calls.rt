@@ -1,6 +1,6 @@
 // `Calls`: what makes the calls of a text.
 use crate::callee::Callee;
-use avs_state::{Host, Machine, Stop};
+use avs_state::{Host, RunState, Stop};
 use avs_values::{Given, Value};
 
 /// What makes the calls of a text, over a host.
@@ -26,7 +26,7 @@ pub trait Calls<H: Host> {
     /// A call with these arguments, tried again with `last` first, if it is given.
     fn apply(
         &self,
-        machine: &mut Machine,
+        state: &mut RunState,
         host: &mut H,
         callee: &Callee,
         args: Vec<Given>,
@@ -36,7 +36,7 @@ pub trait Calls<H: Host> {
         requires may { may self.now }
         ensures told { Told H.told (λ v. v)
             (e.apply (context self.now) (callee_view callee.now) args.items last (here self.now) line)
-            machine.old (in_text (here self.now) result) machine.new }
-        ensures kept { Keeps H.Host machine.old host.old (stop_in (in_text (here self.now) result))
-            machine.new host.new };
+            state.old (in_text (here self.now) result) state.new }
+        ensures kept { Keeps H.Host state.old host.old (stop_in (in_text (here self.now) result))
+            state.new host.new };
 }

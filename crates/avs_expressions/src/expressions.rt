@@ -12,7 +12,7 @@ use crate::calls::Calls;
 use crate::evaluation::Evaluation;
 use crate::names::called;
 use crate::operate::{combined, compared, prefixed};
-use avs_state::{Host, Machine, Stop, truth};
+use avs_state::{Host, RunState, Stop, truth};
 use avs_tree::{Arg, DotCall, Expr, Operator, Step};
 use avs_values::{Given, UnaryOp, Value};
 use fv_io::Text;
@@ -22,35 +22,35 @@ use std::marker::PhantomData;
 impl<'c, H: Host, C: Calls<H>> Evaluation<'c, H, C> {
     // The value of an expression.
     #[cycle(expressions)]
-    fn value_of(&self, machine: &mut Machine, host: &mut H, e: &Expr) -> Result<Value, Stop>
+    fn value_of(&self, state: &mut RunState, host: &mut H, e: &Expr) -> Result<Value, Stop>
         requires may { C.may self.now.calls.now }
         ensures told { Told H.told (λ v. v)
             (m.value_of (C.context self.now.calls.now) (C.here self.now.calls.now) (expr_view e.now))
-            machine.old (in_text (C.here self.now.calls.now) result) machine.new }
-        ensures kept { Keeps H.Host machine.old host.old (stop_in (in_text (C.here self.now.calls.now) result))
-            machine.new host.new }
+            state.old (in_text (C.here self.now.calls.now) result) state.new }
+        ensures kept { Keeps H.Host state.old host.old (stop_in (in_text (C.here self.now.calls.now) result))
+            state.new host.new }
     {
         match e {
             Expr::Int(n) => Ok(Value::Int(*n)),
             Expr::Bool(holds) => Ok(Value::Bool(*holds)),
             Expr::Str(text) => Ok(Value::Text(Text::from_str(self.alloc, text.as_str())?)),
-            Expr::Name { name, line } => self.named(machine, host, name, *line),
-            Expr::Call { name, args, line } => self.call(machine, host, name, args, *line),
+            Expr::Name { name, line } => self.named(state, host, name, *line),
+            Expr::Call { name, args, line } => self.call(state, host, name, args, *line),
             Expr::Dots { first, calls } => {
-                let value = self.value_of(machine, host, first)?;
-                self.calls_from(machine, host, calls, value)
+                let value = self.value_of(state, host, first)?;
+                self.calls_from(state, host, calls, value)
             }
             Expr::Minus { operand, line } => {
-                let value = self.value_of(machine, host, operand)?;
+                let value = self.value_of(state, host, operand)?;
                 prefixed(UnaryOp::Negative, &value, *line)
             }
             Expr::Not { operand, line } => {
-                let value = self.value_of(machine, host, operand)?;
+                let value = self.value_of(state, host, operand)?;
                 prefixed(UnaryOp::Not, &value, *line)
             }
             Expr::Chain { first, rest } => {
-                let value = self.value_of(machine, host, first)?;
-                self.steps_from(machine, host, rest, value)
+                let value = self.value_of(state, host, first)?;
+                self.steps_from(state, host, rest, value)
             }
             Expr::Compare {
                 op,
@@ -58,8 +58,8 @@ impl<'c, H: Host, C: Calls<H>> Evaluation<'c, H, C> {
                 right,
                 line,
             } => {
-                let a = self.value_of(machine, host, left)?;
-                let b = self.value_of(machine, host, right)?;
+                let a = self.value_of(state, host, left)?;
+                let b = self.value_of(state, host, right)?;
                 compared(self.alloc, *op, &a, &b, *line)
             }
             Expr::Pick {
@@ -68,14 +68,14 @@ impl<'c, H: Host, C: Calls<H>> Evaluation<'c, H, C> {
                 no,
                 line,
             } => {
-                let value = self.value_of(machine, host, condition)?;
+                let value = self.value_of(state, host, condition)?;
                 if truth(&value, *line)? {
-                    self.value_of(machine, host, yes)
+                    self.value_of(state, host, yes)
                 } else {
-                    self.value_of(machine, host, no)
+                    self.value_of(state, host, no)
                 }
             }
-            Expr::Group(inner) => self.value_of(machine, host, inner),
+            Expr::Group(inner) => self.value_of(state, host, inner),
         }
     }
 
@@ -83,7 +83,7 @@ impl<'c, H: Host, C: Calls<H>> Evaluation<'c, H, C> {
     #[cycle(expressions)]
     fn call(
         &self,
-        machine: &mut Machine,
+        state: &mut RunState,
         host: &mut H,
         name: &Text,
         args: &[Arg],
@@ -92,13 +92,13 @@ impl<'c, H: Host, C: Calls<H>> Evaluation<'c, H, C> {
         requires may { C.may self.now.calls.now }
         ensures told { Told H.told (λ v. v) (m.value_of (C.context self.now.calls.now) (C.here self.now.calls.now)
             (t.call name.now (args_of (map arg_view args.now)) line))
-            machine.old (in_text (C.here self.now.calls.now) result) machine.new }
-        ensures kept { Keeps H.Host machine.old host.old (stop_in (in_text (C.here self.now.calls.now) result))
-            machine.new host.new }
+            state.old (in_text (C.here self.now.calls.now) result) state.new }
+        ensures kept { Keeps H.Host state.old host.old (stop_in (in_text (C.here self.now.calls.now) result))
+            state.new host.new }
     {
-        let callee = called(self.alloc, machine, name, line)?;
-        let given = self.givens_of(machine, host, args, Vec::new(self.alloc))?;
-        self.apply_last(machine, host, &callee, given, line)
+        let callee = called(self.alloc, state, name, line)?;
+        let given = self.givens_of(state, host, args, Vec::new(self.alloc))?;
+        self.apply_last(state, host, &callee, given, line)
     }
 
     // Arguments, after those that are there.
@@ -106,7 +106,7 @@ impl<'c, H: Host, C: Calls<H>> Evaluation<'c, H, C> {
     #[tactic(auto, using(crate::proofs::Rows::args_more))]
     fn givens_of(
         &self,
-        machine: &mut Machine,
+        state: &mut RunState,
         host: &mut H,
         args: &[Arg],
         mut given: Vec<Given>,
@@ -114,12 +114,12 @@ impl<'c, H: Host, C: Calls<H>> Evaluation<'c, H, C> {
         requires may { C.may self.now.calls.now }
         ensures told { Told H.told (λ v. v.items) (m.givens_of (C.context self.now.calls.now) (C.here self.now.calls.now)
             (args_of (map arg_view args.now)) given.items)
-            machine.old (in_text (C.here self.now.calls.now) result) machine.new }
-        ensures kept { Keeps H.Host machine.old host.old (stop_in (in_text (C.here self.now.calls.now) result))
-            machine.new host.new }
+            state.old (in_text (C.here self.now.calls.now) result) state.new }
+        ensures kept { Keeps H.Host state.old host.old (stop_in (in_text (C.here self.now.calls.now) result))
+            state.new host.new }
     {
         for arg in args {
-            let value = self.value_of(machine, host, &arg.value)?;
+            let value = self.value_of(state, host, &arg.value)?;
             let name = match &arg.name {
                 Some(name) => Some(Text::from_str(self.alloc, name.as_str())?),
                 None => None,
@@ -134,7 +134,7 @@ impl<'c, H: Host, C: Calls<H>> Evaluation<'c, H, C> {
     #[tactic(auto, using(crate::proofs::Rows::calls_more, crate::proofs::Rows::calls_fail))]
     fn calls_from(
         &self,
-        machine: &mut Machine,
+        state: &mut RunState,
         host: &mut H,
         calls: &[DotCall],
         first: Value,
@@ -142,13 +142,13 @@ impl<'c, H: Host, C: Calls<H>> Evaluation<'c, H, C> {
         requires may { C.may self.now.calls.now }
         ensures told { Told H.told (λ v. v) (m.calls_from (C.context self.now.calls.now) (C.here self.now.calls.now)
             (method_calls_of (map method_call_view calls.now)) first)
-            machine.old (in_text (C.here self.now.calls.now) result) machine.new }
-        ensures kept { Keeps H.Host machine.old host.old (stop_in (in_text (C.here self.now.calls.now) result))
-            machine.new host.new }
+            state.old (in_text (C.here self.now.calls.now) result) state.new }
+        ensures kept { Keeps H.Host state.old host.old (stop_in (in_text (C.here self.now.calls.now) result))
+            state.new host.new }
     {
         let mut value = first;
         for call in calls {
-            value = self.method_call(machine, host, call, value)?;
+            value = self.method_call(state, host, call, value)?;
         }
         Ok(value)
     }
@@ -156,7 +156,7 @@ impl<'c, H: Host, C: Calls<H>> Evaluation<'c, H, C> {
     #[cycle(expressions)]
     fn method_call(
         &self,
-        machine: &mut Machine,
+        state: &mut RunState,
         host: &mut H,
         call: &DotCall,
         first: Value,
@@ -164,11 +164,11 @@ impl<'c, H: Host, C: Calls<H>> Evaluation<'c, H, C> {
         requires may { C.may self.now.calls.now }
         ensures told { Told H.told (λ v. v) (m.calls_from (C.context self.now.calls.now) (C.here self.now.calls.now)
             (method_calls_of (method_call_view call.now ∷ [])) first)
-            machine.old (in_text (C.here self.now.calls.now) result) machine.new }
-        ensures kept { Keeps H.Host machine.old host.old (stop_in (in_text (C.here self.now.calls.now) result))
-            machine.new host.new }
+            state.old (in_text (C.here self.now.calls.now) result) state.new }
+        ensures kept { Keeps H.Host state.old host.old (stop_in (in_text (C.here self.now.calls.now) result))
+            state.new host.new }
     {
-        let callee = called(self.alloc, machine, &call.name, call.line)?;
+        let callee = called(self.alloc, state, &call.name, call.line)?;
         let mut given = Vec::new(self.alloc);
         given.push(Given {
             name: None,
@@ -176,13 +176,13 @@ impl<'c, H: Host, C: Calls<H>> Evaluation<'c, H, C> {
         })?;
         match &call.args {
             Some(args) => {
-                let given = self.givens_of(machine, host, args, given)?;
+                let given = self.givens_of(state, host, args, given)?;
                 self.calls
-                    .apply(machine, host, &callee, given, None, call.line)
+                    .apply(state, host, &callee, given, None, call.line)
             }
             None => self
                 .calls
-                .apply(machine, host, &callee, given, None, call.line),
+                .apply(state, host, &callee, given, None, call.line),
         }
     }
 
@@ -191,7 +191,7 @@ impl<'c, H: Host, C: Calls<H>> Evaluation<'c, H, C> {
     #[tactic(auto, using(crate::proofs::Rows::steps_more))]
     fn steps_from(
         &self,
-        machine: &mut Machine,
+        state: &mut RunState,
         host: &mut H,
         steps: &[Step],
         first: Value,
@@ -199,13 +199,13 @@ impl<'c, H: Host, C: Calls<H>> Evaluation<'c, H, C> {
         requires may { C.may self.now.calls.now }
         ensures told { Told H.told (λ v. v) (m.steps_from (C.context self.now.calls.now) (C.here self.now.calls.now)
             (steps_of (map step_view steps.now)) first)
-            machine.old (in_text (C.here self.now.calls.now) result) machine.new }
-        ensures kept { Keeps H.Host machine.old host.old (stop_in (in_text (C.here self.now.calls.now) result))
-            machine.new host.new }
+            state.old (in_text (C.here self.now.calls.now) result) state.new }
+        ensures kept { Keeps H.Host state.old host.old (stop_in (in_text (C.here self.now.calls.now) result))
+            state.new host.new }
     {
         let mut value = first;
         for step in steps {
-            value = self.joined(machine, host, &step.operand, step.op, step.line, value)?;
+            value = self.joined(state, host, &step.operand, step.op, step.line, value)?;
         }
         Ok(value)
     }
@@ -214,7 +214,7 @@ impl<'c, H: Host, C: Calls<H>> Evaluation<'c, H, C> {
     #[cycle(expressions)]
     fn joined(
         &self,
-        machine: &mut Machine,
+        state: &mut RunState,
         host: &mut H,
         operand: &Expr,
         op: Operator,
@@ -223,9 +223,9 @@ impl<'c, H: Host, C: Calls<H>> Evaluation<'c, H, C> {
     ) -> Result<Value, Stop>
         requires may { C.may self.now.calls.now }
         ensures told { Told H.told (λ v. v) (s.joined (C.context self.now.calls.now) (C.here self.now.calls.now) op
-            line (expr_view operand.now) first) machine.old (in_text (C.here self.now.calls.now) result) machine.new }
-        ensures kept { Keeps H.Host machine.old host.old (stop_in (in_text (C.here self.now.calls.now) result))
-            machine.new host.new }
+            line (expr_view operand.now) first) state.old (in_text (C.here self.now.calls.now) result) state.new }
+        ensures kept { Keeps H.Host state.old host.old (stop_in (in_text (C.here self.now.calls.now) result))
+            state.new host.new }
     {
         match op {
             Operator::Or | Operator::And => {
@@ -233,11 +233,11 @@ impl<'c, H: Host, C: Calls<H>> Evaluation<'c, H, C> {
                 if holds == (op == Operator::Or) {
                     return Ok(Value::Bool(holds));
                 }
-                self.truth_of(machine, host, operand, line)
+                self.truth_of(state, host, operand, line)
             }
             _ => {
-                let second = self.value_of(machine, host, operand)?;
-                combined(self.alloc, machine, op, &first, &second, line)
+                let second = self.value_of(state, host, operand)?;
+                combined(self.alloc, state, op, &first, &second, line)
             }
         }
     }
@@ -246,7 +246,7 @@ impl<'c, H: Host, C: Calls<H>> Evaluation<'c, H, C> {
     #[cycle(expressions)]
     fn truth_of(
         &self,
-        machine: &mut Machine,
+        state: &mut RunState,
         host: &mut H,
         operand: &Expr,
         line: u32,
@@ -254,11 +254,11 @@ impl<'c, H: Host, C: Calls<H>> Evaluation<'c, H, C> {
         requires may { C.may self.now.calls.now }
         ensures told { Told H.told (λ v. v) (s.truth_of (C.context self.now.calls.now)
             (C.here self.now.calls.now) line (expr_view operand.now))
-            machine.old (in_text (C.here self.now.calls.now) result) machine.new }
-        ensures kept { Keeps H.Host machine.old host.old (stop_in (in_text (C.here self.now.calls.now) result))
-            machine.new host.new }
+            state.old (in_text (C.here self.now.calls.now) result) state.new }
+        ensures kept { Keeps H.Host state.old host.old (stop_in (in_text (C.here self.now.calls.now) result))
+            state.new host.new }
     {
-        let value = self.value_of(machine, host, operand)?;
+        let value = self.value_of(state, host, operand)?;
         let holds = truth(&value, line)?;
         Ok(Value::Bool(holds))
     }
@@ -268,20 +268,20 @@ impl<'c, H: Host, C: Calls<H>> Evaluation<'c, H, C> {
 pub fn value_of<H: Host, C: Calls<H>>(
     alloc: Global,
     calls: &C,
-    machine: &mut Machine,
+    state: &mut RunState,
     host: &mut H,
     e: &Expr,
 ) -> Result<Value, Stop>
     requires may { C.may calls.now }
     ensures told { Told H.told (λ v. v) (m.value_of (C.context calls.now) (C.here calls.now) (expr_view e.now))
-        machine.old (in_text (C.here calls.now) result) machine.new }
-    ensures kept { Keeps H.Host machine.old host.old (stop_in (in_text (C.here calls.now) result))
-        machine.new host.new }
+        state.old (in_text (C.here calls.now) result) state.new }
+    ensures kept { Keeps H.Host state.old host.old (stop_in (in_text (C.here calls.now) result))
+        state.new host.new }
 {
     let evaluation = Evaluation {
         alloc,
         calls,
         of: PhantomData,
     };
-    evaluation.value_of(machine, host, e)
+    evaluation.value_of(state, host, e)
 }

@@ -14,17 +14,17 @@ use crate::callee::{Callee, callee_of};
 use crate::calls::Calls;
 use crate::evaluation::Evaluation;
 use avs_meaning::ScriptKind;
-use avs_state::{Host, Machine, Stop};
+use avs_state::{Host, RunState, Stop};
 use avs_values::{Given, Value};
 use fv_io::Text;
 use std::alloc::{AllocError, Global};
 
 /// What a name calls, at a line.
-pub fn called(alloc: Global, machine: &Machine, name: &Text, line: u32) -> Result<Callee, Stop>
-    ensures { (here : Name) → Gives callee_view (e.called here name.now line (state_of machine.now))
-        (in_text here result) (state_of machine.now) }
+pub fn called(alloc: Global, state: &RunState, name: &Text, line: u32) -> Result<Callee, Stop>
+    ensures { (here : Name) → Gives callee_view (e.called here name.now line (state_of state.now))
+        (in_text here result) (state_of state.now) }
 {
-    match callee_of(alloc, machine, name)? {
+    match callee_of(alloc, state, name)? {
         Some(callee) => Ok(callee),
         None => Err(Stop::Fault(ScriptKind::UnknownName, line)),
     }
@@ -34,7 +34,7 @@ impl<'c, H: Host, C: Calls<H>> Evaluation<'c, H, C> {
     /// A call with these arguments, tried again with the variable `last` first, where that is set.
     pub(crate) fn apply_last(
         &self,
-        machine: &mut Machine,
+        state: &mut RunState,
         host: &mut H,
         callee: &Callee,
         args: Vec<Given>,
@@ -43,33 +43,33 @@ impl<'c, H: Host, C: Calls<H>> Evaluation<'c, H, C> {
         requires may { C.may self.now.calls.now }
         ensures told { Told H.told (λ v. v) (e.apply_last (C.context self.now.calls.now) (C.here self.now.calls.now)
             (callee_view callee.now) args.items line)
-            machine.old (in_text (C.here self.now.calls.now) result) machine.new }
-        ensures kept { Keeps H.Host machine.old host.old (stop_in (in_text (C.here self.now.calls.now) result))
-            machine.new host.new }
+            state.old (in_text (C.here self.now.calls.now) result) state.new }
+        ensures kept { Keeps H.Host state.old host.old (stop_in (in_text (C.here self.now.calls.now) result))
+            state.new host.new }
     {
         let name = Text::from_str(self.alloc, "last")?;
-        let last = machine.local(self.alloc, &name)?;
-        self.calls.apply(machine, host, callee, args, last, line)
+        let last = state.local(self.alloc, &name)?;
+        self.calls.apply(state, host, callee, args, last, line)
     }
 
     /// A variable, or else a call without arguments.
     pub(crate) fn named(
         &self,
-        machine: &mut Machine,
+        state: &mut RunState,
         host: &mut H,
         name: &Text,
         line: u32,
     ) -> Result<Value, Stop>
         requires may { C.may self.now.calls.now }
         ensures told { Told H.told (λ v. v) (e.value_of (C.context self.now.calls.now) (C.here self.now.calls.now)
-            (t.name name.now line)) machine.old (in_text (C.here self.now.calls.now) result) machine.new }
-        ensures kept { Keeps H.Host machine.old host.old (stop_in (in_text (C.here self.now.calls.now) result))
-            machine.new host.new }
+            (t.name name.now line)) state.old (in_text (C.here self.now.calls.now) result) state.new }
+        ensures kept { Keeps H.Host state.old host.old (stop_in (in_text (C.here self.now.calls.now) result))
+            state.new host.new }
     {
-        if let Some(value) = machine.variable(self.alloc, name)? {
+        if let Some(value) = state.variable(self.alloc, name)? {
             return Ok(value);
         }
-        let callee = called(self.alloc, machine, name, line)?;
-        self.apply_last(machine, host, &callee, Vec::new(self.alloc), line)
+        let callee = called(self.alloc, state, name, line)?;
+        self.apply_last(state, host, &callee, Vec::new(self.alloc), line)
     }
 }

@@ -8,7 +8,7 @@ ghost use Rattle.avs_state.specs.Stops.{in_text, TakesNone};
 ghost use Rattle.avs_state.specs.Walks.{Runs};
 
 use avs_meaning::ScriptKind;
-use avs_state::{Machine, Stop, value_fault};
+use avs_state::{RunState, Stop, value_fault};
 use avs_tree::Operator;
 use avs_values::{BinaryOp, UnaryOp, Value, binary, unary};
 use clip_term::{Filter, Op, TimeOp};
@@ -64,24 +64,24 @@ pub(crate) fn prefixed(op: UnaryOp, operand: &Value, line: u32) -> Result<Value,
 /// An operator but `&&` and `||` between two values, clips among them.
 pub(crate) fn combined(
     alloc: Global,
-    machine: &mut Machine,
+    state: &mut RunState,
     op: Operator,
     left: &Value,
     right: &Value,
     line: u32,
 ) -> Result<Value, Stop>
-    ensures { (here : Name) → Runs (λ x. x) (m.combined here op line left.now right.now) machine.old
-        (in_text here result) machine.new }
+    ensures { (here : Name) → Runs (λ x. x) (m.combined here op line left.now right.now) state.old
+        (in_text here result) state.new }
 {
     match (op, left, right) {
-        (Operator::Plus, Value::Clip(i), Value::Clip(j)) => machine.make(
+        (Operator::Plus, Value::Clip(i), Value::Clip(j)) => state.make(
             alloc,
             Filter::UnalignedSplice,
             Op::Time(TimeOp::UnalignedSplice),
             &[*i, *j],
             line,
         ),
-        (Operator::PlusPlus, Value::Clip(i), Value::Clip(j)) => machine.make(
+        (Operator::PlusPlus, Value::Clip(i), Value::Clip(j)) => state.make(
             alloc,
             Filter::AlignedSplice,
             Op::Time(TimeOp::AlignedSplice),

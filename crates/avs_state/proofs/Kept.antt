@@ -9,16 +9,16 @@ use Rattle.avs_meaning.specs.State.{State}
 use Rattle.avs_meaning.specs.declared.state.SourceClip.{SourceClip}
 use Rattle.avs_state.specs.States.{state_of}
 use Rattle.avs_state.specs.declared.host.Host as host
-use Rattle.avs_state.specs.declared.machine.Machine.{Machine}
+use Rattle.avs_state.specs.declared.run_state.RunState.{RunState}
 use Rattle.avs_state.specs.Stops.{in_text}
 use Rattle.avs_state.specs.declared.stop.Stop.{Stop}
 use Rattle.avs_state.specs.Walks.{Keeps, unasked, stop_in}
 
-abbrev pub Kept : {H : Type 0} → host.Ghosts H → Machine → H → Machine → H → Type 0
+abbrev pub Kept : {H : Type 0} → host.Ghosts H → RunState → H → RunState → H → Type 0
 Kept h old before new now = Keeps h old before None new now
 
 -- a clip that was opened was fetched
-pub one_fetched : {H X : Type 0} (h : host.Ghosts H) (old new : Machine) (before now : H) (clip : SourceClip) (here : Text) (r : Result X Stop) → h.fetched now ≡ h.fetched before + 1
+pub one_fetched : {H X : Type 0} (h : host.Ghosts H) (old new : RunState) (before now : H) (clip : SourceClip) (here : Text) (r : Result X Stop) → h.fetched now ≡ h.fetched before + 1
     → OnOk r ((state_of new).opened ≡ (state_of old).opened ++ clip ∷ []) → (state_of new).imports ≡ (state_of old).imports → IfNone (stop_in (in_text here r)) (unasked h new now ≡ unasked h old before)
 one_fetched h old new before now clip here (Err stop) fetched opened imports = tt
 one_fetched h old new before now clip here (Ok x) fetched opened imports =

@@ -8,7 +8,7 @@ use Rattle.avs_state.specs.Answers.{Gives}
 use Rattle.avs_state.specs.Sources.{sources_of}
 use Rattle.avs_state.specs.States.{state_of, AsksNothing}
 use Rattle.avs_state.specs.declared.host.Host as host
-use Rattle.avs_state.specs.declared.machine.Machine.{Machine}
+use Rattle.avs_state.specs.declared.run_state.RunState.{RunState}
 
 -- why a part of a run ended early, where it did
 abbrev pub stop_in : {X : Type 0} → Result X EvalError → Option EvalError
@@ -21,13 +21,13 @@ Counts (Some e.Read) before now = HasRisen before now
 Counts _ before now = now ≡ before
 
 -- how many more files the host fetched than clips were opened and scripts imported
-abbrev pub unasked : {H : Type 0} → host.Ghosts H → Machine → H → ℤ
-unasked h machine x = pos (h.fetched x) -ℤ pos (length (state_of machine).opened + (state_of machine).imports)
+abbrev pub unasked : {H : Type 0} → host.Ghosts H → RunState → H → ℤ
+unasked h state x = pos (h.fetched x) -ℤ pos (length (state_of state).opened + (state_of state).imports)
 
 -- Unless a part of a run ends early, the clips that were opened stay those that the host gave, and those of the plan's
 -- sources, and each file that the host fetched is a clip that was opened or a script that was imported. The host's counts of
 -- faults and of fetches never fall.
-pub record Keeps {H : Type 0} (h : host.Ghosts H) (old : Machine) (before : H) (ended : Option EvalError) (new : Machine)
+pub record Keeps {H : Type 0} (h : host.Ghosts H) (old : RunState) (before : H) (ended : Option EvalError) (new : RunState)
     (now : H) : Type 0 where
   pub given : (state_of old).opened ≡ h.opened before → IfNone ended ((state_of new).opened ≡ h.opened now)
   pub listed : sources_of (state_of old).plan ≡ (state_of old).opened
@@ -40,7 +40,7 @@ pub record Keeps {H : Type 0} (h : host.Ghosts H) (old : Machine) (before : H) (
 -- ---- with nothing asked of the outside
 
 -- A part of a run answers what the definition gives in its state. It asks nothing of the outside and adds no source.
-pub record Runs {X Y : Type 0} (view : X → Y) (run : Run Y) (old : Machine) (result : Result X EvalError) (new : Machine)
+pub record Runs {X Y : Type 0} (view : X → Y) (run : Run Y) (old : RunState) (result : Result X EvalError) (new : RunState)
     : Type 0 where
   pub gives : Gives view (run (state_of old)) result (state_of new)
   pub asks : AsksNothing old new

@@ -1,5 +1,5 @@
 // `Evaluator`: what gives the expressions of a text their values.
-use avs_state::{Host, Machine, Stop};
+use avs_state::{Host, RunState, Stop};
 use avs_tree::Expr;
 use avs_values::Value;
 
@@ -24,10 +24,10 @@ pub trait Evaluator<H: Host> {
     ghost context: { Self → Context };
 
     /// The value of an expression.
-    fn value_of(&self, machine: &mut Machine, host: &mut H, expr: &Expr) -> Result<Value, Stop>
+    fn value_of(&self, state: &mut RunState, host: &mut H, expr: &Expr) -> Result<Value, Stop>
         requires may { may self.now }
         ensures told { Told H.told (λ v. v) (e.value_of (context self.now) (here self.now) (expr_view expr.now))
-            machine.old (in_text (here self.now) result) machine.new }
-        ensures kept { Keeps H.Host machine.old host.old (stop_in (in_text (here self.now) result))
-            machine.new host.new };
+            state.old (in_text (here self.now) result) state.new }
+        ensures kept { Keeps H.Host state.old host.old (stop_in (in_text (here self.now) result))
+            state.new host.new };
 }

@@ -13,7 +13,7 @@ ghost use Rattle.avs_state.specs.Walks.{Keeps, stop_in};
 use crate::evaluator::Evaluator;
 use crate::executor::Executor;
 use avs_meaning::ScriptKind;
-use avs_state::{Host, Machine, Stop, truth};
+use avs_state::{Host, RunState, Stop, truth};
 use avs_tree::Expr;
 use avs_values::Value;
 use fv_io::Text;
@@ -45,32 +45,32 @@ fn number_by(value: Option<Value>, line: u32) -> Result<i64, Stop>
 }
 
 // The variable of a loop, read again after a turn.
-fn read_number(alloc: Global, machine: &Machine, name: &Text, line: u32) -> Result<i64, Stop>
-    ensures { (here : Name) → Gives (λ n. n) (s.read_number here name.now line (state_of machine.now))
-        (in_text here result) (state_of machine.now) }
+fn read_number(alloc: Global, state: &RunState, name: &Text, line: u32) -> Result<i64, Stop>
+    ensures { (here : Name) → Gives (λ n. n) (s.read_number here name.now line (state_of state.now))
+        (in_text here result) (state_of state.now) }
 {
-    let value = machine.variable(alloc, name)?;
+    let value = state.variable(alloc, name)?;
     number_by(value, line)
 }
 
 /// Sets the variable of a loop to the next number. There is none past 64 bits.
 pub(crate) fn advance(
     alloc: Global,
-    machine: &mut Machine,
+    state: &mut RunState,
     name: &Text,
     step: i64,
     line: u32,
 ) -> Result<Option<i64>, Stop>
-    ensures gives { (here : Name) → Gives (λ n. n) (s.advance here name.now step line (state_of machine.old))
-        (in_text here result) (state_of machine.new) }
-    ensures asks { AsksNothing machine.old machine.new }
-    ensures sources { OnOk result (sources_of (state_of machine.new).plan ≡ sources_of (state_of machine.old).plan) }
+    ensures gives { (here : Name) → Gives (λ n. n) (s.advance here name.now step line (state_of state.old))
+        (in_text here result) (state_of state.new) }
+    ensures asks { AsksNothing state.old state.new }
+    ensures sources { OnOk result (sources_of (state_of state.new).plan ≡ sources_of (state_of state.old).plan) }
 {
-    let before = read_number(alloc, machine, name, line)?;
+    let before = read_number(alloc, state, name, line)?;
     let Some(next) = next_number(before, step) else {
         return Ok(None);
     };
-    machine.set(alloc, name, Value::Int(next))?;
+    state.set(alloc, name, Value::Int(next))?;
     Ok(Some(next))
 }
 
@@ -95,7 +95,7 @@ impl<'e, H: Host, E: Evaluator<H>> Executor<'e, H, E> {
     /// Whether a condition holds.
     pub(crate) fn condition(
         &self,
-        machine: &mut Machine,
+        state: &mut RunState,
         host: &mut H,
         e: &Expr,
         line: u32,
@@ -103,30 +103,30 @@ impl<'e, H: Host, E: Evaluator<H>> Executor<'e, H, E> {
         requires may { E.may self.now.evaluator.now }
         ensures told { Told H.told (λ b. b)
             (s.condition (E.context self.now.evaluator.now) (E.here self.now.evaluator.now) (expr_view e.now) line)
-            machine.old (in_text (E.here self.now.evaluator.now) result) machine.new }
-        ensures kept { Keeps H.Host machine.old host.old (stop_in (in_text (E.here self.now.evaluator.now) result))
-            machine.new host.new }
+            state.old (in_text (E.here self.now.evaluator.now) result) state.new }
+        ensures kept { Keeps H.Host state.old host.old (stop_in (in_text (E.here self.now.evaluator.now) result))
+            state.new host.new }
     {
-        let value = self.evaluator.value_of(machine, host, e)?;
+        let value = self.evaluator.value_of(state, host, e)?;
         truth(&value, line)
     }
 
     // The step of a loop, which is 1 where none is written.
     fn step_of(
         &self,
-        machine: &mut Machine,
+        state: &mut RunState,
         host: &mut H,
         step: &Option<Expr>,
     ) -> Result<Value, Stop>
         requires may { E.may self.now.evaluator.now }
         ensures told { Told H.told (λ x. x) (s.step_of (E.context self.now.evaluator.now) (E.here self.now.evaluator.now)
             (option_map expr_view step.now))
-            machine.old (in_text (E.here self.now.evaluator.now) result) machine.new }
-        ensures kept { Keeps H.Host machine.old host.old (stop_in (in_text (E.here self.now.evaluator.now) result))
-            machine.new host.new }
+            state.old (in_text (E.here self.now.evaluator.now) result) state.new }
+        ensures kept { Keeps H.Host state.old host.old (stop_in (in_text (E.here self.now.evaluator.now) result))
+            state.new host.new }
     {
         match step {
-            Some(e) => self.evaluator.value_of(machine, host, e),
+            Some(e) => self.evaluator.value_of(state, host, e),
             None => Ok(Value::Int(1)),
         }
     }
@@ -134,7 +134,7 @@ impl<'e, H: Host, E: Evaluator<H>> Executor<'e, H, E> {
     /// The first number of a loop, the last, and the step.
     pub(crate) fn bounds(
         &self,
-        machine: &mut Machine,
+        state: &mut RunState,
         host: &mut H,
         first: &Expr,
         last: &Expr,
@@ -144,13 +144,13 @@ impl<'e, H: Host, E: Evaluator<H>> Executor<'e, H, E> {
         requires may { E.may self.now.evaluator.now }
         ensures told { Told H.told (λ n. n) (s.bounds (E.context self.now.evaluator.now) (E.here self.now.evaluator.now)
             (expr_view first.now) (expr_view last.now) (option_map expr_view step.now) line)
-            machine.old (in_text (E.here self.now.evaluator.now) result) machine.new }
-        ensures kept { Keeps H.Host machine.old host.old (stop_in (in_text (E.here self.now.evaluator.now) result))
-            machine.new host.new }
+            state.old (in_text (E.here self.now.evaluator.now) result) state.new }
+        ensures kept { Keeps H.Host state.old host.old (stop_in (in_text (E.here self.now.evaluator.now) result))
+            state.new host.new }
     {
-        let first = self.evaluator.value_of(machine, host, first)?;
-        let last = self.evaluator.value_of(machine, host, last)?;
-        let step = self.step_of(machine, host, step)?;
+        let first = self.evaluator.value_of(state, host, first)?;
+        let last = self.evaluator.value_of(state, host, last)?;
+        let step = self.step_of(state, host, step)?;
         numbers(&first, &last, &step, line)
     }
 }

@@ -16,7 +16,7 @@ use crate::executor::Executor;
 use crate::flow::{Counter, Flow, Turn};
 use crate::loops::{advance, is_past};
 use avs_meaning::{EvalError, ScriptKind};
-use avs_state::{Host, Machine, Stop};
+use avs_state::{Host, RunState, Stop};
 use avs_tree::{Arm, Expr, Statement, StatementKind};
 use avs_values::Value;
 use fv_io::Text;
@@ -24,26 +24,26 @@ use std::alloc::{AllocError, Global};
 use std::marker::PhantomData;
 
 // A clip becomes `last`.
-fn sets_last(alloc: Global, machine: &mut Machine, value: Value) -> Result<Flow, EvalError>
-    ensures { Runs flow_view (m.sets_last value) machine.old result machine.new }
+fn sets_last(alloc: Global, state: &mut RunState, value: Value) -> Result<Flow, EvalError>
+    ensures { Runs flow_view (m.sets_last value) state.old result state.new }
 {
     if let Value::Clip(i) = value {
         let name = Text::from_str(alloc, "last")?;
-        machine.set(alloc, &name, Value::Clip(i))?;
+        state.set(alloc, &name, Value::Clip(i))?;
         return Ok(Flow::On(Value::Clip(i)));
     }
     Ok(Flow::On(value))
 }
 
 // The value of the final statement, or else `last`.
-fn settled(alloc: Global, machine: &Machine, value: Value) -> Result<Value, EvalError>
-    ensures { Gives (λ x. x) (m.settled value (state_of machine.now)) result (state_of machine.now) }
+fn settled(alloc: Global, state: &RunState, value: Value) -> Result<Value, EvalError>
+    ensures { Gives (λ x. x) (m.settled value (state_of state.now)) result (state_of state.now) }
 {
     if !value.is_undefined() {
         return Ok(value);
     }
     let name = Text::from_str(alloc, "last")?;
-    match machine.local(alloc, &name)? {
+    match state.local(alloc, &name)? {
         Some(value) => Ok(value),
         None => Ok(Value::Undefined),
     }
@@ -54,7 +54,7 @@ impl<'e, H: Host, E: Evaluator<H>> Executor<'e, H, E> {
     #[tactic(auto, using(crate::proofs::Rows::trees))]
     fn effect_of(
         &self,
-        machine: &mut Machine,
+        state: &mut RunState,
         host: &mut H,
         kind: &StatementKind,
         line: u32,
@@ -62,34 +62,34 @@ impl<'e, H: Host, E: Evaluator<H>> Executor<'e, H, E> {
         requires may { E.may self.now.evaluator.now }
         ensures told { Told H.told flow_view (m.effect_of (E.context self.now.evaluator.now) (E.here self.now.evaluator.now)
             (kind_view kind.now) line)
-            machine.old (in_text (E.here self.now.evaluator.now) result) machine.new }
-        ensures kept { Keeps H.Host machine.old host.old (stop_in (in_text (E.here self.now.evaluator.now) result))
-            machine.new host.new }
+            state.old (in_text (E.here self.now.evaluator.now) result) state.new }
+        ensures kept { Keeps H.Host state.old host.old (stop_in (in_text (E.here self.now.evaluator.now) result))
+            state.new host.new }
     {
         match kind {
             StatementKind::Global { name, value } => {
-                let value = self.evaluator.value_of(machine, host, value)?;
-                machine.set_global(self.alloc, name, value)?;
+                let value = self.evaluator.value_of(state, host, value)?;
+                state.set_global(self.alloc, name, value)?;
                 Ok(Flow::On(Value::Undefined))
             }
             StatementKind::Assign { name, value } => {
-                let value = self.evaluator.value_of(machine, host, value)?;
-                machine.set(self.alloc, name, value)?;
+                let value = self.evaluator.value_of(state, host, value)?;
+                state.set(self.alloc, name, value)?;
                 Ok(Flow::On(Value::Undefined))
             }
             StatementKind::Return(e) => {
-                let value = self.evaluator.value_of(machine, host, e)?;
+                let value = self.evaluator.value_of(state, host, e)?;
                 Ok(Flow::Back(value))
             }
-            StatementKind::If { arms, other } => match self.arms_of(machine, host, arms, line)? {
+            StatementKind::If { arms, other } => match self.arms_of(state, host, arms, line)? {
                 Some(flow) => Ok(flow),
                 None => match other {
-                    Some(body) => self.block_of(machine, host, body),
+                    Some(body) => self.block_of(state, host, body),
                     None => Ok(Flow::On(Value::Undefined)),
                 },
             },
             StatementKind::While { condition, body } => {
-                self.turns(machine, host, body, condition, line)
+                self.turns(state, host, body, condition, line)
             }
             StatementKind::For {
                 name,
@@ -97,10 +97,10 @@ impl<'e, H: Host, E: Evaluator<H>> Executor<'e, H, E> {
                 last,
                 step,
                 body,
-            } => { self.count(machine, host, body, name, first, last, step, line) }
+            } => { self.count(state, host, body, name, first, last, step, line) }
             StatementKind::Value(e) => {
-                let value = self.evaluator.value_of(machine, host, e)?;
-                Ok(sets_last(self.alloc, machine, value)?)
+                let value = self.evaluator.value_of(state, host, e)?;
+                Ok(sets_last(self.alloc, state, value)?)
             }
         }
     }
@@ -110,7 +110,7 @@ impl<'e, H: Host, E: Evaluator<H>> Executor<'e, H, E> {
     #[tactic(auto, using(crate::proofs::Rows::arms_more))]
     fn arms_of(
         &self,
-        machine: &mut Machine,
+        state: &mut RunState,
         host: &mut H,
         arms: &[Arm],
         line: u32,
@@ -118,13 +118,13 @@ impl<'e, H: Host, E: Evaluator<H>> Executor<'e, H, E> {
         requires may { E.may self.now.evaluator.now }
         ensures told { Told H.told (option_map flow_view) (m.arms_of (E.context self.now.evaluator.now)
             (E.here self.now.evaluator.now) (arms_of (map arm_view arms.now)) line)
-            machine.old (in_text (E.here self.now.evaluator.now) result) machine.new }
-        ensures kept { Keeps H.Host machine.old host.old (stop_in (in_text (E.here self.now.evaluator.now) result))
-            machine.new host.new }
+            state.old (in_text (E.here self.now.evaluator.now) result) state.new }
+        ensures kept { Keeps H.Host state.old host.old (stop_in (in_text (E.here self.now.evaluator.now) result))
+            state.new host.new }
     {
         for arm in arms {
-            if self.condition(machine, host, &arm.condition, line)? {
-                let flow = self.block_of(machine, host, &arm.body)?;
+            if self.condition(state, host, &arm.condition, line)? {
+                let flow = self.block_of(state, host, &arm.body)?;
                 return Ok(Some(flow));
             }
         }
@@ -136,7 +136,7 @@ impl<'e, H: Host, E: Evaluator<H>> Executor<'e, H, E> {
     #[tactic(auto, using(crate::proofs::TurnLemmas::turn_more))]
     fn turns(
         &self,
-        machine: &mut Machine,
+        state: &mut RunState,
         host: &mut H,
         body: &[Statement],
         test: &Expr,
@@ -145,22 +145,22 @@ impl<'e, H: Host, E: Evaluator<H>> Executor<'e, H, E> {
         requires may { E.may self.now.evaluator.now }
         ensures told { Told H.told flow_view (r.loop_of (E.context self.now.evaluator.now) (E.here self.now.evaluator.now)
             (expr_view test.now) line (block_view body.now))
-            machine.old (in_text (E.here self.now.evaluator.now) result) machine.new }
-        ensures kept { Keeps H.Host machine.old host.old (stop_in (in_text (E.here self.now.evaluator.now) result))
-            machine.new host.new }
+            state.old (in_text (E.here self.now.evaluator.now) result) state.new }
+        ensures kept { Keeps H.Host state.old host.old (stop_in (in_text (E.here self.now.evaluator.now) result))
+            state.new host.new }
     {
-        let most = machine.units();
+        let most = state.units();
         for _turn in 0..most {
-            if !self.condition(machine, host, test, line)? {
+            if !self.condition(state, host, test, line)? {
                 return Ok(Flow::On(Value::Undefined));
             }
-            machine.spend(line)?;
-            match self.block_of(machine, host, body)? {
+            state.spend(line)?;
+            match self.block_of(state, host, body)? {
                 Flow::On(_) => continue,
                 Flow::Back(value) => return Ok(Flow::Back(value)),
             }
         }
-        if self.condition(machine, host, test, line)? {
+        if self.condition(state, host, test, line)? {
             return Err(Stop::Fault(ScriptKind::StepLimit, line));
         }
         Ok(Flow::On(Value::Undefined))
@@ -170,7 +170,7 @@ impl<'e, H: Host, E: Evaluator<H>> Executor<'e, H, E> {
     #[cycle(statements)]
     fn count(
         &self,
-        machine: &mut Machine,
+        state: &mut RunState,
         host: &mut H,
         body: &[Statement],
         name: &Text,
@@ -184,18 +184,18 @@ impl<'e, H: Host, E: Evaluator<H>> Executor<'e, H, E> {
             (t.for name.now (expr_view first.now) (expr_view last.now) (option_map expr_view step.now) (block_view
             body.now))
             line)
-            machine.old (in_text (E.here self.now.evaluator.now) result) machine.new }
-        ensures kept { Keeps H.Host machine.old host.old (stop_in (in_text (E.here self.now.evaluator.now) result))
-            machine.new host.new }
+            state.old (in_text (E.here self.now.evaluator.now) result) state.new }
+        ensures kept { Keeps H.Host state.old host.old (stop_in (in_text (E.here self.now.evaluator.now) result))
+            state.new host.new }
     {
-        let (first, last, step) = self.bounds(machine, host, first, last, step, line)?;
-        machine.set(self.alloc, name, Value::Int(first))?;
+        let (first, last, step) = self.bounds(state, host, first, last, step, line)?;
+        state.set(self.alloc, name, Value::Int(first))?;
         let counter = Counter {
             at: first,
             last,
             step,
         };
-        self.counts(machine, host, body, name, counter, line)
+        self.counts(state, host, body, name, counter, line)
     }
 
     // The turns of a loop over numbers.
@@ -203,7 +203,7 @@ impl<'e, H: Host, E: Evaluator<H>> Executor<'e, H, E> {
     #[tactic(auto, using(crate::proofs::TurnLemmas::counting))]
     fn counts(
         &self,
-        machine: &mut Machine,
+        state: &mut RunState,
         host: &mut H,
         body: &[Statement],
         name: &Text,
@@ -213,14 +213,14 @@ impl<'e, H: Host, E: Evaluator<H>> Executor<'e, H, E> {
         requires may { E.may self.now.evaluator.now }
         ensures told { Told H.told flow_view (r.count_of (E.context self.now.evaluator.now) (E.here self.now.evaluator.now)
             name.now first.at first.last first.step line (block_view body.now))
-            machine.old (in_text (E.here self.now.evaluator.now) result) machine.new }
-        ensures kept { Keeps H.Host machine.old host.old (stop_in (in_text (E.here self.now.evaluator.now) result))
-            machine.new host.new }
+            state.old (in_text (E.here self.now.evaluator.now) result) state.new }
+        ensures kept { Keeps H.Host state.old host.old (stop_in (in_text (E.here self.now.evaluator.now) result))
+            state.new host.new }
     {
-        let most = machine.units();
+        let most = state.units();
         let mut counter = first;
         for _turn in 0..most {
-            match self.turn(machine, host, body, name, &counter, line)? {
+            match self.turn(state, host, body, name, &counter, line)? {
                 Turn::Next(next) => {
                     counter.at = next;
                     continue;
@@ -239,7 +239,7 @@ impl<'e, H: Host, E: Evaluator<H>> Executor<'e, H, E> {
     #[tactic(auto, unfolding(avs_meaning::specs::Statements::turn))]
     fn turn(
         &self,
-        machine: &mut Machine,
+        state: &mut RunState,
         host: &mut H,
         body: &[Statement],
         name: &Text,
@@ -249,17 +249,17 @@ impl<'e, H: Host, E: Evaluator<H>> Executor<'e, H, E> {
         requires may { E.may self.now.evaluator.now }
         ensures told { Told H.told turn_view (r.turn (E.context self.now.evaluator.now) (E.here self.now.evaluator.now) name.now
             counter.now.at counter.now.last counter.now.step line (block_view body.now))
-            machine.old (in_text (E.here self.now.evaluator.now) result) machine.new }
-        ensures kept { Keeps H.Host machine.old host.old (stop_in (in_text (E.here self.now.evaluator.now) result))
-            machine.new host.new }
+            state.old (in_text (E.here self.now.evaluator.now) result) state.new }
+        ensures kept { Keeps H.Host state.old host.old (stop_in (in_text (E.here self.now.evaluator.now) result))
+            state.new host.new }
     {
         if is_past(counter.last, counter.step, counter.at) {
             return Ok(Turn::Done(Flow::On(Value::Undefined)));
         }
-        machine.spend(line)?;
-        match self.block_of(machine, host, body)? {
+        state.spend(line)?;
+        match self.block_of(state, host, body)? {
             Flow::On(_) => {
-                match advance(self.alloc, machine, name, counter.step, line)? {
+                match advance(self.alloc, state, name, counter.step, line)? {
                     Some(next) => Ok(Turn::Next(next)),
                     None => Ok(Turn::Done(Flow::On(Value::Undefined))),
                 }
@@ -272,39 +272,34 @@ impl<'e, H: Host, E: Evaluator<H>> Executor<'e, H, E> {
     #[cycle(statements)]
     fn statement_of(
         &self,
-        machine: &mut Machine,
+        state: &mut RunState,
         host: &mut H,
         statement: &Statement,
     ) -> Result<Flow, Stop>
         requires may { E.may self.now.evaluator.now }
         ensures told { Told H.told flow_view (r.statement (E.context self.now.evaluator.now) (E.here self.now.evaluator.now)
             (statement_view statement.now))
-            machine.old (in_text (E.here self.now.evaluator.now) result) machine.new }
-        ensures kept { Keeps H.Host machine.old host.old (stop_in (in_text (E.here self.now.evaluator.now) result))
-            machine.new host.new }
+            state.old (in_text (E.here self.now.evaluator.now) result) state.new }
+        ensures kept { Keeps H.Host state.old host.old (stop_in (in_text (E.here self.now.evaluator.now) result))
+            state.new host.new }
     {
-        machine.spend(statement.line)?;
-        self.effect_of(machine, host, &statement.kind, statement.line)
+        state.spend(statement.line)?;
+        self.effect_of(state, host, &statement.kind, statement.line)
     }
 
     // The statements of a block.
     #[cycle(statements)]
     #[tactic(auto, using(crate::proofs::Rows::block_more))]
-    fn block_of(
-        &self,
-        machine: &mut Machine,
-        host: &mut H,
-        body: &[Statement],
-    ) -> Result<Flow, Stop>
+    fn block_of(&self, state: &mut RunState, host: &mut H, body: &[Statement]) -> Result<Flow, Stop>
         requires may { E.may self.now.evaluator.now }
         ensures told { Told H.told flow_view (m.block_of (E.context self.now.evaluator.now) (E.here self.now.evaluator.now)
             (block_view body.now))
-            machine.old (in_text (E.here self.now.evaluator.now) result) machine.new }
-        ensures kept { Keeps H.Host machine.old host.old (stop_in (in_text (E.here self.now.evaluator.now) result))
-            machine.new host.new }
+            state.old (in_text (E.here self.now.evaluator.now) result) state.new }
+        ensures kept { Keeps H.Host state.old host.old (stop_in (in_text (E.here self.now.evaluator.now) result))
+            state.new host.new }
     {
         for statement in body {
-            match self.statement_of(machine, host, statement)? {
+            match self.statement_of(state, host, statement)? {
                 Flow::On(_) => continue,
                 Flow::Back(value) => return Ok(Flow::Back(value)),
             }
@@ -314,22 +309,17 @@ impl<'e, H: Host, E: Evaluator<H>> Executor<'e, H, E> {
 
     // The statements of a text or a function.
     #[tactic(auto, using(crate::proofs::Rows::block_more))]
-    fn body_of(
-        &self,
-        machine: &mut Machine,
-        host: &mut H,
-        body: &[Statement],
-    ) -> Result<Value, Stop>
+    fn body_of(&self, state: &mut RunState, host: &mut H, body: &[Statement]) -> Result<Value, Stop>
         requires may { E.may self.now.evaluator.now }
         ensures told { Told H.told (λ x. x) (m.body_of (E.context self.now.evaluator.now) (E.here self.now.evaluator.now)
             (block_view body.now) Value.Undefined)
-            machine.old (in_text (E.here self.now.evaluator.now) result) machine.new }
-        ensures kept { Keeps H.Host machine.old host.old (stop_in (in_text (E.here self.now.evaluator.now) result))
-            machine.new host.new }
+            state.old (in_text (E.here self.now.evaluator.now) result) state.new }
+        ensures kept { Keeps H.Host state.old host.old (stop_in (in_text (E.here self.now.evaluator.now) result))
+            state.new host.new }
     {
         let mut last = Value::Undefined;
         for statement in body {
-            match self.statement_of(machine, host, statement)? {
+            match self.statement_of(state, host, statement)? {
                 Flow::On(value) => {
                     last = value;
                     continue;
@@ -337,7 +327,7 @@ impl<'e, H: Host, E: Evaluator<H>> Executor<'e, H, E> {
                 Flow::Back(value) => return Ok(value),
             }
         }
-        Ok(settled(self.alloc, machine, last)?)
+        Ok(settled(self.alloc, state, last)?)
     }
 }
 
@@ -345,21 +335,21 @@ impl<'e, H: Host, E: Evaluator<H>> Executor<'e, H, E> {
 pub fn body_of<H: Host, E: Evaluator<H>>(
     alloc: Global,
     evaluator: &E,
-    machine: &mut Machine,
+    state: &mut RunState,
     host: &mut H,
     body: &[Statement],
 ) -> Result<Value, Stop>
     requires may { E.may evaluator.now }
     ensures told { Told H.told (λ x. x) (m.body_of (E.context evaluator.now) (E.here evaluator.now) (block_view body.now)
         Value.Undefined)
-        machine.old (in_text (E.here evaluator.now) result) machine.new }
-    ensures kept { Keeps H.Host machine.old host.old (stop_in (in_text (E.here evaluator.now) result))
-        machine.new host.new }
+        state.old (in_text (E.here evaluator.now) result) state.new }
+    ensures kept { Keeps H.Host state.old host.old (stop_in (in_text (E.here evaluator.now) result))
+        state.new host.new }
 {
     let executor = Executor {
         alloc,
         evaluator,
         of: PhantomData,
     };
-    executor.body_of(machine, host, body)
+    executor.body_of(state, host, body)
 }

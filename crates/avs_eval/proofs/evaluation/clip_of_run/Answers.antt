@@ -12,4 +12,4 @@ returns-in_err-value-clause-told g c = λ told.
     let stop = c.in_err-value.field-0.0 in
     let is : c.from_residual.result ≡ Err (s.Whole stop) = search rules in
     rw is (run_fails (outside_by g.H.Host.clips g.H.Host.scripts) c.args.name.now (block_view c.args.statements.now) c.args.last_line
-    (state_of c.args.machine.now) stop (c.in_err-value.ensures.told told))
+    (state_of c.args.state.now) stop (c.in_err-value.ensures.told told))

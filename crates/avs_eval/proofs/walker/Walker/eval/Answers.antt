@@ -5,5 +5,5 @@ use Rattle.avs_eval.proofs.walker.Walker.eval.Goals as goal
 
 pub returns-in-Text-clause-told : goal.returns-in-Text-clause-told
 returns-in-Text-clause-told g c = λ told.
-    rw (eval_by g.H.Host c.args.self.now.depth c.args.self.now.script_name.now c.args.line c.args.values.now (state_of c.args.machine.now))
+    rw (eval_by g.H.Host c.args.self.now.depth c.args.self.now.script_name.now c.args.line c.args.values.now (state_of c.args.state.now))
     (search rules)

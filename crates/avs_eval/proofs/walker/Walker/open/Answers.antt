@@ -11,7 +11,7 @@ returns-in-Ok-clause-told g c = λ told.
     let here = c.args.self.now.script_name.now in
     let copied : c.in_ok-file.file ≡ c.args.name.now = search rules in
     rw (c.in-Ok.ensures.told told, sym copied)
-    (given (λ v. v) (open_by here (Ok c.in-Ok.info) c.in_ok-file.file c.args.line (state_of c.args.machine.now))
+    (given (λ v. v) (open_by here (Ok c.in-Ok.info) c.in_ok-file.file c.args.line (state_of c.args.state.now))
     (in_text here c.add_source.result) (state_of c.add_source.new.self) (c.add_source.ensures.gives here))
 
 pub returns-in-Ok-clause-kept : goal.returns-in-Ok-clause-kept
@@ -20,8 +20,8 @@ returns-in-Ok-clause-kept g c = let here = c.args.self.now.script_name.now in re
   listed = search rules;
   later = search rules;
   more = search rules;
-  faults = rw c.in-Ok.ensures.steady (unread (λ v. v) (open_by here (Ok c.in-Ok.info) c.in_ok-file.file c.args.line (state_of c.args.machine.now))
+  faults = rw c.in-Ok.ensures.steady (unread (λ v. v) (open_by here (Ok c.in-Ok.info) c.in_ok-file.file c.args.line (state_of c.args.state.now))
       (in_text here c.add_source.result) (state_of c.add_source.new.self) (g.H.Host.faults c.args.host.now) (c.add_source.ensures.gives here));
-  fetched = one_fetched g.H.Host c.args.machine.now c.add_source.new.self c.args.host.now c.clip.new.self (record { name = c.in_ok-file.file; info = c.in-Ok.info }) here c.add_source.result
+  fetched = one_fetched g.H.Host c.args.state.now c.add_source.new.self c.args.host.now c.clip.new.self (record { name = c.in_ok-file.file; info = c.in-Ok.info }) here c.add_source.result
       c.in-Ok.ensures.fetched c.add_source.ensures.opened c.add_source.ensures.imports;
 }

@@ -13,8 +13,8 @@ calls_from-returns-in_err-value-clause-told g t c = λ told.
     let context = g.C.Calls.context c.args.self.now.calls.now in
     let here = g.C.Calls.here c.args.self.now.calls.now in
     let whole = m.calls_from context here (method_calls_of (map method_call_view c.args.calls.now))
-    c.args.first (state_of c.args.machine.now) in
+    c.args.first (state_of c.args.state.now) in
     let is : c.from_residual.result ≡ Err stop = search rules in
     rw is (calls_fail context here c.args.calls.now c.loop-call.call-index c.call-item.result
-    c.loop-call.value (state_of c.loop-call.machine) whole (named here stop) (search rules) c.call-item.is (c.loop-call.invariant.told told)
+    c.loop-call.value (state_of c.loop-call.state) whole (named here stop) (search rules) c.call-item.is (c.loop-call.invariant.told told)
     (c.in_err-value.ensures.told told))

@@ -11,9 +11,9 @@ abbrev pub invariant-arms_of-loop-arm : goal.invariant-arms_of-loop-arm
 invariant-arms_of-loop-arm g l =
     let arms = m.arms_of (g.E.Evaluator.context l.self.evaluator.now) (g.E.Evaluator.here l.self.evaluator.now) in
     record {
-      told : IsTrue g.H.Host.told → arms (arms_of (map arm_view (drop l.arm-index l.arms))) l.line (state_of l.machine)
-          ≡ arms (arms_of (map arm_view l.arms)) l.line (state_of l.fn.machine);
-      kept : Kept g.H.Host l.fn.machine l.fn.host l.machine l.host;
+      told : IsTrue g.H.Host.told → arms (arms_of (map arm_view (drop l.arm-index l.arms))) l.line (state_of l.state)
+          ≡ arms (arms_of (map arm_view l.arms)) l.line (state_of l.fn.state);
+      kept : Kept g.H.Host l.fn.state l.fn.host l.state l.host;
     }
 
 abbrev pub invariant-turns-loop-turn : goal.invariant-turns-loop-turn
@@ -21,9 +21,9 @@ invariant-turns-loop-turn g l =
     let test = m.condition (g.E.Evaluator.context l.self.evaluator.now) (g.E.Evaluator.here l.self.evaluator.now) (expr_view l.test) l.line in
     let body = m.block_of (g.E.Evaluator.context l.self.evaluator.now) (g.E.Evaluator.here l.self.evaluator.now) (block_view l.body) in
     record {
-      told : IsTrue g.H.Host.told → m.turns (g.E.Evaluator.here l.self.evaluator.now) (l.most - l._turn) test l.line body (state_of l.machine)
-          ≡ r.loop_of (g.E.Evaluator.context l.self.evaluator.now) (g.E.Evaluator.here l.self.evaluator.now) (expr_view l.test) l.line (block_view l.body) (state_of l.fn.machine);
-      kept : Kept g.H.Host l.fn.machine l.fn.host l.machine l.host;
+      told : IsTrue g.H.Host.told → m.turns (g.E.Evaluator.here l.self.evaluator.now) (l.most - l._turn) test l.line body (state_of l.state)
+          ≡ r.loop_of (g.E.Evaluator.context l.self.evaluator.now) (g.E.Evaluator.here l.self.evaluator.now) (expr_view l.test) l.line (block_view l.body) (state_of l.fn.state);
+      kept : Kept g.H.Host l.fn.state l.fn.host l.state l.host;
     }
 
 abbrev pub invariant-counts-loop-turn : goal.invariant-counts-loop-turn
@@ -31,16 +31,16 @@ invariant-counts-loop-turn g l =
     let body = m.block_of (g.E.Evaluator.context l.self.evaluator.now) (g.E.Evaluator.here l.self.evaluator.now) (block_view l.body) in
     record {
       told : IsTrue g.H.Host.told
-          → m.counts (g.E.Evaluator.here l.self.evaluator.now) (l.most - l._turn) l.name l.counter.at l.counter.last l.counter.step l.line body (state_of l.machine)
-          ≡ r.count_of (g.E.Evaluator.context l.self.evaluator.now) (g.E.Evaluator.here l.self.evaluator.now) l.name l.fn.first.at l.fn.first.last l.fn.first.step l.line (block_view l.body) (state_of l.fn.machine);
-      kept : Kept g.H.Host l.fn.machine l.fn.host l.machine l.host;
+          → m.counts (g.E.Evaluator.here l.self.evaluator.now) (l.most - l._turn) l.name l.counter.at l.counter.last l.counter.step l.line body (state_of l.state)
+          ≡ r.count_of (g.E.Evaluator.context l.self.evaluator.now) (g.E.Evaluator.here l.self.evaluator.now) l.name l.fn.first.at l.fn.first.last l.fn.first.step l.line (block_view l.body) (state_of l.fn.state);
+      kept : Kept g.H.Host l.fn.state l.fn.host l.state l.host;
     }
 
 abbrev pub invariant-block_of-loop-statement : goal.invariant-block_of-loop-statement
 invariant-block_of-loop-statement g l =
     let block = m.block_of (g.E.Evaluator.context l.self.evaluator.now) (g.E.Evaluator.here l.self.evaluator.now) in
     record {
-      told : IsTrue g.H.Host.told → block (block_of (map statement_view (drop l.statement-index l.body))) (state_of l.machine)
-          ≡ block (block_view l.body) (state_of l.fn.machine);
-      kept : Kept g.H.Host l.fn.machine l.fn.host l.machine l.host;
+      told : IsTrue g.H.Host.told → block (block_of (map statement_view (drop l.statement-index l.body))) (state_of l.state)
+          ≡ block (block_view l.body) (state_of l.fn.state);
+      kept : Kept g.H.Host l.fn.state l.fn.host l.state l.host;
     }

@@ -11,7 +11,7 @@ abbrev pub invariant-loop-statement : goal.invariant-loop-statement
 invariant-loop-statement g l =
     let body = s.body_of (g.E.Evaluator.context l.self.evaluator.now) (g.E.Evaluator.here l.self.evaluator.now) in
     record {
-      told : IsTrue g.H.Host.told → body (block_of (map statement_view (drop l.statement-index l.body))) l.last (state_of l.machine)
-          ≡ body (block_view l.body) Undefined (state_of l.fn.machine);
-      kept : Kept g.H.Host l.fn.machine l.fn.host l.machine l.host;
+      told : IsTrue g.H.Host.told → body (block_of (map statement_view (drop l.statement-index l.body))) l.last (state_of l.state)
+          ≡ body (block_view l.body) Undefined (state_of l.fn.state);
+      kept : Kept g.H.Host l.fn.state l.fn.host l.state l.host;
     }

@@ -4,7 +4,7 @@ use Rattle.clip_term.specs.Terms.{act_of, check}
 use Rattle.avs_meaning.specs.Filters as f
 use Rattle.avs_state.specs.States.{state_of}
 use Rattle.avs_state.proofs.RefusedLemmas.{refused}
-use Rattle.avs_state.proofs.machine.Machine.make.Goals as goal
+use Rattle.avs_state.proofs.run_state.RunState.make.Goals as goal
 
 pub returns-in-Err-clause-gives : goal.returns-in-Err-clause-gives
 unfolding state_of

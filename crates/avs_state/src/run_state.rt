@@ -1,4 +1,4 @@
-// `Machine`: the variables, functions, settings and graph of a run.
+// `RunState`: the variables, functions, settings and graph of a run.
 ghost use Rattle.std.specs.Prelude.{◌≡◌, ◌↔◌, IsTrue, ◌+◌, ◌^◌, Some, ◌∷◌, ◌++◌, ◌<◌, [], length, map, IfOk, Ok, OnOk, option_map};
 ghost use Rattle.std.specs.List.{All};
 ghost use Rattle.fv_plane.specs.Info.{IsLawful};
@@ -34,7 +34,7 @@ use std::rc::Rc;
 /// The state of a run: variables, functions, the modes that were set, the workers that were asked for, the graph of the
 /// clips, the sources that were opened, how many scripts were imported, and the units that are left.
 #[derive(Drop)]
-pub struct Machine {
+pub struct RunState {
     env: ByName<Variable>,
     globals: ByName<Variable>,
     functions: ByName<Rc<Definition>>,
@@ -66,13 +66,13 @@ fn infos_among(alloc: Global, plan: &Graph, inputs: &[u32]) -> Result<Vec<Info>,
     Ok(infos)
 }
 
-impl Machine {
+impl RunState {
     /// The state at the start. It allocates nothing.
     #[tactic(auto, unfolding(crate::specs::States::state_of))]
-    pub fn new(alloc: Global) -> Machine
+    pub fn new(alloc: Global) -> RunState
         ensures { state_of result ≡ m.start }
     {
-        Machine {
+        RunState {
             env: ByName::new(alloc),
             globals: ByName::new(alloc),
             functions: ByName::new(alloc),

@@ -1,7 +1,7 @@
 use Rattle.std.proofs.Common.{rules, ◌≡◌, ap}
 use Rattle.clip_graph.specs.Plan.{application_at}
 use Rattle.avs_state.proofs.StateLemmas.{lawful_at}
-use Rattle.avs_state.proofs.machine.Machine.info_of.Goals as goal
+use Rattle.avs_state.proofs.run_state.RunState.info_of.Goals as goal
 
 pub returns-clause-lawful : goal.returns-clause-lawful
 returns-clause-lawful c =
