@@ -65,10 +65,23 @@ pub record LexFault (text : Text) (kind : LexKind) (line : ℕ) : Type 0 where
   pub fails : piece_at text open_parentheses offset ≡ Fault kind
   pub is : line ≡ line_at text offset
 
--- what an error says of the script; out of memory says nothing
+abbrev pub IsToken : Piece → Type 0
+IsToken (One kind size) = ⊤
+IsToken EndOfScript = ⊤
+IsToken _ = ⊥
+
+-- the script is read up to a token or its end, for which there was no memory
+pub record LacksMemory (text : Text) : Type 0 where
+  pub offset : ℕ
+  pub open_parentheses : ℕ
+  pub before : List Token
+  pub read : ReadTo text offset open_parentheses before
+  pub stops : IsToken (piece_at text open_parentheses offset)
+
+-- what an error says of the script; out of memory never comes in place of a fault
 abbrev pub IsFault : Text → LexError → Type 0
 IsFault text (e.Fault kind line) = LexFault text kind line
-IsFault text e.Memory = ⊤
+IsFault text e.Memory = LacksMemory text
 
 -- ==== What a list of tokens of a text is: what the parser needs of it.
 
