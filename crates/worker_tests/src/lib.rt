@@ -1,9 +1,11 @@
 //! Tests of the top call with several workers over files in memory: the text is that of one worker, two workers run at once,
-//! and a fault with workers at work ends the run as it should.
+//! one that waits for another is woken, and a fault with workers at work ends the run as it should.
 #![tactic(auto)]
 
 #[cfg(test)]
 mod crowd;
+#[cfg(test)]
+mod handover;
 #[cfg(test)]
 mod meeting;
 #[cfg(test)]

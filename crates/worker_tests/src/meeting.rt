@@ -1,4 +1,5 @@
 // Two parties that wait for each other.
+use crate::paused::Pause;
 use fv_plane::Key;
 use serve_app::{Gate, GatePoint};
 use std::sync::atomic::{AtomicU64, Ordering};
@@ -24,7 +25,7 @@ impl Meeting {
     }
 
     // Holds a party, 0 or 1, that comes for the first time, until the other came or it has looked long enough.
-    pub fn hold(&self, party: u32) {
+    fn hold(&self, party: u32) {
         let (mine, other) = if party == 0 {
             (&self.first, &self.second)
         } else {
@@ -54,5 +55,12 @@ impl Gate for Meeting {
             GatePoint::Claimed(Key { node: _, n: _ }) => self.hold(worker),
             GatePoint::Made(_) => {}
         }
+    }
+}
+
+// Each of two sources waits at its first read after a rewind for the other.
+impl Pause for Meeting {
+    fn at_read(&self, party: u32, _size: usize) {
+        self.hold(party);
     }
 }

@@ -1,29 +1,33 @@
-// Files whose two sources wait for each other at their first read after a rewind.
+// Files whose sources may be held at their reads after the first rewind: not while they are indexed.
 ghost use Rattle.std.specs.Prelude.{◌≡◌};
 ghost use Rattle.fv_io.specs.SourceState.{told_bytes};
 ghost use Rattle.fv_io.specs.FilesState.{told_world};
 
-use crate::meeting::Meeting;
 use fv_io::{Failed, FetchFault, Files, MemFiles, MemSource, Source, Text};
 use std::sync::Arc;
 
-#[derive(Drop)]
-pub struct PausedFiles {
-    pub files: MemFiles,
-    pub fetched: u32,
-    pub meeting: Arc<Meeting>,
+// What a source passes at each of these reads, into a buffer of this size. It may wait there.
+pub trait Pause: Send + Sync {
+    fn at_read(&self, party: u32, size: usize);
 }
 
-// A source, and which of the two parties it is: 0 or 1, or neither.
 #[derive(Drop)]
-pub struct PausedSource {
+pub struct PausedFiles<P: Pause + Drop> {
+    pub files: MemFiles,
+    pub fetched: u32,
+    pub pause: Arc<P>,
+}
+
+// A source, and which party it is: the script is none, and the others are counted from 0.
+#[derive(Drop)]
+pub struct PausedSource<P: Pause + Drop> {
     source: MemSource,
     party: Option<u32>,
     rewound: bool,
-    meeting: Arc<Meeting>,
+    pause: Arc<P>,
 }
 
-impl Source for PausedSource {
+impl<P: Pause + Drop> Source for PausedSource<P> {
     ghost bytes = { λ s. told_bytes s.source };
 
     ghost place = { λ s. s.source.place };
@@ -34,9 +38,8 @@ impl Source for PausedSource {
 
     fn read(&mut self, buf: &mut [u8]) -> Result<usize, Failed> {
         if self.rewound {
-            self.rewound = false;
             if let Some(party) = self.party {
-                self.meeting.hold(party);
+                self.pause.at_read(party, buf.len());
             }
         }
         self.source.read(buf)
@@ -48,8 +51,8 @@ impl Source for PausedSource {
     }
 }
 
-impl Files for PausedFiles {
-    type Src = PausedSource;
+impl<P: Pause + Drop> Files for PausedFiles<P> {
+    type Src = PausedSource<P>;
 
     ghost world = { λ f. told_world f.files };
 
@@ -59,11 +62,11 @@ impl Files for PausedFiles {
 
     ghost given = { λ f. f.files.given };
 
-    fn fetch(&mut self, name: &Text) -> Result<PausedSource, FetchFault> {
-        let Ok(meeting) = Arc::try_clone(&self.meeting) else {
+    fn fetch(&mut self, name: &Text) -> Result<PausedSource<P>, FetchFault> {
+        let Ok(pause) = Arc::try_clone(&self.pause) else {
             return Err(FetchFault::Memory);
         };
-        // the script is fetched first, and then the two sources
+        // the script is fetched first
         let party = self.fetched.checked_sub(1);
         self.fetched = self.fetched.saturating_add(1);
         match self.files.fetch(name) {
@@ -71,18 +74,18 @@ impl Files for PausedFiles {
                 source,
                 party,
                 rewound: false,
-                meeting,
+                pause,
             }),
             Err(fault) => Err(fault),
         }
     }
 
-    fn close(&mut self, source: PausedSource) {
+    fn close(&mut self, source: PausedSource<P>) {
         let PausedSource {
             source,
             party: _,
             rewound: _,
-            meeting: _,
+            pause: _,
         } = source;
         self.files.close(source);
     }

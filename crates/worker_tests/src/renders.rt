@@ -56,7 +56,7 @@ fn two_workers_run_at_once(rt: HostRuntime) -> Result<(), Fail> {
     let mut files = PausedFiles {
         files: files_of(alloc, BOTH, &[])?,
         fetched: 0,
-        meeting: Arc::try_clone(&meeting)?,
+        pause: Arc::try_clone(&meeting)?,
     };
     let left = run_together(&rt, alloc, &words, &mut files, 999, &OpenGate)?;
     assert!(rt; left.status == 0 && left.out.bytes() == INTERLEAVED);

@@ -21,8 +21,19 @@ pub fn files_in_pieces(
     trips: &[Trip],
     piece: usize,
 ) -> Result<MemFiles, AllocError> {
+    files_with(alloc, script, CLIP, trips, piece)
+}
+
+// The same with this clip.
+pub fn files_with(
+    alloc: Global,
+    script: &[u8],
+    clip: &[u8],
+    trips: &[Trip],
+    piece: usize,
+) -> Result<MemFiles, AllocError> {
     let mut files = MemFiles::new(alloc);
-    for (name, bytes, trips) in [("s.avs", script, &[]), ("m4.y4m", CLIP, trips)] as [(
+    for (name, bytes, trips) in [("s.avs", script, &[]), ("m4.y4m", clip, trips)] as [(
         &str,
         &[u8],
         &[Trip],
