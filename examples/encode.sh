@@ -4,7 +4,8 @@
 #     examples/encode.sh VIDEO SCRIPT OUT.mkv [SECOND] [OPTION OF x264 ..]
 #
 # The script reads Y4MSource(file): here `file` is the stream that ffmpeg makes of VIDEO, in 4:2:0, of 10 bits where the video has
-# more than 8, else of 8. SECOND is where in VIDEO the clip of the script begins, 0 if it isn't given: the sound begins there. With
+# more than 8, else of 8, without the last row or column of an odd size. SECOND is where in VIDEO the clip of the script begins, 0 if it
+# isn't given: the sound begins there, and goes on as it is, also where the script leaves frames out in the middle. With
 # `Trim(180, 0)` at 25 frames a second it is 7.2. Range, matrix, primaries and transfer are those of VIDEO. Where x264 isn't
 # installed, ffmpeg encodes by libx264, with the same options.
 #
@@ -23,6 +24,11 @@ if [ $# -gt 0 ] && [[ $1 =~ ^[0-9]+(\.[0-9]+)?$ ]]; then
     second=$1
     shift
 fi
+[ $# -eq 0 ] || [[ $1 = -* ]] || fail "$1: SECOND is a number such as 7.2, and options follow it"
+case ${out##*.} in
+mkv | mp4 | mov | m4v) ;;
+*) fail "$out: the name has to end in .mkv, .mp4, .mov or .m4v" ;;
+esac
 [ -f "$video" ] || fail "$video: no such file"
 [ -f "$script" ] || fail "$script: no such file"
 [ ! -e "$out" ] || fail "$out: it is there already"
@@ -33,7 +39,7 @@ trap 'rm -rf "$room"' EXIT
 
 # What the video is.
 asked=$(ffprobe -v error -select_streams v:0 -of default=nw=1 "file:$video" \
-    -show_entries stream=pix_fmt,color_range,color_space,color_transfer,color_primaries)
+    -show_entries stream=width,height,pix_fmt,color_range,color_space,color_transfer,color_primaries)
 [ -n "$asked" ] || fail "$video: it has no picture"
 what() {
     local value
@@ -42,18 +48,23 @@ what() {
 }
 pixels=$(what pix_fmt) range=$(what color_range) matrix=$(what color_space)
 transfer=$(what color_transfer) primaries=$(what color_primaries)
-convert=()
-# Without this ffmpeg may convert full range to limited.
-[ "$range" != pc ] || convert=(-vf scale=in_range=pc:out_range=pc)
+width=$(what width) height=$(what height)
+# Chroma of 4:2:0 has half the columns and rows.
+convert='crop=trunc(iw/2)*2:trunc(ih/2)*2'
 case $pixels in
-*rgb* | *bgr* | gbr*) range=tv matrix=bt709 convert=(-vf scale=out_color_matrix=bt709:out_range=tv) ;;
+*rgb* | *bgr* | gbr*) range=tv matrix=bt709 convert=$convert,scale=out_color_matrix=bt709:out_range=tv ;;
+*)
+    # Without this ffmpeg may convert full range to limited.
+    [ "$range" != pc ] || convert=$convert,scale=in_range=pc:out_range=pc
+    ;;
 esac
 case $pixels in
-*p9?? | *p1[0-6]?e | gray9* | gray1[0-6]* | *48?e | *64?e | p01* | x2*) format=yuv420p10le ;;
-*) format=yuv420p ;;
+*p9?? | *p1[0-6]?e | gray9* | gray1[0-6]* | *48?e | *64?e | p01* | x2*) format=yuv420p10le bytes=2 ;;
+*) format=yuv420p bytes=1 ;;
 esac
+[ $((width * height * bytes * 3 / 2)) -le 16777216 ] || fail "$video: a frame of ${width}x$height is too large, scale it down by ffmpeg"
 
-ffmpeg -nostdin -v error -i "file:$video" -map 0:v:0 ${convert[@]+"${convert[@]}"} -pix_fmt $format -strict -1 "file:$room/in.y4m"
+ffmpeg -nostdin -v error -i "file:$video" -map 0:v:0 -vf "$convert" -pix_fmt $format -strict -1 "file:$room/in.y4m"
 printf 'file = """%s"""\nImport("""%s""")\n' "$room/in.y4m" "$script" >"$room/s.avs"
 "$avsserve" info "$room/s.avs" >"$room/info.txt"
 read -r _ _ pixels rate _ frames <"$room/info.txt"

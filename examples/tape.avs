@@ -5,7 +5,7 @@ width = last.Width
 height = last.Height
 Crop(4, 2, -4, -2)
 ConvertBits(10)
-TemporalSoften(2, 16, 32)           # a sample of ten bits differs by four times as much
+TemporalSoften(2, 4, 8)             # thresholds are as for 8 bits
 GeneralConvolution(0, "0 1 0  1 12 1  0 1 0")
 AddBorders(4, 2, width - last.Width - 4, height - last.Height - 2)
 Limiter

@@ -35,6 +35,7 @@ ffmpeg "${quiet[@]}" -f lavfi -i testsrc2=s=64x36:r=25:d=0.4 -vf scale=out_range
     -color_range pc -colorspace bt709 -color_primaries bt709 -color_trc bt709 -c:v libx264 -qp 0 full.mkv
 ffmpeg "${quiet[@]}" -f lavfi -i testsrc2=s=64x36:r=25:d=0.4 -pix_fmt yuv420p10le -c:v libx264 -qp 0 ten.mkv
 ffmpeg "${quiet[@]}" -f lavfi -i testsrc2=s=64x48:r=50:d=0.4 -vf interlace -c:v libx264 -qp 0 -flags +ilme+ildct fields.mkv
+ffmpeg "${quiet[@]}" -f lavfi -i testsrc2=s=63x35:r=25:d=0.4 -pix_fmt yuv444p -c:v ffv1 odd.mkv
 mkdir "to here"
 echo 'Y4MSource(file).Trim(30, 0)' >"a cut.avs"
 echo 'Y4MSource(file)' >copy.avs
@@ -62,6 +63,9 @@ cases() {
     "$encode" fields.mkv copy.avs "fields $1.mkv" 2>progress.txt || fail "$1: $(cat progress.txt)"
     found=$(ffprobe -v error -show_entries frame=interlaced_frame -of default=nk=1:nw=1 "fields $1.mkv" | sort -u)
     is "$1: fields" "$found" 1
+
+    "$encode" odd.mkv copy.avs "odd $1.mkv" --qp 0 2>progress.txt || fail "$1: $(cat progress.txt)"
+    is "$1: an odd size" "$(marks "odd $1.mkv" width,height)" "62 34"
 }
 
 # ends ARGUMENT ..: encode.sh fails, and leaves nothing.
@@ -93,4 +97,7 @@ ends none.mkv copy.avs out.mkv
 ends copy.avs copy.avs out.mkv
 ! have x264 || ends full.mkv copy.avs out.mkv --no-such-option
 ends full.mkv copy.avs "full libx264.mkv"
+ends full.mkv copy.avs out.webm
+ends full.mkv copy.avs out.mkv 2,52
+ends full.mkv copy.avs out.mkv 0:02.5 --crf 20
 echo "encode: sound, range, colours, bits and frames are those of the videos, and what fails leaves nothing"
