@@ -69,6 +69,9 @@ printf 'file = """%s"""\nImport("""%s""")\n' "$room/in.y4m" "$script" >"$room/s.
 "$avsserve" info "$room/s.avs" >"$room/info.txt"
 read -r _ _ pixels rate _ frames <"$room/info.txt"
 length=$(awk -v "n=$frames" -v "rate=$rate" 'BEGIN { split(rate, r, ":"); printf "%.6f", n * r[2] / r[1] }')
+lasts=$(ffprobe -v error -show_entries format=duration -of csv=p=0 "file:$video")
+awk -v "from=$second" -v "n=$length" -v "all=$lasts" 'BEGIN { exit !(all > 0 && from + n > all + 1) }' &&
+    echo "encode: from second $second on the clip is longer than $video: is that where it begins?" >&2
 depth=8
 case $pixels in
 *P10 | Y10) depth=10 ;;

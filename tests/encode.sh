@@ -90,6 +90,9 @@ encode=without
 cases libx264
 encode=$script
 
+"$encode" full.mkv copy.avs late.mkv 5 2>late.txt || fail "a late second: $(cat late.txt)"
+grep -q 'is that where it begins?' late.txt || fail "a late second: it says nothing"
+
 touch before.txt after.txt
 echo 'Y4MSource(file).Croq(1)' >wrong.avs
 ends full.mkv wrong.avs out.mkv
