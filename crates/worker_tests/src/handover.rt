@@ -11,15 +11,18 @@ use std::hint::spin_loop;
 use std::sync::Arc;
 use std::sync::atomic::{AtomicU64, Ordering};
 use std::test::Fail;
+use std::thread;
 
-// How often a worker that is held looks for the other: for a second or so.
+// How often a worker that is held looks for the other, for a second or so, and after how many looks it yields.
 const LOOKS: u64 = 50_000_000;
+
+const LOOKS_AT_ONCE: u64 = 2_000;
 
 // How many outputs a window has, by the scripts.
 const WINDOW: u64 = 32;
 
 // The longest pause. A worker that waits at the bell looks there 300 times before it sleeps.
-const LONGEST: u64 = 1_500;
+const LONGEST: u64 = 600;
 
 // A pause for each number. Those of numbers that follow each other differ much.
 fn pause(number: u64) {
@@ -53,9 +56,12 @@ impl Steps {
         if self.lost.load(Ordering::SeqCst) != 0 {
             return;
         }
-        for _ in 0..LOOKS {
+        for look in 0..LOOKS {
             if some.load(Ordering::SeqCst) >= wanted {
                 return;
+            }
+            if look % LOOKS_AT_ONCE == LOOKS_AT_ONCE - 1 {
+                thread::yield_now();
             }
             spin_loop();
         }
@@ -147,7 +153,7 @@ fn clip_of(alloc: Global, frames: u64) -> Result<Vec<u8>, AllocError> {
 #[test]
 fn who_waits_for_a_frame_is_woken(rt: HostRuntime) -> Result<(), Fail> {
     let alloc = rt.alloc();
-    let script = b"c = BlankClip(length=480, width=4, height=4)\nInterleave(c, c).Prefetch(2, 32)";
+    let script = b"c = BlankClip(length=1600, width=4, height=4)\nInterleave(c, c).Prefetch(2, 32)";
     let words = ["render", "s.avs"];
     let gate = OneFrame(Steps::new());
     let mut files = files_of(alloc, script, &[])?;
@@ -156,7 +162,7 @@ fn who_waits_for_a_frame_is_woken(rt: HostRuntime) -> Result<(), Fail> {
     let one = run_one(alloc, &words, &mut files, 999_999)?;
     let OneFrame(steps) = &gate;
     assert_eq!(rt; steps.lost.load(Ordering::SeqCst), 0);
-    assert_eq!(rt; steps.arrivals.load(Ordering::SeqCst), 480);
+    assert_eq!(rt; steps.arrivals.load(Ordering::SeqCst), 1_600);
     assert!(rt; many.status == 0 && one.status == 0);
     assert!(rt; many.out.bytes() == one.out.bytes());
     Ok(())
@@ -166,7 +172,7 @@ fn who_waits_for_a_frame_is_woken(rt: HostRuntime) -> Result<(), Fail> {
 fn who_waits_for_an_instance_is_woken(rt: HostRuntime) -> Result<(), Fail> {
     let alloc = rt.alloc();
     let script = b"Y4MSource(\"m4.y4m\").Prefetch(2, 32)";
-    let clip = clip_of(alloc, 480)?;
+    let clip = clip_of(alloc, 1_600)?;
     let gate = Arc::new(alloc, OneInstance(Steps::new()))?;
     let mut files = PausedFiles {
         files: files_with(alloc, script, &clip, &[], 99_999)?,
@@ -177,7 +183,7 @@ fn who_waits_for_an_instance_is_woken(rt: HostRuntime) -> Result<(), Fail> {
     let left = run_together(&rt, alloc, &words, &mut files, 99_999, &*gate)?;
     let OneInstance(steps) = &*gate;
     assert_eq!(rt; steps.lost.load(Ordering::SeqCst), 0);
-    assert_eq!(rt; steps.arrivals.load(Ordering::SeqCst), 480);
+    assert_eq!(rt; steps.arrivals.load(Ordering::SeqCst), 1_600);
     assert_eq!(rt; left.status, 0);
     assert!(rt; left.out.bytes() == clip.as_slice());
     Ok(())
