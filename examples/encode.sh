@@ -9,7 +9,8 @@
 # `Trim(180, 0)` at 25 frames a second it is 7.2. Range, matrix, primaries and transfer are those of VIDEO. Where x264 isn't
 # installed, ffmpeg encodes by libx264, with the same options.
 #
-# The stream is large, and lies beside OUT.mkv until the end. Where anything fails, so does this, and there is no OUT.mkv.
+# Sound is copied as it is, so PCM goes into .mkv or .mov, and not into .mp4. The stream is large, and lies beside OUT.mkv until the
+# end. Where anything fails, so does this, and there is no OUT.mkv.
 set -eu -o pipefail
 
 fail() {
@@ -41,6 +42,8 @@ trap 'rm -rf "$room"' EXIT
 asked=$(ffprobe -v error -select_streams v:0 -of default=nw=1 "file:$video" \
     -show_entries stream=width,height,pix_fmt,color_range,color_space,color_transfer,color_primaries)
 [ -n "$asked" ] || fail "$video: it has no picture"
+sound=$(ffprobe -v error -select_streams a:0 -show_entries stream=codec_name -of csv=p=0 "file:$video")
+case $out:$sound in *.mp4:pcm* | *.m4v:pcm*) fail "$out: $sound is no sound for it, .mkv and .mov take it" ;; esac
 what() {
     local value
     value=$(sed -n "s/^$1=//p" <<<"$asked")
@@ -70,7 +73,7 @@ printf 'file = """%s"""\nImport("""%s""")\n' "$room/in.y4m" "$script" >"$room/s.
 read -r _ _ pixels rate _ frames <"$room/info.txt"
 length=$(awk -v "n=$frames" -v "rate=$rate" 'BEGIN { split(rate, r, ":"); printf "%.6f", n * r[2] / r[1] }')
 lasts=$(ffprobe -v error -show_entries format=duration -of csv=p=0 "file:$video")
-awk -v "from=$second" -v "n=$length" -v "all=$lasts" 'BEGIN { exit !(all > 0 && from + n > all + 1) }' &&
+awk -v "from=$second" -v "n=$length" -v "all=$lasts" 'BEGIN { exit !(all + 0 > 0 && from > 0 && from + n > all + 1) }' &&
     echo "encode: from second $second on the clip is longer than $video: is that where it begins?" >&2
 depth=8
 case $pixels in

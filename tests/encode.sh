@@ -101,6 +101,8 @@ ends copy.avs copy.avs out.mkv
 ! have x264 || ends full.mkv copy.avs out.mkv --no-such-option
 ends full.mkv copy.avs "full libx264.mkv"
 ends full.mkv copy.avs out.webm
+ffmpeg "${quiet[@]}" -i "a film.mkv" -c:v copy -c:a pcm_s16le pcm.mkv
+ends pcm.mkv copy.avs out.mp4
 ends full.mkv copy.avs out.mkv 2,52
 ends full.mkv copy.avs out.mkv 0:02.5 --crf 20
 echo "encode: sound, range, colours, bits and frames are those of the videos, and what fails leaves nothing"
