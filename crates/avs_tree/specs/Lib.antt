@@ -6,3 +6,4 @@ pub mod Machine
 pub mod Place
 pub mod Laws
 pub mod Examples
+pub mod Sizes
