@@ -26,4 +26,5 @@ pub mod OnePlace
 pub mod OneTree
 pub mod Examples
 pub mod Ends
+pub mod SizeLemmas
 pub mod CallerLemmas

@@ -1,11 +1,12 @@
 -- The laws of this crate: the verdict of the machine is what the grammar of avs_tree says, and a place is the only one.
-use Rattle.std.specs.Prelude.{◌≡◌, ◌≤◌, ℕ, [], ◌∷◌, ◌++◌}
+use Rattle.std.specs.Prelude.{◌≡◌, ◌≤◌, ℕ, suc, length, [], ◌∷◌, ◌++◌}
 use Rattle.avs_tree.specs.declared.symbol.Symbol.TheVariants as s
 use Rattle.avs_tree.specs.declared.symbol.Punctuation.TheVariants as m
 use Rattle.avs_tree.specs.Lexeme.{Lexeme, Lexemes}
 use Rattle.avs_tree.specs.Tree.{Script}
 use Rattle.avs_tree.specs.Grammar.{IsScript, script_nesting, nesting_limit}
 use Rattle.avs_tree.specs.Machine.{State, advance}
+use Rattle.avs_tree.specs.Sizes.{IsScriptShort}
 use Rattle.avs_tree.specs.Place.{verdict, Answers, accepts, stops, StopsAt, DeepAt}
 
 -- The verdict on tokens is right.
@@ -33,3 +34,7 @@ EndIsTold = (before : Lexemes) (last : Lexeme) → last.0 ≡ s.Punctuation m.En
 -- What a token does depends on no token after it.
 abbrev pub OneToken : Type 0
 OneToken = (state : State) (token : Lexeme) (ts us : Lexemes) → advance state (token ∷ ts) ≡ advance state (token ∷ us)
+
+-- No statement of a script has as many expressions as the script has tokens, its end among them.
+abbrev pub ScriptsAreShort : Type 0
+ScriptsAreShort = (most : ℕ) (ts : Lexemes) (tree : Script) → IsScript ts tree → length ts ≤ suc most → IsScriptShort most tree

@@ -1,6 +1,6 @@
 // Laws on the place of a fault, each the contract of a function with an empty body.
 ghost use Rattle.avs_tree.specs.Grammar.{OneTree};
-ghost use Rattle.avs_tree.specs.Laws.{Exact, Accepted, OneStop, OneDeep, NeverBoth, EndIsTold, OneToken};
+ghost use Rattle.avs_tree.specs.Laws.{Exact, Accepted, OneStop, OneDeep, NeverBoth, EndIsTold, OneToken, ScriptsAreShort};
 ghost use Rattle.avs_tree.specs.Examples.{Examples};
 
 /// The token that the machine names is the first one such that no script begins with the tokens up to it, or the one at which
@@ -34,6 +34,11 @@ pub fn end_is_told()
 /// What a token does depends on no token after it.
 pub fn one_token()
     ensures { OneToken }
+{}
+
+/// A statement has fewer expressions than its script has tokens.
+pub fn scripts_are_short()
+    ensures { ScriptsAreShort }
 {}
 
 /// The places of the faults in the scripts of a table.
