@@ -1,6 +1,7 @@
 -- The number of a token is at most the offset at which it starts, and so it fits into 32 bits.
 use Rattle.std.proofs.Common.{◌≡◌, inl, inr, ℕ, zero, suc, ◌+◌, ◌-◌, ◌<◌, ◌≤◌, refl, ap, subst, arith, List, [], ◌∷◌, length, slice_index_or, take, drop, add-one, nat_lt}
 use Rattle.std.proofs.lemmas.Bool.Decides.{nat_tests}
+use Rattle.std.proofs.lemmas.List.{length-map}
 use Rattle.avs_lex.specs.declared.token.Token.{Token}
 use Rattle.avs_lex.specs.declared.token.TokenKind.{TokenKind}
 use Rattle.avs_lex.specs.declared.token.TokenKind.TheVariants.{Ident, Int, Str, Newline, End, LeftParen, RightParen, LeftBrace, RightBrace, Comma, Dot, Assign, Equal, NotEqual, Less, LessEqual, Greater, GreaterEqual, Plus, PlusPlus, Minus, Times, Divide, Remainder, AndAnd, OrOr, Not, Question, Colon}
@@ -8,6 +9,10 @@ use Rattle.avs_lex.specs.Spelling.{Text, Spells}
 use Rattle.avs_lex.specs.Tokens.{bytes_of, IsTokenOf, IsTokenList}
 use Rattle.avs_tree.specs.Lexeme.{lexeme_of, lexemes, line_of}
 use Rattle.avs_lex.proofs.CallerLemmas.{either}
+use Rattle.avs_tree.specs.Tree.{Script}
+use Rattle.avs_tree.specs.Grammar.{HasTree}
+use Rattle.avs_tree.specs.Sizes.{IsScriptShort}
+use Rattle.avs_tree.proofs.CallerLemmas.{script_fits}
 
 -- only the end is spelled as nothing
 nothing_spells : (kind : TokenKind) → Spells kind [] → kind ≡ End
@@ -65,3 +70,20 @@ unfolding lexeme_of
 line_is text [] k few d = absurd (omega (arith, few))
 line_is text (t ∷ ts) zero few d = refl
 line_is text (t ∷ ts) (suc k) few d = line_is text ts k (omega (arith, few)) d
+
+-- a text has at most one token more than it has bytes, the end
+few_tokens : (text : Text) (tokens : List Token) → IsTokenList text tokens → length tokens ≤ suc (length text)
+few_tokens text [] list = omega arith
+few_tokens text (t ∷ ts) list =
+    let low = number_below text (t ∷ ts) list (length ts) t (omega arith) in
+    let last = list.each (length ts) t (omega arith) in
+    let ordered = last.ordered in
+    let inside = last.inside in
+    omega (arith, low, ordered, inside)
+
+-- no statement of a text has more expressions than the text has bytes
+pub short_script : (text : Text) (tokens : List Token) (tree : Script) → IsTokenList text tokens → HasTree (lexemes text tokens) tree → IsScriptShort (length text) tree
+short_script text tokens tree list has =
+    let few = few_tokens text tokens list in
+    let same = length-map tokens (lexeme_of text) in
+    script_fits (length text) (lexemes text tokens) tree has.derived (omega (arith, few, same))

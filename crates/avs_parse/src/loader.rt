@@ -1,6 +1,8 @@
 // `load`: the tree of a text, with the line of its end.
-ghost use Rattle.std.specs.Prelude.{◌≡◌, ◌<◌, ◌-◌, ◌^◌, length};
+ghost use Rattle.std.specs.Prelude.{◌≡◌, ◌<◌, ◌-◌, ◌^◌, length, IfOk};
 ghost use Rattle.avs_lex.specs.Tokens.{IsTokenList, Tokens};
+ghost use Rattle.avs_tree.specs.Sizes.{IsScriptShort};
+ghost use Rattle.avs_tree.specs.View.{script_view};
 ghost use Rattle.avs_parse.specs.Load.{script_of, last_line};
 ghost use Rattle.avs_parse.specs.Loads.{Loads, of_text, of_tokens};
 
@@ -49,11 +51,12 @@ fn fault_of_text(fault: LexError) -> LoadFault
 }
 
 // The tree of a text with these tokens, or the first fault of them.
-#[tactic(auto, using(crate::proofs::LoadLemmas::tree_is))]
+#[tactic(auto, using(crate::proofs::LoadLemmas::tree_is, crate::proofs::NumberLemmas::short_script))]
 fn tree_of(alloc: Global, text: &str, tokens: &[Token]) -> Result<Loaded, LoadFault>
     requires tokens { Tokens text.now tokens.now }
     requires list { IsTokenList text.now tokens.now }
-    ensures { Loads (script_of text.now) result }
+    ensures tree { Loads (script_of text.now) result }
+    ensures short { IfOk result (λ loaded. IsScriptShort (length text.now) (script_view loaded.script)) }
 {
     match parse(alloc, text, tokens) {
         Ok(script) => {
@@ -67,7 +70,9 @@ fn tree_of(alloc: Global, text: &str, tokens: &[Token]) -> Result<Loaded, LoadFa
 /// The tree of a text, or its first fault.
 pub fn load(alloc: Global, text: &str) -> Result<Loaded, LoadFault>
     requires { length text.now < 2 ^ 32 - 1 }
-    ensures { Loads (script_of text.now) result }
+    ensures tree { Loads (script_of text.now) result }
+    // No statement has more expressions and method calls than the text has bytes.
+    ensures short { IfOk result (λ loaded. IsScriptShort (length text.now) (script_view loaded.script)) }
 {
     match lex(alloc, text) {
         Ok(tokens) => tree_of(alloc, text, &tokens),

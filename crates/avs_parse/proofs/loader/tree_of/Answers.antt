@@ -4,5 +4,5 @@ use Rattle.avs_parse.specs.Loads.{Loads}
 use Rattle.avs_parse.proofs.LoadLemmas.{loads_tokens}
 use Rattle.avs_parse.proofs.loader.tree_of.Goals as goal
 
-pub returns-in-Err : goal.returns-in-Err
-returns-in-Err c = subst (λ z. Loads (script_of c.args.text.now) (Err z)) (sym c.fault_of_tokens.ensures) (loads_tokens c.args.text.now c.args.tokens.now c.requires.tokens c.in-Err.fault c.in-Err.ensures.place c.in-Err.ensures.line)
+pub returns-in-Err-clause-tree : goal.returns-in-Err-clause-tree
+returns-in-Err-clause-tree c = subst (λ z. Loads (script_of c.args.text.now) (Err z)) (sym c.fault_of_tokens.ensures) (loads_tokens c.args.text.now c.args.tokens.now c.requires.tokens c.in-Err.fault c.in-Err.ensures.place c.in-Err.ensures.line)
