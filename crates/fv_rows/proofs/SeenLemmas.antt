@@ -2,8 +2,8 @@
 use Rattle.std.proofs.Common.{◌≡◌, ℕ, ◌+◌, ◌-◌, ◌*◌, ◌<◌, ◌≤◌, List, [], ◌∷◌, ◌++◌, length, get_or, take, drop, map, refl, sym, ◌∙◌, ap, arith, Bool, true, false}
 use Rattle.std.specs.Prelude.{reverse, not}
 use Rattle.std.proofs.lemmas.List.{append_assoc, reverse-append, reverse-reverse, length-reverse, get_or-reverse, map-append, take-append-drop, take_at, drop_at, length-drop, length-take-le}
-use Rattle.fv_rows.specs.Rows.{rows_of, rows_part, width_of, seen, first_stored}
-use Rattle.fv_rows.proofs.RowLemmas.{length-rows_of}
+use Rattle.fv_rows.specs.Rows.{rows_of, rows_part, width_of, seen, first_stored, flat_rows, IsPlane}
+use Rattle.fv_rows.proofs.RowLemmas.{length-rows_of, length-flat_rows}
 use Rattle.fv_rows.proofs.PartLemmas.{width-rows_of}
 
 -- as many rows are seen as there are
@@ -67,11 +67,24 @@ part-seen true rows x y w h within =
     sym (ap (map cut) (run-reverse rows y h within) ∙ map-reverse cut (take h (drop (length rows - y - h) rows)))
 part-seen false rows x y w h within = refl
 
--- the rows that are seen have the width of those that are stored
-pub width-seen : (upwards : Bool) (bytes : List ℕ) (offset stride width height : ℕ) → 0 < height → ((y : ℕ) → y < height → offset + y * stride + width ≤ length bytes)
-    → width_of (seen upwards (rows_of (drop offset bytes) stride width height)) ≡ width
-width-seen upwards bytes offset stride width height some ends =
+-- the rows that are seen have the sizes of those that are stored
+pub IsPlane-seen : (upwards : Bool) (bytes : List ℕ) (offset stride width height : ℕ) → ((y : ℕ) → y < height → offset + y * stride + width ≤ length bytes)
+    → IsPlane width height (seen upwards (rows_of (drop offset bytes) stride width height))
+IsPlane-seen upwards bytes offset stride width height ends =
     let rows : List (List ℕ) = rows_of (drop offset bytes) stride width height in
     let high : length rows ≡ height = length-rows_of (drop offset bytes) stride width height in
-    ap length (row-seen upwards rows 0 (omega (arith, high)))
-    ∙ width-rows_of bytes offset stride width height (first_stored upwards (length rows) 0 1) (omega (arith, high, inside-stored upwards (length rows) 0 1 (omega (arith, high)))) ends
+    record {
+      count = length-seen upwards rows ∙ high;
+      widths = λ y within.
+          ap length (row-seen upwards rows y (omega (arith, high, within)))
+          ∙ width-rows_of bytes offset stride width height (first_stored upwards (length rows) y 1) (omega (arith, high, inside-stored upwards (length rows) y 1 (omega (arith, high, within)))) ends;
+    }
+
+pub width-seen : (upwards : Bool) (bytes : List ℕ) (offset stride width height : ℕ) → 0 < height → ((y : ℕ) → y < height → offset + y * stride + width ≤ length bytes)
+    → width_of (seen upwards (rows_of (drop offset bytes) stride width height)) ≡ width
+width-seen upwards bytes offset stride width height some ends = (IsPlane-seen upwards bytes offset stride width height ends).widths 0 some
+
+-- and lie in bytes that are no fewer
+pub rows_large : (upwards : Bool) (bytes : List ℕ) (offset stride width height : ℕ) → ((y : ℕ) → y < height → offset + y * stride + width ≤ length bytes) → height * width ≤ length bytes
+    → length (flat_rows (seen upwards (rows_of (drop offset bytes) stride width height))) ≤ length bytes
+rows_large upwards bytes offset stride width height ends large = omega (arith, large, length-flat_rows width height _ (IsPlane-seen upwards bytes offset stride width height ends))

@@ -65,8 +65,8 @@ impl Model for Plane {
     ghost view = { λ p. seen p.upwards
         (rows_of (drop p.offset (arc_value p.bytes).items) p.stride p.width p.height) };
 
-    ghost invariant = { λ p. (y : ℕ) → y < p.height
-        → p.offset + y * p.stride + p.width ≤ length (arc_value p.bytes).items };
+    ghost invariant = { λ p. ((y : ℕ) → y < p.height → p.offset + y * p.stride + p.width ≤ length (arc_value p.bytes).items)
+        × (p.height * p.width ≤ length (arc_value p.bytes).items) };
 }
 
 impl Plane {
@@ -204,7 +204,8 @@ impl Plane {
         *bytes.allocator()
     }
 
-    /// The bytes that the plane lies in, where nothing else shares them.
+    /// The bytes that the plane lies in, where nothing else shares them. There are at least as many as its rows have.
+    #[tactic(auto, using(crate::proofs::SeenLemmas::rows_large))]
     pub fn into_vec(self) -> Option<Vec<u8>>
         ensures { IfSome result (λ bytes. LiesIn bytes.items self) }
     {

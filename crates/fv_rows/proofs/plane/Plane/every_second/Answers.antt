@@ -2,7 +2,7 @@ use Rattle.std.proofs.Common.{rules, ◌≡◌, ◌<◌, ◌≤◌, ◌+◌, ◌
 use Rattle.std.specs.Arc.{arc_value}
 use Rattle.std.proofs.lemmas.Nat.{mul-le}
 use Rattle.fv_rows.specs.Rows.{rows_of, seen, every_second, second_stored}
-use Rattle.fv_rows.proofs.RowLemmas.{length-rows_of}
+use Rattle.fv_rows.proofs.RowLemmas.{length-rows_of, times_le}
 use Rattle.fv_rows.proofs.SeenLemmas.{length-seen}
 use Rattle.fv_rows.proofs.SecondLemmas.{seconds, second_ends, start_few}
 use Rattle.fv_rows.proofs.plane.Plane.every_second.Goals as goal
@@ -20,7 +20,7 @@ even c = let same = high c in ap (λ n. n % 2) (sym same) ∙ c.requires.even
 
 -- the second row is there
 second : (c : After-len) → c.self.inside.offset + 1 * c.self.inside.stride + c.self.inside.width ≤ length c.self.inside.bytes.value.items
-second c = c.self.invariant 1 (omega (arith, even c, high c, c.requires.some))
+second c = c.self.invariant.0 1 (omega (arith, even c, high c, c.requires.some))
 
 pub overflow_add-result : goal.overflow_add-result
 overflow_add-result c =
@@ -41,8 +41,9 @@ invariant_of-result c =
     let same : (arc_value c.in_ok-try_clone.field-0).items ≡ p.bytes.value.items = search rules in
     let s = second_stored p.upwards c.args.from in
     rw c.second_stored-first.ensures
-    (subst (λ (l : List ℕ). (y : ℕ) → y < p.height / 2 → p.offset + s * p.stride + y * (2 * p.stride) + p.width ≤ length l) (sym same)
-    (second_ends p.offset p.stride p.width p.height s (length p.bytes.value.items) (start_few p.upwards c.args.from c.requires.first) c.self.invariant))
+    (subst (λ (l : List ℕ). ((y : ℕ) → y < p.height / 2 → p.offset + s * p.stride + y * (2 * p.stride) + p.width ≤ length l) × (p.height / 2 * p.width ≤ length l)) (sym same)
+    (second_ends p.offset p.stride p.width p.height s (length p.bytes.value.items) (start_few p.upwards c.args.from c.requires.first) c.self.invariant.0,
+    omega (arith, times_le (p.height / 2) p.height p.width (omega arith), c.self.invariant.1)))
 
 pub returns : goal.returns
 returns c =

@@ -25,7 +25,7 @@ first_stored-requires c = omega (arith, inside (goal.at.first_stored-requires c)
 pub row_in-requires : goal.row_in-requires
 row_in-requires c =
     let at = (goal.at.row_in-requires c).After-as_slice in
-    rw (c.first_stored.ensures, c.as_slice.ensures.value, c.deref.ensures) (c.self.invariant (first_stored c.self.inside.upwards c.self.inside.height c.args.y 1) (below at))
+    rw (c.first_stored.ensures, c.as_slice.ensures.value, c.deref.ensures) (c.self.invariant.0 (first_stored c.self.inside.upwards c.self.inside.height c.args.y 1) (below at))
 
 pub returns : goal.returns
 returns c =

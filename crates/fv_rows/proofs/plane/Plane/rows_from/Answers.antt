@@ -27,7 +27,7 @@ rows_in-bytes-requires-clause-whole c =
     let p = c.self.inside in
     rw (c.as_slice.ensures.value, c.deref.ensures)
     (all_ends p.offset p.width p.height (length p.bytes.value.items)
-    (subst (λ (s : ℕ). (y : ℕ) → y < p.height → p.offset + y * s + p.width ≤ length p.bytes.value.items) c.if-self-2.false c.self.invariant)
+    (subst (λ (s : ℕ). (y : ℕ) → y < p.height → p.offset + y * s + p.width ≤ length p.bytes.value.items) c.if-self-2.false c.self.invariant.0)
     (omega (arith, inside c)))
 
 pub overflow_sub-result : goal.overflow_sub-result

@@ -1,5 +1,6 @@
 use Rattle.std.proofs.Common.{rules, ◌≡◌, ◌<◌, ◌≤◌, ◌+◌, ◌*◌, ℕ, List, length, drop, ap, sym, ◌∙◌, subst, arith}
 use Rattle.std.specs.Arc.{arc_value}
+use Rattle.std.proofs.lemmas.Nat.{mul-le}
 use Rattle.fv_rows.specs.Rows.{rows_of, rows_part, width_of, seen, first_stored}
 use Rattle.fv_rows.proofs.RowLemmas.{length-rows_of}
 use Rattle.fv_rows.proofs.PartLemmas.{part-rows_of, part_ends}
@@ -29,11 +30,11 @@ across : (c : After-len) → c.args.x + c.args.width ≤ c.self.inside.width
 across c =
     let p = c.self.inside in
     let wide : width_of c.args.self.now ≡ p.width
-    = ap width_of (sym c.self.view_is) ∙ width-seen p.upwards p.bytes.value.items p.offset p.stride p.width p.height (omega (arith, c.requires.some, down c)) c.self.invariant in
+    = ap width_of (sym c.self.view_is) ∙ width-seen p.upwards p.bytes.value.items p.offset p.stride p.width p.height (omega (arith, c.requires.some, down c)) c.self.invariant.0 in
     omega (arith, c.requires.across, wide)
 
 start : (c : After-len) → c.self.inside.offset + first c * c.self.inside.stride + c.args.x ≤ length c.self.inside.bytes.value.items
-start c = omega (arith, c.self.invariant (first c) (omega (arith, c.requires.some, ends c)), across c)
+start c = omega (arith, c.self.invariant.0 (first c) (omega (arith, c.requires.some, ends c)), across c)
 
 pub first_stored-first-requires : goal.first_stored-first-requires
 first_stored-first-requires c = down (goal.at.first_stored-first-requires c).After-len
@@ -59,8 +60,9 @@ invariant_of-result c =
     let at = (goal.at.invariant_of-result c).After-len in
     let same : (arc_value c.in_ok-try_clone.field-0).items ≡ p.bytes.value.items = search rules in
     rw c.first_stored-first.ensures
-    (subst (λ (l : List ℕ). (k : ℕ) → k < c.args.height → p.offset + first at * p.stride + c.args.x + k * p.stride + c.args.width ≤ length l) (sym same)
-    (part_ends p.offset p.stride p.width p.height c.args.x (first at) c.args.width c.args.height (length p.bytes.value.items) c.self.invariant (across at) (ends at)))
+    (subst (λ (l : List ℕ). ((k : ℕ) → k < c.args.height → p.offset + first at * p.stride + c.args.x + k * p.stride + c.args.width ≤ length l) × (c.args.height * c.args.width ≤ length l)) (sym same)
+    (part_ends p.offset p.stride p.width p.height c.args.x (first at) c.args.width c.args.height (length p.bytes.value.items) c.self.invariant.0 (across at) (ends at),
+    omega (arith, mul-le c.args.height c.args.width p.height p.width (omega (arith, ends at)) (omega (arith, across at)), c.self.invariant.1)))
 
 pub returns : goal.returns
 returns c =
