@@ -7,9 +7,9 @@ use Rattle.fv_plane.specs.declared.format.Shape.{Shape}
 use Rattle.std.proofs.lemmas.Nat.{mul-le}
 use Rattle.fv_plane.specs.declared.format.TheConstants.Shape.{MAX_BYTES}
 use Rattle.fv_plane.specs.Format.{IsLegal, HasSamePlane, planes, plane_width, plane_height, row_bytes, sample_bytes, frame_samples, sub_w, sub_h, largest_sample}
-use Rattle.fv_rows.specs.Rows.{IsPlane, rows_of, rows_put, bytes_put, flat_rows, width_of}
-use Rattle.fv_plane.specs.Picture.{Picture, IsPicture, with_row, with_rows, bytes_of_row, row_of_bytes, bytes_of_rows, rows_of_bytes, decoded_rows, chroma_list, frame_of, AreWhole, IsStored, FitBytes}
-use Rattle.fv_rows.proofs.RowLemmas.{IsPlane-rows_of, IsPlane-other, rows_of-like, times-like, put_one}
+use Rattle.fv_rows.specs.Rows.{IsPlane, LiesIn, rows_of, rows_put, bytes_put, flat_rows, width_of}
+use Rattle.fv_plane.specs.Picture.{Picture, IsPicture, with_row, with_rows, bytes_of_row, row_of_bytes, bytes_of_rows, rows_of_bytes, decoded_rows, chroma_list, frame_of, plane_list, AreWhole, IsStored, FitBytes, HoldsPlane}
+use Rattle.fv_rows.proofs.RowLemmas.{IsPlane-rows_of, length-flat_rows, IsPlane-other, rows_of-like, times-like, put_one}
 use Rattle.fv_plane.proofs.PictureLemmas.{IsPlane-rows_put, bounded-rows_put, IsPicture-set}
 use Rattle.fv_plane.proofs.BytesLemmas.{bytes-row_of_bytes, bytes_of_rows-decoded, get_or-decoded, IsPlane-decoded, IsPlane-stored, bounded-decoded, fits-bytes, decoded-rows_put, decoded-same, whole_none, whole-rows_of, whole-put, whole-same}
 
@@ -193,3 +193,19 @@ one_row picture p y row is within inside long =
 pub frame_is : (shape : Shape) (luma : List (List ℕ)) (chroma : Option (List (List ℕ) × List (List ℕ))) (y : List (List ℕ)) (uv : List (List (List ℕ)))
     → decoded_rows shape luma ≡ y → map (decoded_rows shape) (chroma_list chroma) ≡ uv → frame_of shape luma chroma ≡ record { shape = shape; planes = y ∷ uv }
 frame_is shape luma chroma y uv luma_is chroma_is = ap (λ l. record { shape = shape; planes = l }) (ap (λ l. l ∷ map (decoded_rows shape) (chroma_list chroma)) luma_is ∙ ap (λ l. y ∷ l) chroma_is)
+
+-- bytes in which the rows of a plane lie are no fewer than those of the plane
+pub holds_plane : (shape : Shape) (luma : List (List ℕ)) (chroma : Option (List (List ℕ) × List (List ℕ))) (p : ℕ) (bytes : List ℕ) → IsStored shape luma chroma
+    → p < length (plane_list luma chroma) → LiesIn bytes (get_or (plane_list luma chroma) p []) → HoldsPlane (frame_of shape luma chroma) bytes p
+holds_plane shape luma chroma p bytes are there lies =
+    let planes_of : List (List (List ℕ)) = plane_list luma chroma in
+    let rows : List (List ℕ) = get_or planes_of p [] in
+    let shown : decoded_rows shape rows ≡ get_or (map (decoded_rows shape) planes_of) p [] = sym (get_or-map (decoded_rows shape) planes_of p []) in
+    let sizes = are.picture.sizes p (omega (arith, there, length-map planes_of (decoded_rows shape))) in
+    let stored = IsPlane-stored shape (plane_width shape p) (plane_height shape p) rows (are.rows p) (subst (IsPlane (plane_width shape p) (plane_height shape p)) (sym shown) sizes) in
+    record {
+      rows = rows;
+      stored = lies;
+      shown = shown;
+      large = omega (arith, lies.large, length-flat_rows (row_bytes shape p) (plane_height shape p) rows stored);
+    }
