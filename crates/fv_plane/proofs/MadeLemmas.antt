@@ -1,5 +1,5 @@
 -- Planes that are made row by row.
-use Rattle.std.proofs.Common.{◌≡◌, ◌∙◌, ℕ, zero, suc, ◌+◌, ◌*◌, ◌<◌, ◌++◌, List, [], ◌∷◌, length, map, get_or, ap, sym, refl, subst, arith}
+use Rattle.std.proofs.Common.{◌≡◌, ◌∙◌, ℕ, zero, suc, ◌+◌, ◌*◌, ◌<◌, ◌++◌, List, [], ◌∷◌, length, map, get_or, ap, sym, subst, arith}
 use Rattle.std.specs.List.{flat_map}
 use Rattle.std.proofs.lemmas.Grind.{flat_map-append}
 use Rattle.std.proofs.lemmas.List.{append-nil}
@@ -10,7 +10,7 @@ use Rattle.fv_plane.specs.declared.format.Shape.{Shape}
 use Rattle.fv_plane.specs.Picture.{bytes_of_row, bytes_of_rows, decoded_rows, row_of_bytes, AreWhole, Look, picture_from, plane_from, row_from, Picture, IsPicture}
 use Rattle.fv_plane.specs.Format.{planes, plane_width, plane_height, row_bytes}
 use Rattle.fv_plane.specs.Made.{bytes_made, IsPlaneOf}
-use Rattle.fv_plane.proofs.BytesLemmas.{decoded-encoded, decoded-same, flat-encoded, row-bytes_of_row, whole_none, whole-same, IsPlane-encoded}
+use Rattle.fv_plane.proofs.BytesLemmas.{decoded-encoded, decoded-same, flat-encoded, row-bytes_of_row, whole_none, IsPlane-encoded}
 use Rattle.fv_plane.proofs.WindowLemmas.{get_or-picture_from, IsPlane-plane_from, plane_listed}
 
 one_row : (f : List ℕ → List ℕ) (row : List ℕ) → flat_map f (row ∷ []) ≡ f row

@@ -1,7 +1,7 @@
 // Spare memory.
-ghost use Rattle.std.specs.Prelude.{◌≡◌, ◌+◌, ◌*◌, ◌<◌, ◌≤◌, ◌↔◌, [], length, None, IsTrue};
+ghost use Rattle.std.specs.Prelude.{◌≡◌, ◌+◌, ◌*◌, ◌<◌, ◌≤◌, ◌↔◌, [], ℕ, length, None, IfSome, IsTrue};
 ghost use Rattle.fv_plane.specs.Format.{plane_bytes};
-ghost use Rattle.fv_spares.specs.Spares.{sizes_of, HasKept, Serves, Takes, TakesLuma, TakesChroma, HasPlane};
+ghost use Rattle.fv_spares.specs.Spares.{sizes_of, HasKept, HaveBytes, Serves, Takes, TakesLuma, TakesChroma, HasPlane};
 
 use fv_plane::{Frame, FrameMemory, Shape};
 use std::alloc::Global;
@@ -62,7 +62,8 @@ fn take_from(pieces: &mut Vec<Vec<u8>>, size: usize) -> Option<Vec<u8>>
 fn keep_in(pieces: &mut Vec<Vec<u8>>, most: usize, piece: Option<Vec<u8>>)
     requires bounded { length pieces.old.items ≤ most }
     ensures bounded { length pieces.new.items ≤ most }
-    ensures kept { HasKept most 1 (sizes_of pieces.old.items) (sizes_of pieces.new.items) }
+    ensures kept { (bytes : ℕ) → IfSome piece (λ it. bytes ≤ length it.items)
+        → HasKept most 1 bytes (sizes_of pieces.old.items) (sizes_of pieces.new.items) }
 {
     let Some(piece) = piece else {
         return;
@@ -98,11 +99,11 @@ impl Spares {
         self.luma.len() + self.chroma.len()
     }
 
-    /// Keeps the memory of those planes of a frame that no other frame shares. Where there is memory of 16 frames, what was
-    /// kept first is let go.
+    /// Keeps the memory of those planes of a frame that no other frame shares, as it is. Where there is memory of 16 frames,
+    /// what was kept first is let go.
     pub fn keep(&mut self, frame: Frame)
-        ensures luma { HasKept 16 1 self.old.luma self.new.luma }
-        ensures chroma { HasKept 32 2 self.old.chroma self.new.chroma }
+        ensures luma { HasKept 16 1 (plane_bytes frame.shape 0) self.old.luma self.new.luma }
+        ensures chroma { HasKept 32 2 (plane_bytes frame.shape 1) self.old.chroma self.new.chroma }
     {
         let FrameMemory { luma, u, v } = frame.into_memory();
         keep_in(&mut self.luma, MOST, luma);
@@ -112,8 +113,10 @@ impl Spares {
 
     /// Keeps the memory of each of these frames, as `keep` does.
     pub fn keep_all(&mut self, frames: Vec<Option<Frame>>)
-        ensures luma { HasKept 16 (length frames.items) self.old.luma self.new.luma }
-        ensures chroma { HasKept 32 (2 * length frames.items) self.old.chroma self.new.chroma }
+        ensures luma { (bytes : ℕ) → HaveBytes 0 bytes frames.items
+            → HasKept 16 (length frames.items) bytes self.old.luma self.new.luma }
+        ensures chroma { (bytes : ℕ) → HaveBytes 1 bytes frames.items
+            → HasKept 32 (2 * length frames.items) bytes self.old.chroma self.new.chroma }
     {
         // Called for what its contract says.
         self.len();

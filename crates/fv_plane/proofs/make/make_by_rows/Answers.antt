@@ -1,4 +1,4 @@
-use Rattle.std.proofs.Common.{◌≡◌, ◌∙◌, List, ℕ, ap, drop, map, sym, subst}
+use Rattle.std.proofs.Common.{◌≡◌, ◌∙◌, ap, drop, map, sym, subst}
 use Rattle.fv_plane.specs.declared.format.Shape.{Shape}
 use Rattle.fv_plane.specs.Picture.{chroma_list, decoded_rows, frame_of, Look, picture_from, Picture, IsPicture}
 use Rattle.fv_plane.proofs.BytesLemmas.{whole_first}

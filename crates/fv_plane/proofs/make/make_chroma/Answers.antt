@@ -1,8 +1,7 @@
-use Rattle.std.proofs.Common.{rules, ◌≡◌, ◌∙◌, List, ℕ, [], get_or, ap, sym}
+use Rattle.std.proofs.Common.{rules, ◌≡◌, ◌∙◌, [], get_or, ap}
 use Rattle.std.specs.Prelude.{◌≢◌}
-use Rattle.fv_plane.specs.declared.format.Shape.{Shape}
 use Rattle.fv_plane.specs.Format.{planes}
-use Rattle.fv_plane.specs.Picture.{Look, picture_from}
+use Rattle.fv_plane.specs.Picture.{picture_from}
 use Rattle.fv_plane.proofs.BytesLemmas.{whole_none, two_whole}
 use Rattle.fv_plane.proofs.WindowLemmas.{no_chroma, two_chroma}
 use Rattle.fv_plane.proofs.make.make_chroma.Goals as goal

@@ -1,9 +1,9 @@
-use Rattle.std.proofs.Common.{rules, ◌≡◌, ◌∙◌, ◌+◌, ◌*◌, ◌≤◌, ℕ, List, length, ap, sym, subst, arith}
+use Rattle.std.proofs.Common.{◌≡◌, ◌∙◌, ◌*◌, ℕ, List, length, ap, sym, subst, arith}
 use Rattle.std.proofs.lemmas.Result.{IfOk-weaker}
 use Rattle.std.specs.Arc.{arc_value}
 use Rattle.fv_rows.specs.Rows.{rows_of}
 use Rattle.fv_plane.specs.declared.format.Shape.{Shape}
-use Rattle.fv_plane.specs.Picture.{decoded_rows, AreWhole, bytes_of_rows, Look, picture_from, plane_from, Picture}
+use Rattle.fv_plane.specs.Picture.{decoded_rows, AreWhole, bytes_of_rows, Look, plane_from, Picture}
 use Rattle.fv_plane.specs.Format.{plane_width, plane_height, row_bytes}
 use Rattle.fv_plane.specs.Made.{IsPlaneOf}
 use Rattle.fv_plane.proofs.BytesLemmas.{whole-same}

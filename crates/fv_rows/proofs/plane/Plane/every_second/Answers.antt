@@ -41,9 +41,10 @@ invariant_of-result c =
     let same : (arc_value c.in_ok-try_clone.field-0).items ≡ p.bytes.value.items = search rules in
     let s = second_stored p.upwards c.args.from in
     rw c.second_stored-first.ensures
-    (subst (λ (l : List ℕ). ((y : ℕ) → y < p.height / 2 → p.offset + s * p.stride + y * (2 * p.stride) + p.width ≤ length l) × (p.height / 2 * p.width ≤ length l)) (sym same)
-    (second_ends p.offset p.stride p.width p.height s (length p.bytes.value.items) (start_few p.upwards c.args.from c.requires.first) c.self.invariant.0,
-    omega (arith, times_le (p.height / 2) p.height p.width (omega arith), c.self.invariant.1)))
+    (subst (λ (l : List ℕ). ((y : ℕ) → y < p.height / 2 → p.offset + s * p.stride + y * (2 * p.stride) + p.width ≤ length l) × (p.height / 2 * p.width ≤ length l)) (sym same) (
+      second_ends p.offset p.stride p.width p.height s (length p.bytes.value.items) (start_few p.upwards c.args.from c.requires.first) c.self.invariant.0,
+      omega (arith, times_le (p.height / 2) p.height p.width (omega arith), c.self.invariant.1),
+    ))
 
 pub returns : goal.returns
 returns c =

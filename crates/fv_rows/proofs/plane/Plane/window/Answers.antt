@@ -60,9 +60,10 @@ invariant_of-result c =
     let at = (goal.at.invariant_of-result c).After-len in
     let same : (arc_value c.in_ok-try_clone.field-0).items ≡ p.bytes.value.items = search rules in
     rw c.first_stored-first.ensures
-    (subst (λ (l : List ℕ). ((k : ℕ) → k < c.args.height → p.offset + first at * p.stride + c.args.x + k * p.stride + c.args.width ≤ length l) × (c.args.height * c.args.width ≤ length l)) (sym same)
-    (part_ends p.offset p.stride p.width p.height c.args.x (first at) c.args.width c.args.height (length p.bytes.value.items) c.self.invariant.0 (across at) (ends at),
-    omega (arith, mul-le c.args.height c.args.width p.height p.width (omega (arith, ends at)) (omega (arith, across at)), c.self.invariant.1)))
+    (subst (λ (l : List ℕ). ((k : ℕ) → k < c.args.height → p.offset + first at * p.stride + c.args.x + k * p.stride + c.args.width ≤ length l) × (c.args.height * c.args.width ≤ length l)) (sym same) (
+      part_ends p.offset p.stride p.width p.height c.args.x (first at) c.args.width c.args.height (length p.bytes.value.items) c.self.invariant.0 (across at) (ends at),
+      omega (arith, mul-le c.args.height c.args.width p.height p.width (omega (arith, ends at)) (omega (arith, across at)), c.self.invariant.1),
+    ))
 
 pub returns : goal.returns
 returns c =
