@@ -96,15 +96,16 @@ fn meet<R: Wait>(
     let (mut value, held) = lock.enter(rt, seat);
     let meeting = value.came / 4;
     value.came = value.came.wrapping_add(1);
-    let is_last = value.came % 4 == 0;
-    if is_last {
-        lock.bell().strike();
-    }
+    let stroke = if value.came % 4 == 0 {
+        Some(lock.bell().strike())
+    } else {
+        None
+    };
     let mut heard = lock.bell().strokes();
     let mut seat = lock.leave(held, value);
-    if is_last {
+    if let Some(stroke) = stroke {
         pause(number, turn, 1);
-        lock.bell().wake();
+        lock.bell().wake(stroke);
         return seat;
     }
     for _ in rt.forever() {

@@ -10,18 +10,18 @@ ghost use Rattle.serve_shared.specs.Seats.{seat_holdings, HasSeat, AtWork, Adds,
 ghost use Rattle.serve_shared.specs.Shares.{StopsNow};
 ghost use Rattle.serve_shared.specs.Turns.{TurnAsks, TurnEnters, TurnTakes, TurnPublishes, IsLent, HasStopped};
 
-use crate::steps::{Entry, Found, ask, enter, fail, publish, take};
+use crate::steps::{Entry, Found, ask, enter, fail, leave, publish, take};
 use fv_plane::{Frame, FrameMemory, Key};
 use inst_table::{Held, Lease};
 use serve_core::{Core, Worker, Works};
 use serve_machine::WindowStop;
 use std::sync::Wait;
-use turn_lock::{Bell, LockSeat, TurnLock};
+use turn_lock::{Bell, LockSeat, Stroke, TurnLock};
 
-// Wakes those who wait outside the lock after a turn that closed a worker's work.
-fn wake_stopped<T>(bell: &Bell, found: &Result<T, WindowStop>) {
-    if found.is_err() {
-        bell.wake();
+// Wakes those who wait outside the lock, after a turn with a stroke.
+fn wake_after(bell: &Bell, stroke: Option<Stroke>) {
+    if let Some(stroke) = stroke {
+        bell.wake(stroke);
     }
 }
 
@@ -42,9 +42,9 @@ pub(crate) fn ask_turn<R: Wait, I: Held>(
     let (mut core, turn) = lock.enter(rt, seat);
     // In a window the journal is a run.
     core.account();
-    let found = ask(&mut core, lock.bell(), worker.number(), key);
+    let (found, stroke) = ask(&mut core, lock.bell(), worker.number(), key);
     let seat = lock.leave(turn, core);
-    wake_stopped(lock.bell(), &found);
+    wake_after(lock.bell(), stroke);
     (seat, found)
 }
 
@@ -87,9 +87,9 @@ pub(crate) fn enter_turn<R: Wait, I: Works>(
     let (mut core, turn) = lock.enter(rt, seat);
     // In a window the journal is a run.
     core.account();
-    let (entry, memory) = enter(&mut core, lock.bell(), worker.number(), key);
+    let (entry, memory, stroke) = enter(&mut core, lock.bell(), worker.number(), key);
     let seat = lock.leave(turn, core);
-    wake_stopped(lock.bell(), &entry);
+    wake_after(lock.bell(), stroke);
     (seat, entry, memory)
 }
 
@@ -110,10 +110,9 @@ pub(crate) fn leave_turn<R: Wait, I: Held>(
     let (mut core, turn) = lock.enter(rt, seat);
     // In a window the journal is a run.
     core.account();
-    core.leave(worker.number(), lease);
-    lock.bell().strike();
+    let stroke = leave(&mut core, lock.bell(), worker.number(), lease);
     let seat = lock.leave(turn, core);
-    lock.bell().wake();
+    lock.bell().wake(stroke);
     seat
 }
 
@@ -138,9 +137,9 @@ pub(crate) fn give_back_turn<R: Wait, I: Held>(
     // In a window the journal is a run.
     core.account();
     core.leave(number, lease);
-    fail(&mut core, lock.bell(), number, stop);
+    let stroke = fail(&mut core, lock.bell(), number, stop);
     let seat = lock.leave(turn, core);
-    lock.bell().wake();
+    lock.bell().wake(stroke);
     seat
 }
 
@@ -158,9 +157,9 @@ pub(crate) fn fail_turn<R: Wait, I: Held>(
     let (mut core, turn) = lock.enter(rt, seat);
     // In a window the journal is a run.
     core.account();
-    fail(&mut core, lock.bell(), worker.number(), WindowStop::Memory);
+    let stroke = fail(&mut core, lock.bell(), worker.number(), WindowStop::Memory);
     let seat = lock.leave(turn, core);
-    lock.bell().wake();
+    lock.bell().wake(stroke);
     seat
 }
 
@@ -184,9 +183,9 @@ pub(crate) fn publish_turn<R: Wait, I: Held>(
     let (mut core, turn) = lock.enter(rt, seat);
     // In a window the journal is a run.
     core.account();
-    let done = publish(&mut core, lock.bell(), worker.number(), key, frame);
+    let (done, stroke) = publish(&mut core, lock.bell(), worker.number(), key, frame);
     let seat = lock.leave(turn, core);
-    lock.bell().wake();
+    lock.bell().wake(stroke);
     (seat, done)
 }
 
@@ -204,9 +203,9 @@ pub(crate) fn take_turn<R: Wait, I: Held>(
     let (mut core, turn) = lock.enter(rt, seat);
     // In a window the journal is a run.
     core.account();
-    let taken = take(&mut core, lock.bell(), worker.number());
+    let (taken, stroke) = take(&mut core, lock.bell(), worker.number());
     let seat = lock.leave(turn, core);
-    wake_stopped(lock.bell(), &taken);
+    wake_after(lock.bell(), stroke);
     (seat, taken)
 }
 

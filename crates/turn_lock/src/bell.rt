@@ -6,6 +6,11 @@ use std::sync::atomic::{AtomicU64, Ordering};
 // How often a thread that waits looks before it sleeps. To sleep and to be woken takes longer than a short turn.
 pub(crate) const LOOKS: u32 = 300;
 
+/// A stroke in a turn. It can't be let go: once the turn has ended, `Bell::wake` takes it.
+pub struct Stroke {
+    counted: (),
+}
+
 /// A count of strokes, which threads may wait on outside a lock. Whoever finds in a turn that it has to wait reads the
 /// count in that turn, gives the turn back, and waits until the count is another. Whoever brings in a turn what others
 /// may wait for strikes the bell in that turn, and wakes them after it.
@@ -30,12 +35,14 @@ impl Bell {
     }
 
     /// Strikes.
-    pub fn strike(&self) {
+    pub fn strike(&self) -> Stroke {
         self.strokes.fetch_add(1, Ordering::SeqCst);
+        Stroke { counted: () }
     }
 
-    /// Wakes those who sleep.
-    pub fn wake(&self) {
+    /// Wakes those who sleep, after a turn with this stroke.
+    pub fn wake(&self, stroke: Stroke) {
+        let Stroke { counted: () } = stroke;
         if self.sleepers.load(Ordering::SeqCst) != 0 {
             self.strokes.wake_all();
         }

@@ -12,7 +12,7 @@ mod seat;
 mod turn_lock;
 mod view;
 
-pub use bell::Bell;
+pub use bell::{Bell, Stroke};
 pub use booked::Booked;
 pub use seat::{LockSeat, Turn};
 pub use turn_lock::{NoLock, TurnLock};

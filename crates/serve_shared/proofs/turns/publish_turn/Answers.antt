@@ -30,16 +30,16 @@ pub leave-seat-requires-clause-stands : goal.leave-seat-requires-clause-stands
 leave-seat-requires-clause-stands g c =
     let core = c.enter-core.result.0 in
     let t = in_turn g.I.Held c.args.worker.now c.args.seat core c.requires.work.sits c.enter-core.ensures.stands c.account.ensures c.enter-core.ensures.own c.enter-core.ensures.seen in
-    stands_left g.I.Held c.args.worker.now c.args.seat core t c.enter-core.result.1 c.enter-core.ensures.turn c.publish-done.new.core (publish_some g.I.Held c.args.worker.now c.args.seat core t c.number.result c.number.ensures c.publish-done.new.core c.args.key c.args.frame c.requires.right c.publish-done.result c.publish-done.ensures.ok c.publish-done.ensures.err)
+    stands_left g.I.Held c.args.worker.now c.args.seat core t c.enter-core.result.1 c.enter-core.ensures.turn c.publish-done.new.core (publish_some g.I.Held c.args.worker.now c.args.seat core t c.number.result c.number.ensures c.publish-done.new.core c.args.key c.args.frame c.requires.right c.publish-done.result.0 c.publish-done.ensures.ok c.publish-done.ensures.err)
 
 pub leave-seat-requires-clause-added : goal.leave-seat-requires-clause-added
 leave-seat-requires-clause-added g c =
     let core = c.enter-core.result.0 in
     let t = in_turn g.I.Held c.args.worker.now c.args.seat core c.requires.work.sits c.enter-core.ensures.stands c.account.ensures c.enter-core.ensures.own c.enter-core.ensures.seen in
-    adds_left g.I.Held c.args.worker.now c.args.seat core t c.enter-core.result.1 c.enter-core.ensures.turn c.publish-done.new.core (publish_some g.I.Held c.args.worker.now c.args.seat core t c.number.result c.number.ensures c.publish-done.new.core c.args.key c.args.frame c.requires.right c.publish-done.result c.publish-done.ensures.ok c.publish-done.ensures.err)
+    adds_left g.I.Held c.args.worker.now c.args.seat core t c.enter-core.result.1 c.enter-core.ensures.turn c.publish-done.new.core (publish_some g.I.Held c.args.worker.now c.args.seat core t c.number.result c.number.ensures c.publish-done.new.core c.args.key c.args.frame c.requires.right c.publish-done.result.0 c.publish-done.ensures.ok c.publish-done.ensures.err)
 
 pub returns : goal.returns
 returns g c =
     let core = c.enter-core.result.0 in
     let t = in_turn g.I.Held c.args.worker.now c.args.seat core c.requires.work.sits c.enter-core.ensures.stands c.account.ensures c.enter-core.ensures.own c.enter-core.ensures.seen in
-    publish_ends g.I.Held c.args.worker.now c.args.seat core t c.number.result c.number.ensures c.publish-done.new.core c.args.key c.args.frame c.requires.right c.publish-done.result c.publish-done.ensures.ok c.publish-done.ensures.err c.leave-seat.result (left_turn g.I.Held c.args.worker.now c.args.seat core t c.publish-done.new.core c.enter-core.result.1 c.leave-seat.result c.enter-core.ensures.turn c.leave-seat.ensures.seat c.leave-seat.ensures.own)
+    publish_ends g.I.Held c.args.worker.now c.args.seat core t c.number.result c.number.ensures c.publish-done.new.core c.args.key c.args.frame c.requires.right c.publish-done.result.0 c.publish-done.ensures.ok c.publish-done.ensures.err c.leave-seat.result (left_turn g.I.Held c.args.worker.now c.args.seat core t c.publish-done.new.core c.enter-core.result.1 c.leave-seat.result c.enter-core.ensures.turn c.leave-seat.ensures.seat c.leave-seat.ensures.own)
