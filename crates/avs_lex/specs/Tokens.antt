@@ -65,10 +65,10 @@ pub record LexFault (text : Text) (kind : LexKind) (line : ℕ) : Type 0 where
   pub fails : piece_at text open_parentheses offset ≡ Fault kind
   pub is : line ≡ line_at text offset
 
-abbrev pub IsToken : Piece → Type 0
-IsToken (One kind size) = ⊤
-IsToken EndOfScript = ⊤
-IsToken _ = ⊥
+abbrev pub IsTokenOrEnd : Piece → Type 0
+IsTokenOrEnd (One kind size) = ⊤
+IsTokenOrEnd EndOfScript = ⊤
+IsTokenOrEnd _ = ⊥
 
 -- the script is read up to a token or its end, for which there was no memory
 pub record LacksMemory (text : Text) : Type 0 where
@@ -76,7 +76,7 @@ pub record LacksMemory (text : Text) : Type 0 where
   pub open_parentheses : ℕ
   pub before : List Token
   pub read : ReadTo text offset open_parentheses before
-  pub stops : IsToken (piece_at text open_parentheses offset)
+  pub stops : IsTokenOrEnd (piece_at text open_parentheses offset)
 
 -- what an error says of the script; out of memory never comes in place of a fault
 abbrev pub IsFault : Text → LexError → Type 0

@@ -1,5 +1,5 @@
 -- Why a script has no clip, and the printed names of it.
-use Rattle.std.specs.Prelude.{◌≡◌, ℕ, codes}
+use Rattle.std.specs.Prelude.{ℕ, codes}
 use Rattle.avs_lex.specs.Tokens.{lex_kind_name}
 use Rattle.avs_values.specs.Values.{Refusal, Text}
 use Rattle.avs_values.specs.Values as v
@@ -9,8 +9,6 @@ use Rattle.avs_meaning.specs.declared.fault.FileKind.TheVariants as f
 use Rattle.avs_meaning.specs.declared.fault.InputFault.{InputFault}
 use Rattle.avs_meaning.specs.declared.fault.ScriptKind.{ScriptKind}
 use Rattle.avs_meaning.specs.declared.fault.ScriptKind.TheVariants as k
-use Rattle.avs_meaning.specs.declared.stop.EvalError.{EvalError}
-use Rattle.avs_meaning.specs.declared.stop.EvalError.TheVariants as s
 
 -- ==== Why a script has no clip.
 
@@ -29,13 +27,6 @@ kind_of v.BadText = k.BadText
 kind_of v.BadRange = k.BadRange
 kind_of v.TextLimit = k.TextLimit
 kind_of (v.AssertFailed message) = k.AssertFailed message
-
--- what a stop shows: this fault, or that memory ran out
-abbrev pub Shows : Fault → EvalError → Type 0
-Shows fault (s.Fault kind name line) = fault ≡ script kind name line
-Shows fault (s.Input name why) = fault ≡ input name why
-Shows fault s.Read = ⊥
-Shows fault s.Memory = Unit {0}
 
 -- ==== The printed names of faults of scripts. A fault that holds one of another kind has that one's name.
 
