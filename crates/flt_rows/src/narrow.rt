@@ -200,6 +200,7 @@ pub fn show(sum: i16, ending: Ending) -> u16
 fn show_square<T: Sample>(
     square: Square,
     ending: Ending,
+    most: u16,
     above: &[u8],
     row: &[u8],
     below: &[u8],
@@ -212,26 +213,28 @@ fn show_square<T: Sample>(
     requires right { right < length (T.of_bytes row.now) }
     requires above { length (T.of_bytes above.now) ≡ length (T.of_bytes row.now) }
     requires below { length (T.of_bytes below.now) ≡ length (T.of_bytes row.now) }
-    requires few_above { AreAtMost ending.largest (T.of_bytes above.now) }
-    requires few { AreAtMost ending.largest (T.of_bytes row.now) }
-    requires few_below { AreAtMost ending.largest (T.of_bytes below.now) }
-    requires light { size_of_square square * ending.largest < 2 ^ 15 }
+    requires few_above { AreAtMost most (T.of_bytes above.now) }
+    requires few { AreAtMost most (T.of_bytes row.now) }
+    requires few_below { AreAtMost most (T.of_bytes below.now) }
+    requires small { most < 2 ^ 15 }
+    requires light { size_of_square square * most < 2 ^ 15 }
     requires ending { IsEnding ending }
     ensures value { result ≡ shown ending (weighed_square square (T.of_bytes above.now) (T.of_bytes row.now)
         (T.of_bytes below.now) left x right) }
     ensures few { result ≤ ending.largest }
 {
     show(
-        weigh_square::<T>(square, ending.largest, above, row, below, left, x, right),
+        weigh_square::<T>(square, most, above, row, below, left, x, right),
         ending,
     )
 }
 
-/// The samples of rows of bytes, each from the samples around it. The first and the last are apart, so that no place
-/// between them is brought into the row.
+/// The samples of rows of bytes, none over `most`, each from the samples around it. The first and the last are apart, so that no
+/// place between them is brought into the row.
 pub fn convolve_row<T: Sample>(
     square: Square,
     ending: Ending,
+    most: u16,
     above: &[u8],
     row: &[u8],
     below: &[u8],
@@ -242,23 +245,24 @@ pub fn convolve_row<T: Sample>(
     requires above { length (T.of_bytes above.now) ≡ length out.old }
     requires row { length (T.of_bytes row.now) ≡ length out.old }
     requires below { length (T.of_bytes below.now) ≡ length out.old }
-    requires few_above { AreAtMost ending.largest (T.of_bytes above.now) }
-    requires few { AreAtMost ending.largest (T.of_bytes row.now) }
-    requires few_below { AreAtMost ending.largest (T.of_bytes below.now) }
-    requires light { size_of_square square * ending.largest < 2 ^ 15 }
+    requires few_above { AreAtMost most (T.of_bytes above.now) }
+    requires few { AreAtMost most (T.of_bytes row.now) }
+    requires few_below { AreAtMost most (T.of_bytes below.now) }
+    requires small { most < 2 ^ 15 }
+    requires light { size_of_square square * most < 2 ^ 15 }
     requires ending { IsEnding ending }
-    requires most { ending.largest ≤ T.most }
+    requires largest { ending.largest ≤ T.most }
     ensures { EachIndex out.new (λ x. slice_index (T.numbers out.new) x ≡ shown ending
         (weighed_around square (T.of_bytes above.now) (T.of_bytes row.now) (T.of_bytes below.now) x)) }
 {
     let last = out.len() - 1;
-    let first = show_square::<T>(square, ending, above, row, below, 0, 0, last.min(1));
+    let first = show_square::<T>(square, ending, most, above, row, below, 0, 0, last.min(1));
     T::put(out, 0, first);
     for x in 1..last {
-        let sample = show_square::<T>(square, ending, above, row, below, x - 1, x, x + 1);
+        let sample = show_square::<T>(square, ending, most, above, row, below, x - 1, x, x + 1);
         T::put(out, x, sample);
     }
     let before = last.saturating_sub(1);
-    let end = show_square::<T>(square, ending, above, row, below, before, last, last);
+    let end = show_square::<T>(square, ending, most, above, row, below, before, last, last);
     T::put(out, last, end);
 }
