@@ -1,12 +1,13 @@
 -- What other crates may cite: a caller who holds an accepted check and the pictures of its clips has the definition's picture.
 use Rattle.std.proofs.Common.{◌≡◌, ℕ, ◌+◌, ◌-◌, ◌<◌, List, length, map, get_or, Bool, true, false, Option, Some, None, Ok, ◌⊎◌, inl, inr, refl, sym, ap, ◌∙◌, subst, arith}
-use Rattle.std.specs.Prelude.{IsTrue, ℤ, pos, negsuc, ◌&&◌, ◌==◌, if◌then◌else◌, nat_lt, nat_le}
+use Rattle.std.specs.Prelude.{IsTrue, ℤ, pos, negsuc, ◌&&◌, if◌then◌else◌, nat_lt, nat_le}
 use Rattle.std.specs.List.{All, range_with_len}
 use Rattle.std.proofs.Math.ListN.{get_or-map}
 use Rattle.std.proofs.lemmas.Bool.Decides.{nat_tests}
 use Rattle.std.proofs.lemmas.List.{length-map}
 use Rattle.std.proofs.lemmas.List.FromFn.{fill_by_all}
 use Rattle.std.proofs.lemmas.Simd.{map-map}
+use Rattle.std.proofs.lemmas.Grind.{common_steps}
 use Rattle.fv_plane.specs.declared.format.Info.{Info}
 use Rattle.fv_plane.specs.declared.format.Shape.{Shape}
 use Rattle.fv_plane.specs.Picture.{Look, look_at, look_in, picture_from, Picture, IsPicture}
@@ -14,12 +15,12 @@ use Rattle.clip_term.specs.declared.op.Origin.{Origin}
 use Rattle.clip_term.specs.declared.run.RunCompare.{RunCompare}
 use Rattle.clip_term.specs.Choice.{RunAct, choose, decide, holds, source_of, side_of, chosen, differences, run_refusals, run_base, run_inputs, check_run}
 use Rattle.clip_term.specs.Terms.{choice, make, no_picture}
-use Rattle.clip_term.specs.Refusals.{info_at, no_info, rate_of, limits, same_format, same_size}
+use Rattle.clip_term.specs.Refusals.{info_at, no_info, rate_of, limits}
 use Rattle.clip_term.specs.Time.{from_input, in_range}
 use Rattle.clip_term.specs.Expression.{value, stat_of, tree_of}
 use Rattle.clip_term.proofs.ListedLemmas.{listed}
-use Rattle.clip_term.proofs.PassedLemmas.{Passed, passed, limits_shape, agreed, both, not_false, same_format_is, same_number, same_shape}
-use Rattle.flt_choice.specs.Shown.{infos_of, number_shown, picture_shown}
+use Rattle.clip_term.proofs.PassedLemmas.{Passed, passed, limits_shape, agreed, both, same_number}
+use Rattle.flt_choice.specs.Shown.{number_shown, picture_shown}
 
 -- a picture for each clip, of its shape
 abbrev pub HaveShapes : List Info → List Picture → Type 0
@@ -55,11 +56,7 @@ look_of : (pictures : List Picture) (i : ℕ) → look_at (map look_in pictures)
 look_of pictures i = get_or-map look_in pictures i no_picture
 
 chosen_is : (op : RunAct) (infos : List Info) (n : ℕ) (pictures : List Picture) → HaveShapes infos pictures → number_shown op n pictures ≡ chosen op infos n (look_at (map look_in pictures) 0)
-chosen_is op infos n pictures same =
-    let bare : Picture → Info = λ p. record no_info { shape = p.shape } in
-    let first = ap (λ (d : Info). d.shape) (get_or-map bare pictures 0 no_picture) ∙ shape_at infos pictures 0 same in
-    chosen_like op infos (infos_of pictures) n (look_in (get_or pictures 0 no_picture)) (length-map pictures bare ∙ as_many infos pictures same) first
-    ∙ ap (chosen op infos n) (sym (look_of pictures 0))
+chosen_is op infos n pictures same = grind (arith, common_steps, get_or-map, shape_at, chosen_like, length-map, as_many, look_of)
 
 source_low : (inputs m : ℕ) → nat_lt m (inputs - 1) ≡ true → 1 + m < inputs
 source_low inputs m e = grind (arith, nat_tests)
@@ -83,10 +80,7 @@ side_is by (Some a) None = inr refl
 side_is by None b = inr refl
 
 like : (a b : Shape) → Passed (differences a b) → b ≡ a
-like a b passed =
-    let format = same_format_is b a (not_false (same_format b a) passed.0) in
-    let sides = both (b.width == a.width) (b.height == a.height) (not_false (same_size b a) passed.1.0) in
-    same_shape b a format.0 format.1 (same_number b.width a.width sides.0) (same_number b.height a.height sides.1)
+like a b passed = grind (arith, common_steps)
 
 some_inputs : (n : ℕ) → nat_le 2 n ≡ true → 0 < n
 some_inputs n e = grind (arith, nat_tests)

@@ -1,13 +1,14 @@
 -- Counts of samples, and the middle that they give.
-use Rattle.std.proofs.Common.{◌≡◌, ℕ, zero, suc, ◌+◌, ◌*◌, ◌^◌, ◌<◌, ◌≤◌, List, [], ◌∷◌, ◌++◌, length, take, map, get_or, set, eq-eqb, Bool, true, false, Some, None, ◌⊎◌, inl, inr, refl, ap, sym, ◌∙◌, subst, arith}
+use Rattle.std.proofs.Common.{◌≡◌, ℕ, zero, suc, ◌+◌, ◌*◌, ◌^◌, ◌<◌, ◌≤◌, List, [], ◌∷◌, ◌++◌, length, take, map, get_or, set, Bool, true, false, Some, None, ◌⊎◌, inl, inr, refl, ap, sym, ◌∙◌, subst, arith}
 use Rattle.std.specs.Prelude.{◌==◌, nat_le, cond}
 use Rattle.std.specs.List.{count_by, sum, find, range_with_len}
 use Rattle.std.specs.Option.{unwrap_or}
-use Rattle.std.proofs.lemmas.Bool.{cases_eq, cases_lt}
+use Rattle.std.proofs.lemmas.Bool.{cases_lt}
 use Rattle.std.proofs.lemmas.Bool.Decides.{nat_tests}
-use Rattle.std.proofs.lemmas.List.{get_or-set_same, get_or-set_other, length-set, take_more, append_assoc}
+use Rattle.std.proofs.lemmas.List.{take_more, append_assoc}
 use Rattle.std.proofs.lemmas.List.FromFn.{get_or-map-range_with_len, length-map-range_with_len}
-use Rattle.std.proofs.lemmas.List.Sums.{sum_by-cons, sum_by-append, sum_by_more, count_by-le-length}
+use Rattle.std.proofs.lemmas.List.Sums.{sum_by-cons, sum_by_more, count_by-le-length}
+use Rattle.std.proofs.lemmas.Grind.{common_steps}
 use Rattle.clip_term.specs.Expression.{is_half}
 use Rattle.flt_choice.specs.Counts.{times_in, counted, HasRoom, AddsCounts, AreCounts, AreNone}
 
@@ -26,8 +27,7 @@ length-totals : (size values : ℕ) (counts : List ℕ) → length (totals size 
 length-totals size values counts = length-map-range_with_len (λ k. counted size counts k) 0 values
 
 are_totals : (size values : ℕ) (counts samples : List ℕ) → values ≤ size → AreCounts size counts samples → AreTimes (totals size values counts) samples
-are_totals size values counts samples within are = λ v inside.
-    let low : v < values = omega (arith, length-totals size values counts) in total_at size values counts v low ∙ are v (omega arith)
+are_totals size values counts samples within are = search (arith, length-totals, total_at)
 
 -- one more value
 pub total_more : (size values : ℕ) (counts : List ℕ) (v : ℕ) → v < values → sum (take (v + 1) (totals size values counts)) ≡ sum (take v (totals size values counts)) + counted size counts v
@@ -109,64 +109,23 @@ less_by samples total v counted long same few = grind (arith, nat_tests)
 -- at least half, by the counts
 pub half_is : (size values : ℕ) (counts samples : List ℕ) (total v : ℕ) → values ≤ size → AreCounts size counts samples → length samples ≡ total → v < values → total ≤ 2 * sum (take (v + 1) (totals size values counts))
     → is_half samples v ≡ true
-half_is size values counts samples total v within are long inside most =
-    let same = first_counts (totals size values counts) samples (are_totals size values counts samples within are) v (omega (arith, length-totals size values counts)) in
-    half_by samples total v _ long same most
+half_is size values counts samples total v within are long inside most = search (arith, first_counts, are_totals, length-totals, half_by)
 
 pub less_is : (size values : ℕ) (counts samples : List ℕ) (total v : ℕ) → values ≤ size → AreCounts size counts samples → length samples ≡ total → v < values → 2 * sum (take (v + 1) (totals size values counts)) < total
     → is_half samples v ≡ false
-less_is size values counts samples total v within are long inside few =
-    let same = first_counts (totals size values counts) samples (are_totals size values counts samples within are) v (omega (arith, length-totals size values counts)) in
-    less_by samples total v _ long same few
+less_is size values counts samples total v within are long inside few = search (arith, first_counts, are_totals, length-totals, less_by)
 
 -- COUNTING
 
 not_equal : (a b : ℕ) → (a ≡ b → ⊥) → (a == b) ≡ false
 not_equal a b differ = grind (arith, nat_tests)
 
-same_one : (a b : ℕ) → a ≡ b → one_if (a == b) ≡ 1
-same_one a b e = rw (eq-eqb a b e) refl
-
 other_one : (a b : ℕ) → (a ≡ b → ⊥) → one_if (a == b) ≡ 0
 other_one a b differ = rw (not_equal a b differ) refl
-
--- a count is one more
-place_more : (counts : List ℕ) (p i : ℕ) → p < length counts → get_or (set counts p (get_or counts p 0 + 1)) i 0 ≡ get_or counts i 0 + one_if (i == p)
-place_more counts p i there = elim (cases_eq i p) [
-  | inl same ↦ rw same (get_or-set_same counts p (get_or counts p 0 + 1) 0 there ∙ sym (ap (λ n. get_or counts p 0 + n) (same_one p p refl)))
-  | inr other ↦ get_or-set_other counts p i (get_or counts p 0 + 1) 0 other ∙ sym (ap (λ n. get_or counts i 0 + n) (other_one i p other) ∙ (omega arith))
-]
 
 -- which of four places is this one
 abbrev ones : ℕ → ℕ → ℕ → ℕ
 ones size v p = one_if (v == p) + one_if (size + v == p) + one_if (2 * size + v == p) + one_if (3 * size + v == p)
-
-ones_other : (size s v p : ℕ) → (v ≡ p → ⊥) → (size + v ≡ p → ⊥) → (2 * size + v ≡ p → ⊥) → (3 * size + v ≡ p → ⊥) → (s ≡ v → ⊥) → ones size v p ≡ one_if (s == v)
-ones_other size s v p a b c d other = omega (arith, other_one v p a, other_one (size + v) p b, other_one (2 * size + v) p c, other_one (3 * size + v) p d, other_one s v other)
-
-first_one : (size s v p : ℕ) → s < size → v < size → p ≡ s → ones size v p ≡ one_if (s == v)
-first_one size s v p h k is = elim (cases_eq s v) [
-  | inl same ↦ omega (arith, same_one v p (omega arith), other_one (size + v) p (λ e. omega arith), other_one (2 * size + v) p (λ e. omega arith), other_one (3 * size + v) p (λ e. omega arith), same_one s v same)
-  | inr other ↦ ones_other size s v p (λ e. other (omega arith)) (λ e. omega arith) (λ e. omega arith) (λ e. omega arith) other
-]
-
-second_one : (size s v p : ℕ) → s < size → v < size → p ≡ size + s → ones size v p ≡ one_if (s == v)
-second_one size s v p h k is = elim (cases_eq s v) [
-  | inl same ↦ omega (arith, other_one v p (λ e. omega arith), same_one (size + v) p (omega arith), other_one (2 * size + v) p (λ e. omega arith), other_one (3 * size + v) p (λ e. omega arith), same_one s v same)
-  | inr other ↦ ones_other size s v p (λ e. omega arith) (λ e. other (omega arith)) (λ e. omega arith) (λ e. omega arith) other
-]
-
-third_one : (size s v p : ℕ) → s < size → v < size → p ≡ 2 * size + s → ones size v p ≡ one_if (s == v)
-third_one size s v p h k is = elim (cases_eq s v) [
-  | inl same ↦ omega (arith, other_one v p (λ e. omega arith), other_one (size + v) p (λ e. omega arith), same_one (2 * size + v) p (omega arith), other_one (3 * size + v) p (λ e. omega arith), same_one s v same)
-  | inr other ↦ ones_other size s v p (λ e. omega arith) (λ e. omega arith) (λ e. other (omega arith)) (λ e. omega arith) other
-]
-
-fourth_one : (size s v p : ℕ) → s < size → v < size → p ≡ 3 * size + s → ones size v p ≡ one_if (s == v)
-fourth_one size s v p h k is = elim (cases_eq s v) [
-  | inl same ↦ omega (arith, other_one v p (λ e. omega arith), other_one (size + v) p (λ e. omega arith), other_one (2 * size + v) p (λ e. omega arith), same_one (3 * size + v) p (omega arith), same_one s v same)
-  | inr other ↦ ones_other size s v p (λ e. omega arith) (λ e. omega arith) (λ e. omega arith) (λ e. other (omega arith)) other
-]
 
 -- the place of a sample in one of four tables
 pub record IsPlace (size s p : ℕ) : Type 0 where
@@ -185,65 +144,25 @@ is_place size table s low =
       ]
     ]
 
-place_ones : (size s v p : ℕ) → s < size → v < size → IsPlace size s p → ones size v p ≡ one_if (s == v)
-place_ones size s v p h k is = elim is.which [
-  | inl a ↦ first_one size s v p h k a
-  | inr b ↦ elim b [
-    | inl a ↦ second_one size s v p h k a
-    | inr c ↦ elim c [
-      | inl a ↦ third_one size s v p h k a
-      | inr d ↦ fourth_one size s v p h k d
-    ]
-  ]
-]
-
 pub place_inside : (size s p : ℕ) → s < size → IsPlace size s p → p < 4 * size
-place_inside size s p h is = elim is.which [
-  | inl a ↦ omega arith
-  | inr b ↦ elim b [
-    | inl a ↦ omega arith
-    | inr c ↦ elim c [
-      | inl a ↦ omega arith
-      | inr d ↦ omega arith
-    ]
-  ]
-]
+place_inside size s p h is = grind (arith, common_steps)
 
 -- no count is greater than the four of its value
 pub place_few : (size s p : ℕ) (counts : List ℕ) → IsPlace size s p → get_or counts p 0 ≤ counted size counts s
-place_few size s p counts is = elim is.which [
-  | inl a ↦ rw a (omega arith)
-  | inr b ↦ elim b [
-    | inl a ↦ rw a (omega arith)
-    | inr c ↦ elim c [
-      | inl a ↦ rw a (omega arith)
-      | inr d ↦ rw d (omega arith)
-    ]
-  ]
-]
+place_few size s p counts is = grind (arith, common_steps)
 
 -- one sample
 pub one_counted : (size s p : ℕ) (counts : List ℕ) → s < size → length counts ≡ 4 * size → IsPlace size s p → AddsCounts size counts (s ∷ []) (set counts p (get_or counts p 0 + 1))
-one_counted size s p counts inside long is =
-    let there : p < length counts = omega (arith, place_inside size s p inside is) in
-    record {
-      counts = λ v low. omega (arith, place_more counts p v there, place_more counts p (size + v) there, place_more counts p (2 * size + v) there, place_more counts p (3 * size + v) there, place_ones size s v p inside low is, sum_by-cons (λ x. one_if (x == v)) s []);
-      long = length-set counts p (get_or counts p 0 + 1);
-    }
+one_counted size s p counts inside long is = grind (arith, common_steps)
 
 -- the samples of two lists
 pub counts_both : (size : ℕ) (old middle new front rest : List ℕ) → AddsCounts size old front middle → AddsCounts size middle rest new → AddsCounts size old (front ++ rest) new
-counts_both size old middle new front rest first second = record {
-  counts = λ v low. omega (arith, first.counts v low, second.counts v low, sum_by-append (λ s. one_if (s == v)) front rest);
-  long = second.long ∙ first.long;
-}
+counts_both size old middle new front rest first second = grind (arith, common_steps)
 
 -- one more sample, and four
 pub one_more_counted : (size : ℕ) (old middle new samples : List ℕ) (x s : ℕ) → AddsCounts size old (take x samples) middle → AddsCounts size middle (s ∷ []) new → x < length samples → s ≡ get_or samples x 0
     → AddsCounts size old (take (x + 1) samples) new
-one_more_counted size old middle new samples x s first second inside is =
-    subst (λ (l : List ℕ). AddsCounts size old l new) (ap (λ k. take x samples ++ (k ∷ [])) is ∙ sym (take_more samples x 0 inside))
-    (counts_both size old middle new (take x samples) (s ∷ []) first second)
+one_more_counted size old middle new samples x s first second inside is = grind (arith, common_steps)
 
 pub four_more_counted : (size : ℕ) (old middle new samples : List ℕ) (x y a b c d : ℕ) → AddsCounts size old (take x samples) middle → AddsCounts size middle (a ∷ b ∷ c ∷ d ∷ []) new → x + 4 ≤ length samples → y ≡ x + 4
     → a ≡ get_or samples x 0 → b ≡ get_or samples (x + 1) 0 → c ≡ get_or samples (x + 2) 0 → d ≡ get_or samples (x + 3) 0 → AddsCounts size old (take y samples) new
@@ -255,9 +174,6 @@ four_more_counted size old middle new samples x y a b c d first second inside is
     let four : take y samples ≡ take (x + 3) samples ++ (get_or samples (x + 3) 0 ∷ []) = ap (λ k. take k samples) (omega arith) ∙ take_more samples (x + 3) 0 (omega arith) in
     let joined : take y samples ≡ front ++ (a ∷ b ∷ c ∷ d ∷ []) = rw (four, three, two, one, a_is, b_is, c_is, d_is) (simp append_assoc) in
     subst (λ (l : List ℕ). AddsCounts size old l new) (sym joined) (counts_both size old middle new front (a ∷ b ∷ c ∷ d ∷ []) first second)
-
-pub none_added : (size : ℕ) (old : List ℕ) → AddsCounts size old [] old
-none_added size old = record { counts = λ v low. omega arith; long = refl }
 
 -- room that is left
 pub room_left : (size : ℕ) (old samples new : List ℕ) (more room : ℕ) → HasRoom size old room → AddsCounts size old samples new → length samples + more ≤ room → HasRoom size new more

@@ -6,9 +6,10 @@ use Rattle.std.proofs.Math.Nat.{mul-mod_left}
 use Rattle.std.proofs.Math.Seq.{take-add}
 use Rattle.std.proofs.lemmas.Grind.{flat_map-append}
 use Rattle.std.proofs.lemmas.Bool.{cases_lt}
-use Rattle.std.proofs.lemmas.List.{take_all, get_or-take, get_or-drop, get_or_past, get_or_append_left, get_or-append_right, length-append, length-take}
+use Rattle.std.proofs.lemmas.List.{take_all, get_or_append_left, get_or-append_right, length-append}
 use Rattle.std.proofs.lemmas.Nat.{mul-le}
 use Rattle.std.proofs.lemmas.List.Sums.{fold_more, fold-append}
+use Rattle.std.proofs.lemmas.Grind.{common_steps}
 use Rattle.fv_rows.specs.Rows.{flat_rows}
 use Rattle.fv_plane.specs.declared.format.Shape.{Shape}
 use Rattle.fv_plane.specs.Picture.{wide_samples, row_of_bytes, bytes_of_rows, Picture, IsPicture}
@@ -17,7 +18,7 @@ use Rattle.fv_plane.specs.declared.format.PixelType.TheVariants.{Y8, YV12, YV16,
 use Rattle.fv_plane.specs.Format.{IsLegal, planes, sub_w, sub_h, frame_samples, largest_sample, plane_width, plane_height, sample_bytes}
 use Rattle.fv_rows.proofs.RowLemmas.{length-flat_rows, length-front}
 use Rattle.fv_plane.proofs.BytesLemmas.{bytes_of_rows-flat, length-bytes_of_row}
-use Rattle.fv_plane.proofs.CallerLemmas.{depth_cases, length-plane, row_again}
+use Rattle.fv_plane.proofs.CallerLemmas.{row_again}
 use Rattle.fv_plane.proofs.WideLemmas.{length-wide_samples, wide_samples-at}
 use Rattle.flt_choice.specs.Table.{plane_samples}
 
@@ -34,10 +35,7 @@ wide_whole h start bytes x whole past =
     ap (fold h start) (take_all x (wide_samples bytes) (omega arith))
 
 pub not_eight : (shape : Shape) → (shape.bits ≡ 8 → ⊥) → shape.bits == 8 ≡ false
-not_eight shape never = elim (depth_cases shape) [
-  | inl eight ↦ absurd (never eight)
-  | inr other ↦ other
-]
+not_eight shape never = grind (arith, common_steps)
 
 -- ROWS OF A PLANE
 
@@ -48,22 +46,15 @@ rows_again shape rows = ap (row_of_bytes shape) (bytes_of_rows-flat shape rows) 
 -- some more rows
 pub rows_step : (h : ℕ → ℕ → ℕ) (start : ℕ) (shape : Shape) (rows : List (List ℕ)) (y count : ℕ) (bytes : List ℕ) → bytes ≡ bytes_of_rows shape (take count (drop y rows))
     → fold h start (flat_rows (take (y + count) rows)) ≡ fold h (fold h start (flat_rows (take y rows))) (row_of_bytes shape bytes)
-rows_step h start shape rows y count bytes is =
-    ap (λ l. fold h start (flat_rows l)) (take-add y count rows)
-    ∙ ap (fold h start) (flat_map-append (λ row. row) (take y rows) (take count (drop y rows)))
-    ∙ fold-append h start (flat_rows (take y rows)) (flat_rows (take count (drop y rows)))
-    ∙ ap (fold h (fold h start (flat_rows (take y rows)))) (sym (ap (row_of_bytes shape) is ∙ rows_again shape (take count (drop y rows))))
+rows_step h start shape rows y count bytes is = search (arith, take-add, flat_map-append, fold-append, rows_again)
 
 pub whole_rows : (shape : Shape) (rows : List (List ℕ)) (bytes : List ℕ) → bytes ≡ bytes_of_rows shape rows → length bytes % sample_bytes shape ≡ 0
-whole_rows shape rows bytes is =
-    ap (λ n. n % sample_bytes shape) (ap length (is ∙ bytes_of_rows-flat shape rows) ∙ length-bytes_of_row shape (flat_rows rows)) ∙ mul-mod_left (length (flat_rows rows)) (sample_bytes shape)
+whole_rows shape rows bytes is = search (arith, bytes_of_rows-flat, length-bytes_of_row, mul-mod_left)
 
 -- all rows of a plane
 pub all_rows : (h : ℕ → ℕ → ℕ) (start : ℕ) (picture : Picture) (p y : ℕ) → IsPicture picture → p < planes picture.shape.kind → plane_height picture.shape p ≤ y
     → fold h start (flat_rows (take y (get_or picture.planes p []))) ≡ fold h start (plane_samples picture p)
-all_rows h start picture p y is within past =
-    let high = length-plane picture p is within in
-    ap (λ l. fold h start (flat_rows l)) (take_all y (get_or picture.planes p []) (omega arith))
+all_rows h start picture p y is within past = grind (arith, common_steps)
 
 -- NO SAMPLE IS OVER THE LARGEST ONE
 
@@ -75,10 +66,7 @@ bounded_flat most (row ∷ rows) few x = elim (cases_lt x (length row)) [
 ]
 
 part_few : (most : ℕ) (rows : List (List ℕ)) (y n : ℕ) → ((x z : ℕ) → get_or (get_or rows z []) x 0 ≤ most) → (x z : ℕ) → get_or (get_or (take n (drop y rows)) z []) x 0 ≤ most
-part_few most rows y n few x z = elim (cases_lt z n) [
-  | inl within ↦ rw (get_or-take n (drop y rows) z [] within, get_or-drop y rows z []) (few x (y + z))
-  | inr past ↦ rw (get_or_past (take n (drop y rows)) z [] (omega (arith, length-take n (drop y rows)))) (omega arith)
-]
+part_few most rows y n few x z = grind (arith, common_steps)
 
 pub rows_fit : (picture : Picture) (p y n : ℕ) (bytes : List ℕ) → IsPicture picture → bytes ≡ bytes_of_rows picture.shape (take n (drop y (get_or picture.planes p [])))
     → (x : ℕ) → get_or (row_of_bytes picture.shape bytes) x 0 ≤ largest_sample picture.shape
@@ -106,11 +94,7 @@ size_cases false = (omega arith, omega arith)
 
 -- at most those of the largest frame
 pub samples_few : (s : Shape) (p : ℕ) → IsLegal s → plane_width s p * plane_height s p ≤ 16777216
-samples_few s p legal =
-    let one = by_plane (p == 0) s in
-    let size = size_cases (s.bits == 8) in
-    let grown : frame_samples s * 1 ≤ frame_samples s * sample_bytes s = mul-le (frame_samples s) 1 (frame_samples s) (sample_bytes s) (omega arith) size.0 in
-    omega (arith, one, grown, legal.most_bytes)
+samples_few s p legal = search (arith, by_plane, size_cases, mul-le)
 
 -- the samples so far and the bytes of some more rows
 pub rows_room : (picture : Picture) (p y n : ℕ) (bytes : List ℕ) → IsPicture picture → p < planes picture.shape.kind → y + n ≤ plane_height picture.shape p
@@ -140,6 +124,4 @@ length-plane_samples picture p is within =
 
 pub rows_joined : (shape : Shape) (rows : List (List ℕ)) (y count : ℕ) (bytes : List ℕ) → bytes ≡ bytes_of_rows shape (take count (drop y rows))
     → flat_rows (take (y + count) rows) ≡ flat_rows (take y rows) ++ row_of_bytes shape bytes
-rows_joined shape rows y count bytes is =
-    ap flat_rows (take-add y count rows) ∙ flat_map-append (λ row. row) (take y rows) (take count (drop y rows))
-    ∙ ap (λ l. flat_rows (take y rows) ++ l) (sym (ap (row_of_bytes shape) is ∙ rows_again shape (take count (drop y rows))))
+rows_joined shape rows y count bytes is = search (arith, take-add, flat_map-append, rows_again)

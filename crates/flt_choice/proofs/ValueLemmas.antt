@@ -1,18 +1,17 @@
 -- A value depends on the statistics that the expression names alone; the samples of a picture's plane.
-use Rattle.std.proofs.Common.{◌≡◌, ℕ, zero, suc, ◌+◌, ◌*◌, ◌/◌, ◌%◌, ◌<◌, ◌≤◌, set, Result, Ok, Err, inl, inr, List, [], ◌∷◌, length, get_or, Bool, true, false, Option, Some, refl, ap, sym, ◌∙◌, arith, eq-eqb}
+use Rattle.std.proofs.Common.{◌≡◌, ℕ, zero, suc, ◌+◌, ◌*◌, ◌/◌, ◌%◌, ◌<◌, ◌≤◌, set, Result, Ok, Err, List, [], ◌∷◌, length, get_or, Bool, true, false, Option, Some, refl, ap, sym, ◌∙◌, arith, eq-eqb}
 use Rattle.std.specs.Option.{unwrap_or}
 use Rattle.std.specs.Result.{IfOk}
-use Rattle.std.proofs.lemmas.Bool.{cases_eq, cases_lt}
 use Rattle.std.proofs.lemmas.List.{length-map, get_or-set_same, get_or-set_other, get_or_past}
-use Rattle.std.specs.Prelude.{slice_get, ℤ, pos, ◌||◌, if◌then◌else◌, nat_lt}
+use Rattle.std.specs.Prelude.{slice_get, ℤ, pos, ◌||◌, if◌then◌else◌}
 use Rattle.std.proofs.lemmas.Bool.Decides.{nat_tests}
 use Rattle.std.proofs.lemmas.List.FromFn.{fill_by_all}
-use Rattle.fv_rows.specs.Rows.{flat_rows}
+use Rattle.std.proofs.lemmas.Grind.{common_steps}
 use Rattle.fv_plane.specs.Format.{largest_sample, planes, plane_width, plane_height}
 use Rattle.fv_plane.specs.Picture.{look_in, plane_from, row_from, Picture, IsPicture, row_of}
 use Rattle.clip_term.specs.declared.run.PlaneStat.{PlaneStat}
 use Rattle.clip_term.specs.declared.run.PlaneStat.TheVariants.{Least, Greatest, Median}
-use Rattle.clip_term.specs.Expression.{Expr, int, bool, current_frame, of_plane, abs_, min_, max_, minus, not_, chain, compare, group, Exprs, no_exprs, and_expr, Steps, no_steps, and_step, asks, any_asks, steps_ask, same_stat, value, of_all, picked_from, along, one_of, both_of, absolute, negative, picked, by_oper, stat_in, samples_from, words, tree_of}
+use Rattle.clip_term.specs.Expression.{Expr, int, bool, current_frame, of_plane, abs_, min_, max_, minus, not_, chain, compare, group, Exprs, no_exprs, and_expr, Steps, no_steps, and_step, asks, any_asks, steps_ask, same_stat, value, of_all, picked_from, along, one_of, both_of, absolute, negative, picked, by_oper, stat_in, words, tree_of}
 use Rattle.fv_plane.specs.declared.format.PixelType.{PixelType}
 use Rattle.fv_plane.specs.declared.format.PixelType.TheVariants.{Y8, YV12, YV16, YV24, YV411}
 use Rattle.clip_term.specs.declared.run.RunCompare.{RunCompare}
@@ -41,15 +40,10 @@ other_by true a b e = absurd (let never : ⊥ = cc in never)
 
 pub stat_there : (picture : Picture) (p : ℕ) (stat : PlaneStat) → IsPicture picture → p < planes picture.shape.kind
     → stats_of picture p stat ≡ stat_in (largest_sample picture.shape) stat (plane_samples picture p)
-stat_there picture p stat is within =
-    let inside : nat_lt p (planes picture.shape.kind) ≡ true = grind (arith, nat_tests) in
-    chosen_by (nat_lt p (planes picture.shape.kind)) (stat_in (largest_sample picture.shape) stat (samples_from picture.shape (look_in picture) p)) 0 inside
-    ∙ ap (λ rows. stat_in (largest_sample picture.shape) stat (flat_rows rows)) (plane_listed picture p is within)
+stat_there picture p stat is within = search (arith, nat_tests, chosen_by, plane_listed)
 
 pub stat_past : (picture : Picture) (p : ℕ) (stat : PlaneStat) → (p < planes picture.shape.kind → ⊥) → stats_of picture p stat ≡ 0
-stat_past picture p stat past =
-    let outside : nat_lt p (planes picture.shape.kind) ≡ false = grind (arith, nat_tests) in
-    other_by (nat_lt p (planes picture.shape.kind)) (stat_in (largest_sample picture.shape) stat (samples_from picture.shape (look_in picture) p)) 0 outside
+stat_past picture p stat past = grind (arith, common_steps)
 
 -- VALUES
 
@@ -133,16 +127,7 @@ same_number_is Median Greatest e = absurd (omega arith)
 pub table_step : (table : List ℕ) (place v : ℕ) (found : PlaneStat) (p : ℕ) (stat : PlaneStat) (want : ℕ → PlaneStat → ℕ) → place < length table → stat_number found ≡ place % 3
     → 3 * p + stat_number stat < place + 1 → (3 * p + stat_number stat < place → stats_in table p stat ≡ want p stat) → (p ≡ place / 3 → stat ≡ found → v ≡ want (place / 3) found)
     → stats_in (set table place v) p stat ≡ want p stat
-table_step table place v found p stat want there is low before here = elim (cases_eq (3 * p + stat_number stat) place) [
-  | inl same ↦
-      (let few = number_few stat in
-      let plane : p ≡ place / 3 = omega arith in
-      let which : stat ≡ found = same_number_is stat found (omega arith) in
-      at_is (set table place v) (3 * p + stat_number stat) ∙ ap (λ i. get_or (set table place v) i 0) same ∙ get_or-set_same table place v 0 there ∙ here plane which
-      ∙ ap (λ q. want q found) (sym plane) ∙ ap (want p) (sym which))
-  | inr other ↦
-      at_is (set table place v) (3 * p + stat_number stat) ∙ get_or-set_other table place (3 * p + stat_number stat) v 0 other ∙ sym (at_is table (3 * p + stat_number stat)) ∙ before (omega (arith, other))
-]
+table_step table place v found p stat want there is low before here = search (arith, number_few, same_number_is, at_is, get_or-set_same, get_or-set_other)
 
 planes_few : (kind : PixelType) → planes kind ≤ 3
 planes_few Y8 = omega arith
@@ -154,10 +139,7 @@ planes_few YV411 = omega arith
 -- the whole table: a plane past the third has 0
 pub table_whole : (picture : Picture) (table : List ℕ) (p : ℕ) (stat : PlaneStat) → length table ≡ 9 → (3 * p + stat_number stat < 9 → stats_in table p stat ≡ stats_of picture p stat)
     → stats_in table p stat ≡ stats_of picture p stat
-table_whole picture table p stat long known = elim (cases_lt p 3) [
-  | inl low ↦ known (let few = number_few stat in omega arith)
-  | inr past ↦ at_is table (3 * p + stat_number stat) ∙ get_or_past table (3 * p + stat_number stat) 0 (omega arith) ∙ sym (stat_past picture p stat (λ h. let few = planes_few picture.shape.kind in omega arith))
-]
+table_whole picture table p stat long known = search (arith, number_few, at_is, get_or_past, stat_past, planes_few)
 
 pub known_ok : {E : Type 0} (r : Result ℕ E) (a b : ℕ) (named : Bool) → IfOk r (λ v. v ≡ a) → a ≡ b → IfOk r (λ v. named ≡ true → v ≡ b)
 known_ok (Ok v) a b named h e = λ n. h ∙ e
@@ -178,10 +160,6 @@ pub same_there : (pictures : List Picture) (i : ℕ) (d e : Picture) → i < len
 same_there [] i d e h = absurd (omega arith)
 same_there (p ∷ ps) zero d e h = refl
 same_there (p ∷ ps) (suc i) d e h = same_there ps i d e (omega arith)
-
-pub ok_to : {E : Type 0} (r : Result Picture E) (a b : Picture) → IfOk r (λ m. m ≡ a) → a ≡ b → IfOk r (λ m. m ≡ b)
-ok_to (Ok m) a b h e = h ∙ e
-ok_to (Err fault) a b h e = tt
 
 pub select_is : (pictures : List Picture) (test : Picture) (n : ℕ) (e : Expr) (a : Option ℤ) → test ≡ get_or pictures 0 test → 0 < length pictures → a ≡ value n (stats_of test) e
     → source_of (length pictures) a ≡ number_shown (choose (words e [])) n pictures

@@ -1,18 +1,12 @@
-use Rattle.std.proofs.Common.{List, ℕ, length, sym, subst, arith}
+use Rattle.std.proofs.Common.{List, ℕ, sym, subst, arith}
 use Rattle.fv_plane.specs.Picture.{row_of_bytes}
 use Rattle.fv_plane.proofs.CallerLemmas.{narrow_of_bytes, wide_of_bytes}
-use Rattle.flt_choice.specs.Counts.{AddsCounts, HasRoom}
+use Rattle.flt_choice.specs.Counts.{AddsCounts}
 use Rattle.flt_choice.proofs.SampleLemmas.{not_eight}
 use Rattle.flt_choice.proofs.counts.count_in.Goals as goal
 
 pub count_wide-requires-clause-inside : goal.count_wide-requires-clause-inside
-count_wide-requires-clause-inside c = λ x.
-    let same = wide_of_bytes c.args.shape c.args.bytes.now (not_eight c.args.shape c.if-shape-eq8.false) in
-    let few = rw same at (c.requires.fits x) in
-    omega (arith, few, c.requires.tables.values)
-
-pub count_bytes-requires-clause-room : goal.count_bytes-requires-clause-room
-count_bytes-requires-clause-room c = subst (λ (k : ℕ). HasRoom k c.args.counts.now (length c.args.bytes.now)) (c.requires.tables.narrow c.if-shape-eq8.true) c.requires.room
+count_wide-requires-clause-inside c = search (arith, wide_of_bytes, not_eight)
 
 pub returns-then-shape-eq8 : goal.returns-then-shape-eq8
 returns-then-shape-eq8 c =

@@ -38,15 +38,6 @@ loop-i-preserved c =
 pub count-requires-clause-sample : goal.count-requires-clause-sample
 count-requires-clause-sample c = omega (arith, c.requires.inside c.loop-x.x, c.wide_at.ensures)
 
-pub count-requires-clause-room : goal.count-requires-clause-room
-count-requires-clause-room c =
-    let bytes = c.args.bytes.now in
-    let samples = wide_samples bytes in
-    let inside = c.loop-x-test.true in
-    let front = length-take c.loop-x.x samples in
-    let long = length-wide_samples (length bytes / 2) bytes (let whole = c.requires.whole in omega arith) in
-    room_left c.args.size c.args.counts.now (take c.loop-x.x samples) c.loop-x.counts 1 (length bytes) c.requires.room c.loop-x.invariant (omega arith)
-
 pub loop-x-preserved : goal.loop-x-preserved
 loop-x-preserved c =
     let bytes = c.args.bytes.now in

@@ -21,16 +21,4 @@ returns c = λ samples are long.
     sym (not_found (is_half samples) c.args.values (λ k h. less_is c.args.size c.args.values c.args.counts.now samples c.args.total k c.requires.values are long h (c.loop-v.invariant.before k (omega arith))))
 
 pub loop-v-preserved : goal.loop-v-preserved
-loop-v-preserved c =
-    let counts = c.args.counts.now in
-    let inside = c.loop-v-test.true in
-    let more = total_more c.args.size c.args.values counts c.loop-v.v inside in
-    let here = c.counted-up_to.ensures.sum in
-    let few = c.counted-up_to.ensures.few in
-    let so_far = c.loop-v.invariant.so_far in
-    let less = c.if-up_to-total.false in
-    record {
-      so_far = omega arith;
-      few = let before = c.loop-v.invariant.few in omega arith;
-      before = below_more _ _ c.loop-v.invariant.before (omega arith);
-    }
+loop-v-preserved c = search (arith, total_more, below_more)

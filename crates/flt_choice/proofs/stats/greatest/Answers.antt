@@ -1,4 +1,4 @@
-use Rattle.std.proofs.Common.{sym, ap, ◌∙◌, take, drop, get_or, []}
+use Rattle.std.proofs.Common.{sym, ap, ◌∙◌, take, drop, get_or, [], arith}
 use Rattle.std.specs.Prelude.{max}
 use Rattle.std.specs.List.{fold}
 use Rattle.fv_plane.specs.declared.format.Shape.{Shape}
@@ -7,10 +7,7 @@ use Rattle.flt_choice.proofs.SampleLemmas.{rows_step, whole_rows}
 use Rattle.flt_choice.proofs.stats.greatest.Goals as goal
 
 pub greatest_in-greatest-requires-clause-whole : goal.greatest_in-greatest-requires-clause-whole
-greatest_in-greatest-requires-clause-whole c =
-    let rows = take c.rows_from-count.result.1 (drop c.loop-y.y (get_or c.args.frame.now.planes c.args.plane [])) in
-    let bytes = c.rows_from-count.result.0.now in
-    whole_rows c.shape-shape.result rows bytes (c.rows_from-count.ensures.rows ∙ ap (λ (s : Shape). bytes_of_rows s rows) (sym c.shape-shape.ensures.shape))
+greatest_in-greatest-requires-clause-whole c = search (arith, whole_rows)
 
 pub loop-y-preserved : goal.loop-y-preserved
 loop-y-preserved c =
