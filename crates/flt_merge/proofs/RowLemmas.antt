@@ -1,13 +1,14 @@
 -- Rows that are put are those that are listed.
-use Rattle.std.proofs.Common.{◌≡◌, ℕ, zero, suc, ◌*◌, ◌≤◌, ◌<◌, List, [], ◌∷◌, length, get_or, refl, sym, ◌∙◌, ap, arith, Bool, true, false, if◌then◌else◌, ◌==◌, ◌/◌}
+use Rattle.std.proofs.Common.{◌≡◌, ℕ, ◌*◌, ◌<◌, List, length, get_or, refl, sym, ◌∙◌, ap, arith, Bool, true, false, if◌then◌else◌, ◌==◌}
 use Rattle.std.specs.Simd.Lanes.{zip2}
 use Rattle.std.proofs.lemmas.List.{ext_get_or}
 use Rattle.std.proofs.lemmas.Simd.{length-zip2, get_or-zip2}
+use Rattle.std.proofs.lemmas.Grind.{common_steps}
 use Rattle.fv_plane.specs.declared.format.PixelType.{PixelType}
 use Rattle.fv_plane.specs.declared.format.PixelType.TheVariants.{Y8, YV12, YV16, YV24, YV411}
 use Rattle.fv_plane.specs.declared.format.Shape.{Shape}
 use Rattle.fv_plane.specs.Picture.{wide_samples, bytes_of_row, row_of_bytes, Picture, IsPicture, row_of}
-use Rattle.fv_plane.specs.Format.{HasSamePlane, planes, sub_w, sub_h, plane_width, plane_height}
+use Rattle.fv_plane.specs.Format.{HasSamePlane, planes, plane_width, plane_height}
 use Rattle.fv_plane.specs.Made.{bytes_made}
 use Rattle.fv_plane.proofs.FillLemmas.{Lists, row_listed}
 use Rattle.fv_plane.proofs.CallerLemmas.{length-row, row_again}
@@ -39,35 +40,17 @@ two_listed luma chroma a b same p z there inside =
     let shape : (one_of_two luma chroma p).shape ≡ luma.shape = chosen (λ one. one.shape ≡ luma.shape) (p == 0) luma chroma refl same in
     row_seen (one_of_two luma chroma p) p (look_of_two luma chroma) p (plane_width luma.shape p) z is (rw shape there) (rw shape inside) (ap (λ (s : Shape). plane_width s p) shape) (λ x. refl)
 
-three_sizes : (size : Picture → ℕ) (first second : Bool) (y u v : Picture) (luma chroma : ℕ) → luma ≡ size y → chroma ≡ size u → chroma ≡ size v
-    → (if first then luma else chroma) ≡ size (if first then y else if second then u else v)
-three_sizes size true second y u v luma chroma a b d = a
-three_sizes size false true y u v luma chroma a b d = b
-three_sizes size false false y u v luma chroma a b d = d
-
-three_bits : (first second : Bool) (y u v : Picture) (bits : ℕ) → bits ≡ y.shape.bits → bits ≡ u.shape.bits → bits ≡ v.shape.bits → bits ≡ (if first then y else if second then u else v).shape.bits
-three_bits true second y u v bits a b d = a
-three_bits false true y u v bits a b d = b
-three_bits false false y u v bits a b d = d
-
 -- each plane has the size of the luma that it is
 pub three_same : (shape : Shape) (y u v : Picture) → HasSamePlane shape 0 y.shape 0 → HasSamePlane shape 1 u.shape 0 → HasSamePlane shape 2 v.shape 0 → (p : ℕ)
     → HasSamePlane shape p (one_of_three y u v p).shape 0
-three_same shape y u v a b d p = record {
-  width = three_sizes (λ one. one.shape.width) (p == 0) (p == 1) y u v shape.width (shape.width / sub_w shape.kind) a.width b.width d.width;
-  height = three_sizes (λ one. one.shape.height) (p == 0) (p == 1) y u v shape.height (shape.height / sub_h shape.kind) a.height b.height d.height;
-  bits = three_bits (p == 0) (p == 1) y u v shape.bits a.bits b.bits d.bits;
-}
+three_same shape y u v a b d p = grind (arith, common_steps)
 
 three_pictures : (y u v : Picture) → IsPicture y → IsPicture u → IsPicture v → (p : ℕ) → IsPicture (one_of_three y u v p)
 three_pictures y u v a b d p = chosen (λ one. IsPicture one) (p == 0) y (if p == 1 then u else v) a (chosen (λ one. IsPicture one) (p == 1) u v b d)
 
 pub three_listed : (shape : Shape) (y u v : Picture) → IsPicture y → IsPicture u → IsPicture v → HasSamePlane shape 0 y.shape 0 → HasSamePlane shape 1 u.shape 0 → HasSamePlane shape 2 v.shape 0
     → Lists (rows_of_luma y u v) shape (look_of_luma y u v)
-three_listed shape y u v is_y is_u is_v a b d p z there inside =
-    let same = three_same shape y u v a b d p in
-    row_seen (one_of_three y u v p) 0 (look_of_luma y u v) p (plane_width shape p) z (three_pictures y u v is_y is_u is_v p) (some_planes (one_of_three y u v p).shape.kind)
-    (let high = same.height in omega arith) (sym same.width) (λ x. refl)
+three_listed shape y u v is_y is_u is_v a b d p z there inside = search (arith, three_same, row_seen, three_pictures, some_planes)
 
 -- MEANS
 
@@ -83,22 +66,10 @@ wide_means_are a b out long_a long_b each =
     (λ k within. each k within ∙ sym (ap (λ s. mean s (get_or (wide_samples b) k 0)) (wide_samples-at a k (omega arith)) ∙ ap (λ s. mean (pair a k) s) (wide_samples-at b k (omega arith))))
 
 pub means_listed : (a b : Picture) → IsPicture a → IsPicture b → b.shape ≡ a.shape → Lists (rows_of_means a b) a.shape (look_of_means a b)
-means_listed a b is_a is_b same p z there inside =
-    let long_a = length-row a p z is_a there inside in
-    let long_b : length (row_of b.planes p z) ≡ plane_width a.shape p = length-row b p z is_b (rw same there) (rw same inside) ∙ ap (λ (s : Shape). plane_width s p) same in
-    row_listed (rows_of_means a b p z) (look_of_means a b) p (plane_width a.shape p) z
-    (length-zip2 mean (row_of a.planes p z) (row_of b.planes p z) (long_a ∙ sym long_b) ∙ long_a)
-    (λ x within. get_or-zip2 mean (row_of a.planes p z) (row_of b.planes p z) x 0 0 0 (omega arith) (omega arith))
+means_listed a b is_a is_b same p z there inside = search (arith, length-row, row_listed, length-zip2, get_or-zip2)
 
 -- the bytes of the means of two rows are those of the row that is listed
 pub means_put : (a b : Picture) (shape : Shape) (p y : ℕ) (first second out : List ℕ) → IsPicture a → IsPicture b → shape ≡ a.shape → b.shape ≡ a.shape → p < planes a.shape.kind → y < plane_height a.shape p
     → first ≡ bytes_of_row a.shape (row_of a.planes p y) → second ≡ bytes_of_row b.shape (row_of b.planes p y)
     → out ≡ bytes_of_row shape (zip2 mean (row_of_bytes shape first) (row_of_bytes shape second)) → out ≡ bytes_made a.shape (look_of_means a b) p y
-means_put a b shape p y first second out is_a is_b is agree there inside row_a row_b put =
-    let samples_a : row_of_bytes a.shape first ≡ row_of a.planes p y = ap (row_of_bytes a.shape) row_a ∙ row_again a.shape (row_of a.planes p y) in
-    let samples_b : row_of_bytes a.shape second ≡ row_of b.planes p y
-    = ap (row_of_bytes a.shape) (row_b ∙ ap (λ (s : Shape). bytes_of_row s (row_of b.planes p y)) agree) ∙ row_again a.shape (row_of b.planes p y) in
-    put ∙ ap (λ (s : Shape). bytes_of_row s (zip2 mean (row_of_bytes s first) (row_of_bytes s second))) is
-    ∙ ap (λ l. bytes_of_row a.shape (zip2 mean l (row_of_bytes a.shape second))) samples_a
-    ∙ ap (λ l. bytes_of_row a.shape (zip2 mean (row_of a.planes p y) l)) samples_b
-    ∙ ap (bytes_of_row a.shape) (means_listed a b is_a is_b agree p y there inside)
+means_put a b shape p y first second out is_a is_b is agree there inside row_a row_b put = search (arith, row_again, means_listed)

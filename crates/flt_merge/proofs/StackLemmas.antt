@@ -1,12 +1,12 @@
 -- Pictures one after the other: the sizes of their planes together, and the samples in them.
-use Rattle.std.proofs.Common.{◌≡◌, ℕ, zero, suc, ◌^◌, ◌+◌, ◌-◌, ◌*◌, ◌/◌, ◌%◌, ◌<◌, ◌≤◌, List, [], ◌∷◌, ◌++◌, length, get_or, take, map, refl, sym, ◌∙◌, ap, arith, inl, inr, Bool, true, false, if◌then◌else◌, ◌==◌, nat_lt, sum_by, All, flat_map, add-mul, mul-div_cancel, subst, append-nil, drop, get_or-take, get_or-drop, length-take-le, length-drop}
+use Rattle.std.proofs.Common.{◌≡◌, ℕ, zero, suc, ◌^◌, ◌+◌, ◌-◌, ◌*◌, ◌/◌, ◌%◌, ◌<◌, ◌≤◌, List, [], ◌∷◌, ◌++◌, length, get_or, take, map, refl, sym, ◌∙◌, ap, arith, inl, inr, Bool, true, false, if◌then◌else◌, ◌==◌, nat_lt, sum_by, All, flat_map, add-mul, mul-div_cancel, subst, drop, get_or-take, get_or-drop, length-take-le, length-drop}
 use borrow.Rule.Slice.PartMut.{put_mid}
-use Rattle.std.proofs.lemmas.List.{get_or_append_left, get_or-append_right, length-append, take_more, get_or_read_under, get_or_past, length-take}
-use Rattle.std.proofs.lemmas.List.Concat.{length-flat_map, get_or-flat_map, flat_map-append}
+use Rattle.std.proofs.lemmas.List.{get_or_append_left, get_or-append_right, length-append, get_or_read_under}
+use Rattle.std.proofs.lemmas.List.Concat.{length-flat_map, get_or-flat_map}
 use Rattle.std.proofs.lemmas.List.Sums.{sum_by-cons, sum_by_more, sum_by_more_le}
 use Rattle.std.proofs.lemmas.Bool.{cases_eq, cases_lt}
 use Rattle.std.proofs.lemmas.Bool.Decides.{nat_tests}
-use Rattle.fv_plane.specs.declared.format.Info.{Info}
+use Rattle.std.proofs.lemmas.Grind.{common_steps}
 use Rattle.fv_plane.specs.declared.format.PixelType.{PixelType}
 use Rattle.fv_plane.specs.declared.format.PixelType.TheVariants.{Y8, YV12, YV16, YV24, YV411}
 use Rattle.fv_plane.specs.declared.format.Shape.{Shape}
@@ -19,7 +19,6 @@ use Rattle.fv_plane.proofs.BytesLemmas.{bytes_of_row-nil, bytes_of_row-same, byt
 use Rattle.fv_plane.proofs.FillLemmas.{Lists, row_listed}
 use Rattle.clip_term.proofs.BoundedLemmas as bounds
 use Rattle.clip_term.proofs.JoinFacts.{join_facts}
-use Rattle.clip_term.specs.Refusals.{no_info}
 use Rattle.clip_term.specs.Join.{beside, beneath, join_at}
 use Rattle.clip_term.specs.declared.op.JoinOp.TheVariants.{StackHorizontal, StackVertical}
 use Rattle.flt_merge.specs.Joined.{infos_in, shape_joined}
@@ -169,8 +168,7 @@ module _ (shape : Shape) (pictures : List Picture) (make : Beside shape pictures
 
 pub total_more : (size : Picture → ℕ) (pictures : List Picture) (i total : ℕ) (one : Picture) → i < length pictures → one ≡ get_or pictures i one → total ≡ sum_by size (take i pictures)
     → total + size one ≡ sum_by size (take (i + 1) pictures)
-total_more size pictures i total one h is so_far =
-    ap (λ n. n + size one) so_far ∙ ap (λ q. sum_by size (take i pictures) + size q) is ∙ sym (sum_by_more size pictures i one h)
+total_more size pictures i total one h is so_far = grind (arith, common_steps)
 
 pub sizes_more : (pictures : List Picture) (i : ℕ) (one : Picture) → i < length pictures → one ≡ get_or pictures i one → IsPicture one → ((k : ℕ) (d : Picture) → k < i → IsPicture (get_or pictures k d))
     → (k : ℕ) (d : Picture) → k < i + 1 → IsPicture (get_or pictures k d)
@@ -182,26 +180,12 @@ sizes_more pictures i one h is picture so_far k d within = elim (cases_eq k i) [
 -- the rows of the pictures so far, and of the next one
 pub row_more : (row : Picture → List ℕ) (pictures : List Picture) (i : ℕ) (one : Picture) → i < length pictures → one ≡ get_or pictures i one
     → flat_map row (take (i + 1) pictures) ≡ flat_map row (take i pictures) ++ row one
-row_more row pictures i one h is =
-    ap (flat_map row) (take_more pictures i one h ∙ ap (λ q. take i pictures ++ q ∷ []) (sym is)) ∙ flat_map-append row (take i pictures) (one ∷ [])
-    ∙ ap (λ l. flat_map row (take i pictures) ++ l) (append-nil (row one))
+row_more row pictures i one h is = grind (arith, common_steps)
 
 -- they end inside the row of all
 pub row_fits : (row : Picture → List ℕ) (pictures : List Picture) (i : ℕ) (one : Picture) → i < length pictures → one ≡ get_or pictures i one
     → length (flat_map row (take i pictures)) + length (row one) ≤ length (flat_map row pictures)
-row_fits row pictures i one h is =
-    let part : length (flat_map row (take i pictures)) ≡ sum_by (λ q. length (row q)) (take i pictures) = length-flat_map row (take i pictures) in
-    let whole : length (flat_map row pictures) ≡ sum_by (λ q. length (row q)) pictures = length-flat_map row pictures in
-    let fits : sum_by (λ q. length (row q)) (take i pictures) + length (row (get_or pictures i one)) ≤ sum_by (λ q. length (row q)) pictures = sum_by_more_le (λ q. length (row q)) pictures i one h in
-    let same : length (row one) ≡ length (row (get_or pictures i one)) = ap (λ q. length (row q)) is in
-    omega (arith, part, whole, fits, same)
-
--- sizes of the pictures, as of their clips
-pub infos_sum : (size : Shape → ℕ) (pictures : List Picture) → sum_by (λ (d : Info). size d.shape) (infos_in pictures) ≡ sum_by (λ (q : Picture). size q.shape) pictures
-infos_sum size [] = refl
-infos_sum size (one ∷ more) =
-    sum_by-cons (λ (d : Info). size d.shape) (record no_info { shape = one.shape }) (infos_in more) ∙ ap (λ n. size one.shape + n) (infos_sum size more)
-    ∙ sym (sum_by-cons (λ (q : Picture). size q.shape) one more)
+row_fits row pictures i one h is = search (arith, flat_map, sum_by, length-flat_map, sum_by_more_le)
 
 -- SAMPLES
 
@@ -305,10 +289,7 @@ fits_rows most [] few x = omega arith
 fits_rows most (row ∷ rows) few x = bounded-append most row (flat_rows rows) (λ k. few k 0) (fits_rows most rows (λ k y. few k (suc y))) x
 
 part_few : (most : ℕ) (rows : List (List ℕ)) (y n : ℕ) → ((x z : ℕ) → get_or (get_or rows z []) x 0 ≤ most) → (x z : ℕ) → get_or (get_or (take n (drop y rows)) z []) x 0 ≤ most
-part_few most rows y n few x z = elim (cases_lt z n) [
-  | inl within ↦ rw (get_or-take n (drop y rows) z [] within, get_or-drop y rows z []) (few x (y + z))
-  | inr past ↦ rw (get_or_past (take n (drop y rows)) z [] (omega (arith, length-take n (drop y rows)))) (omega arith)
-]
+part_few most rows y n few x z = grind (arith, common_steps)
 
 -- the bytes of rows of a picture fit in a shape of its bits
 pub fit_rows : (picture : Picture) (shape : Shape) (p y n : ℕ) (bytes : List ℕ) → IsPicture picture → picture.shape.bits ≡ shape.bits → bytes ≡ bytes_of_rows picture.shape (take n (drop y (get_or picture.planes p []))) → FitBytes shape bytes
@@ -323,12 +304,10 @@ fit_rows picture shape p y n bytes is same told =
 
 -- pictures of the format and width of a stack make it
 pub beneath_by : (shape : Shape) (pictures : List Picture) → shape ≡ shape_joined StackVertical pictures → All IsPicture pictures → HaveWidth (shape_joined StackVertical pictures) pictures → Beneath shape pictures
-beneath_by shape pictures is sizes alike =
-    rw is (record { sizes = sizes; alike = alike; total = infos_sum (λ (s : Shape). s.height) pictures })
+beneath_by shape pictures is sizes alike = grind (arith, common_steps)
 
 pub beside_by : (shape : Shape) (pictures : List Picture) → shape ≡ shape_joined StackHorizontal pictures → All IsPicture pictures → HaveHeight (shape_joined StackHorizontal pictures) pictures → Beside shape pictures
-beside_by shape pictures is sizes alike =
-    rw is (record { sizes = sizes; alike = alike; total = infos_sum (λ (s : Shape). s.width) pictures })
+beside_by shape pictures is sizes alike = grind (arith, common_steps)
 
 -- the picture that is read next
 module _ (shape : Shape) (pictures : List Picture) (make : Beneath shape pictures) (p i : ℕ) (one : Picture) (there : p < planes shape.kind) (h : i < length pictures) (is : one ≡ get_or pictures i one) where

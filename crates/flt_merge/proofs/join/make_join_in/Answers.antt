@@ -1,4 +1,4 @@
-use Rattle.std.proofs.Common.{◌≡◌, List, [], ◌∷◌, ◌∙◌, IfOk, ap, sym, subst, length}
+use Rattle.std.proofs.Common.{◌≡◌, List, [], ◌∷◌, ◌∙◌, IfOk, ap, sym, subst, arith}
 use Rattle.fv_plane.specs.Picture.{Picture}
 use Rattle.clip_term.specs.declared.op.JoinOp.{JoinOp}
 use Rattle.clip_term.specs.declared.op.JoinOp.TheVariants as op
@@ -15,38 +15,17 @@ pub stack_vertical-requires-clause-alike : goal.stack_vertical-requires-clause-a
 stack_vertical-requires-clause-alike c = have_width c.args.inputs.now (subst (λ (o : JoinOp). CanJoin o c.args.inputs.now) c.in-StackVertical.is c.requires)
 
 pub merge-requires : goal.merge-requires
-merge-requires c =
-    let inputs : List Picture = c.args.inputs.now in
-    let a : Picture = c.index-inputs-0.result in
-    let b : Picture = c.index-inputs-1.result in
-    let can : CanJoin op.Merge inputs = subst (λ (o : JoinOp). CanJoin o inputs) c.in-Merge.is c.requires in
-    let two = two_are inputs a b (same_number (length inputs) 2 can.inputs) c.index-inputs-0.is c.index-inputs-1.is in
-    means_agree a b (subst (λ (l : List Picture). CanJoin op.Merge l) two can)
+merge-requires c = search (arith, two_are, same_number, means_agree)
 
 pub luma_and_chroma-requires : goal.luma_and_chroma-requires
-luma_and_chroma-requires c =
-    let inputs : List Picture = c.args.inputs.now in
-    let a : Picture = c.index-inputs-0-in-MergeLuma.result in
-    let b : Picture = c.index-inputs-1-in-MergeLuma.result in
-    let can : CanJoin op.MergeLuma inputs = subst (λ (o : JoinOp). CanJoin o inputs) c.in-MergeLuma.is c.requires in
-    let two = two_are inputs a b (same_number (length inputs) 2 can.inputs) c.index-inputs-0-in-MergeLuma.is c.index-inputs-1-in-MergeLuma.is in
-    sym (luma_agree a b (subst (λ (l : List Picture). CanJoin op.MergeLuma l) two can))
+luma_and_chroma-requires c = search (arith, two_are, same_number, luma_agree)
 
 pub luma_and_chroma-requires-in-MergeChroma : goal.luma_and_chroma-requires-in-MergeChroma
-luma_and_chroma-requires-in-MergeChroma c =
-    let inputs : List Picture = c.args.inputs.now in
-    let a : Picture = c.index-inputs-0-in-MergeChroma.result in
-    let b : Picture = c.index-inputs-1-in-MergeChroma.result in
-    let can : CanJoin op.MergeChroma inputs = subst (λ (o : JoinOp). CanJoin o inputs) c.in-MergeChroma.is c.requires in
-    let two = two_are inputs a b (same_number (length inputs) 2 can.inputs) c.index-inputs-0-in-MergeChroma.is c.index-inputs-1-in-MergeChroma.is in
-    chroma_agree a b (subst (λ (l : List Picture). CanJoin op.MergeChroma l) two can)
+luma_and_chroma-requires-in-MergeChroma c = search (arith, two_are, same_number, chroma_agree)
 
 -- the pictures that YToUV joins
 three : (c : After-index-inputs-2) → c.args.inputs.now ≡ c.index-inputs-0-in-YToUV.result ∷ c.index-inputs-1-in-YToUV.result ∷ c.index-inputs-2.result ∷ []
-three c =
-    let can : CanJoin op.YToUV c.args.inputs.now = subst (λ (o : JoinOp). CanJoin o c.args.inputs.now) c.in-YToUV.is c.requires in
-    three_are c.args.inputs.now c.index-inputs-0-in-YToUV.result c.index-inputs-1-in-YToUV.result c.index-inputs-2.result (same_number (length c.args.inputs.now) 3 can.inputs)
-    c.index-inputs-0-in-YToUV.is c.index-inputs-1-in-YToUV.is c.index-inputs-2.is
+three c = search (arith, three_are, same_number)
 
 can_three : (c : After-index-inputs-2) → CanJoin op.YToUV (c.index-inputs-0-in-YToUV.result ∷ c.index-inputs-1-in-YToUV.result ∷ c.index-inputs-2.result ∷ [])
 can_three c = subst (λ (l : List Picture). CanJoin op.YToUV l) (three c) (subst (λ (o : JoinOp). CanJoin o c.args.inputs.now) c.in-YToUV.is c.requires)
@@ -64,15 +43,7 @@ pub y_to_uv-requires-clause-bits : goal.y_to_uv-requires-clause-bits
 y_to_uv-requires-clause-bits c = (chroma_fits c.index-inputs-0-in-YToUV.result c.index-inputs-1-in-YToUV.result c.index-inputs-2.result (can_three c)).2
 
 pub returns-in-MergeLuma : goal.returns-in-MergeLuma
-returns-in-MergeLuma c =
-    let inputs : List Picture = c.args.inputs.now in
-    let a : Picture = c.index-inputs-0-in-MergeLuma.result in
-    let b : Picture = c.index-inputs-1-in-MergeLuma.result in
-    let can : CanJoin op.MergeLuma inputs = subst (λ (o : JoinOp). CanJoin o inputs) c.in-MergeLuma.is c.requires in
-    let two = two_are inputs a b (same_number (length inputs) 2 can.inputs) c.index-inputs-0-in-MergeLuma.is c.index-inputs-1-in-MergeLuma.is in
-    let same = luma_agree a b (subst (λ (l : List Picture). CanJoin op.MergeLuma l) two can) in
-    subst (λ (q : Picture). IfOk c.luma_and_chroma.result (λ made. made ≡ q))
-    (merge_luma_is a b same ∙ ap (λ (l : List Picture). join_picture op.MergeLuma l) (sym two) ∙ ap (λ (o : JoinOp). join_picture o inputs) (sym c.in-MergeLuma.is)) c.luma_and_chroma.ensures
+returns-in-MergeLuma c = search (arith, two_are, same_number, luma_agree, merge_luma_is)
 
 pub returns-in-YToUV : goal.returns-in-YToUV
 returns-in-YToUV c =

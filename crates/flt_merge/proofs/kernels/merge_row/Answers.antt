@@ -1,4 +1,4 @@
-use Rattle.std.proofs.Common.{rules, ◌≡◌, ◌*◌, w8, length, arith}
+use Rattle.std.proofs.Common.{rules, ◌*◌, w8, arith}
 use Rattle.std.proofs.lemmas.Simd.{chunk-fits}
 use Rattle.flt_merge.proofs.LaneLemmas.{sums_fit, raised_fit, means_fit, lanes_merged}
 use Rattle.flt_merge.proofs.RowLemmas.{means_are}
@@ -21,9 +21,7 @@ overflow_cast-out c =
     means_fit (chunk at 32 c.args.a.now) (chunk at 32 c.args.b.now) (chunk-fits w8 at 32 c.args.a.now c.type_inv.a) (chunk-fits w8 at 32 c.args.b.now c.type_inv.b)
 
 pub loop-k-preserved : goal.loop-k-preserved
-loop-k-preserved c =
-    let same : length c.loop-k.out ≡ length c.args.out.now = c.loop-k.auto.out in
-    lanes_merged c.args.a.now c.args.b.now c.loop-k.out c.loop-k.k (omega (arith, same, c.loop-k-test.true)) (omega (arith, same, c.requires.a)) (omega (arith, same, c.requires.b)) c.loop-k.invariant
+loop-k-preserved c = search (arith, lanes_merged)
 
 pub returns : goal.returns
 returns c = means_are c.args.a.now c.args.b.now c.loop-x.out (search rules) (search rules) (λ k h. c.loop-x.invariant k (omega arith))

@@ -1,18 +1,13 @@
-use Rattle.std.proofs.Common.{rules, ap, ◌≡◌, ◌==◌, refl}
+use Rattle.std.proofs.Common.{rules, ap, arith}
 use Rattle.fv_plane.specs.Picture.{Picture, row_of}
 use Rattle.fv_plane.proofs.FillLemmas.{filled_done}
-use Rattle.flt_merge.specs.Rows.{one_of_two, rows_of_two, look_of_two}
+use Rattle.flt_merge.specs.Rows.{rows_of_two, look_of_two}
 use Rattle.fv_plane.proofs.WholePlaneLemmas.{filled_whole}
 use Rattle.flt_merge.proofs.RowLemmas.{two_listed, chosen, same_plane}
 use Rattle.flt_merge.proofs.planes.luma_and_chroma.Goals as goal
 
 pub put_plane-requires-clause-same : goal.put_plane-requires-clause-same
-put_plane-requires-clause-same c =
-    let luma = c.args.luma.now in
-    let chroma = c.args.chroma.now in
-    let p = c.loop-plane.plane in
-    let one : (one_of_two luma chroma p).shape ≡ luma.shape = chosen (λ q. q.shape ≡ luma.shape) (p == 0) luma chroma refl c.requires in
-    rw (c.loop-plane.invariant.same, c.one_of_two.ensures) (same_plane luma.shape (one_of_two luma chroma p).shape p one)
+put_plane-requires-clause-same c = search (arith, chosen, same_plane)
 
 pub loop-plane-preserved : goal.loop-plane-preserved
 loop-plane-preserved c =

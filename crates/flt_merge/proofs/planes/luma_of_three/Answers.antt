@@ -1,4 +1,4 @@
-use Rattle.std.proofs.Common.{rules, ap}
+use Rattle.std.proofs.Common.{rules, ap, arith}
 use Rattle.fv_plane.specs.Picture.{Picture, row_of}
 use Rattle.fv_plane.proofs.FillLemmas.{filled_done}
 use Rattle.flt_merge.specs.Rows.{rows_of_luma, look_of_luma}
@@ -7,9 +7,7 @@ use Rattle.flt_merge.proofs.RowLemmas.{three_same, three_listed}
 use Rattle.flt_merge.proofs.planes.luma_of_three.Goals as goal
 
 pub put_plane-requires-clause-same : goal.put_plane-requires-clause-same
-put_plane-requires-clause-same c =
-    rw (c.loop-plane.invariant.same, c.one_of_three.ensures)
-    (three_same c.args.shape c.args.y.now c.args.u.now c.args.v.now c.requires.y c.requires.u c.requires.v c.loop-plane.plane)
+put_plane-requires-clause-same c = search (arith, three_same)
 
 pub loop-plane-preserved : goal.loop-plane-preserved
 loop-plane-preserved c =

@@ -1,4 +1,3 @@
-use Rattle.std.proofs.Common.{arith}
 use Rattle.fv_plane.specs.Picture.{Picture}
 use Rattle.flt_merge.proofs.StackLemmas.{total_more, sizes_more}
 use Rattle.flt_merge.proofs.stack.height_of_all.Goals as goal
@@ -10,6 +9,3 @@ loop-i-preserved c =
       total = rw c.shape-height.ensures.shape (total_more (λ (q : Picture). q.shape.height) c.args.inputs.now c.loop-i.i c.loop-i.height one c.loop-i-test.true c.index-inputs-i.is c.loop-i.invariant.total);
       sizes = sizes_more c.args.inputs.now c.loop-i.i one c.loop-i-test.true c.index-inputs-i.is c.shape-height.ensures.sizes c.loop-i.invariant.sizes;
     }
-
-pub returns-clause-sizes : goal.returns-clause-sizes
-returns-clause-sizes c = λ k d h. c.loop-i.invariant.sizes k d (omega arith)

@@ -1,19 +1,10 @@
-use Rattle.std.proofs.Common.{◌≡◌, map, sym, subst, IfOk}
+use Rattle.std.proofs.Common.{◌≡◌, map, subst, IfOk}
 use Rattle.fv_plane.specs.declared.format.Shape.{Shape}
-use Rattle.fv_plane.specs.Format.{IsLegal}
 use Rattle.fv_plane.specs.Picture.{look_in, picture_from}
 use Rattle.clip_term.specs.declared.op.JoinOp.TheVariants.{StackHorizontal}
 use Rattle.clip_term.specs.Join.{join_at}
 use Rattle.flt_merge.specs.Joined.{infos_in}
 use Rattle.flt_merge.proofs.stack.stack_horizontal.Goals as goal
-
-pub make_by_rows-requires : goal.make_by_rows-requires
-make_by_rows-requires c = record {
-  is = c.shape_beside-shape.ensures.shape;
-  legal = subst (λ (s : Shape). IsLegal s) (sym c.shape_beside-shape.ensures.shape) c.requires.legal;
-  sizes = c.shape_beside-shape.ensures.sizes;
-  alike = c.requires.alike;
-}
 
 pub returns : goal.returns
 returns c =

@@ -21,9 +21,6 @@ loop-plane-init c = record {
   here = λ z before. absurd (omega arith);
 }
 
-pub loop-i-init : goal.loop-i-init
-loop-i-init c = record { top = refl; filled = c.loop-plane.invariant }
-
 pub loop-y-init : goal.loop-y-init
 loop-y-init c =
     let from : c.loop-i.top ≡ c.loop-i.top + 0 = omega arith in
@@ -46,16 +43,6 @@ overflow_add-top c =
     let height : c.plane_height-height.result ≡ plane_height one.shape p = c.plane_height-height.ensures ∙ ap (λ (s : Shape). plane_height s p) c.shape.ensures.shape in
     let ends : top + plane_height one.shape p ≤ plane_height shape p = next_ends shape inputs make p i one there c.loop-i-test.true c.index-inputs-i.is top c.loop-i.invariant.top in
     record { fits = omega (arith, ends, height, c.loop-y.invariant.inside, plane_height_le shape p, c.requires.legal.most_height) }
-
-pub put_rows-requires-clause-plane : goal.put_rows-requires-clause-plane
-put_rows-requires-clause-plane c =
-    let inputs : List Picture = c.args.inputs.now in
-    let shape : Shape = shape_joined StackVertical inputs in
-    let is_shape : c.shape_beneath-shape.result ≡ shape = c.shape_beneath-shape.ensures.shape in
-    let make = beneath_by shape inputs refl c.shape_beneath-shape.ensures.sizes c.requires.alike in
-    let p : ℕ = c.loop-plane.plane in
-    let there : p < planes shape.kind = omega (arith, c.loop-plane-test.true, c.planes-plane-end.ensures, ap (λ (s : Shape). planes s.kind) is_shape) in
-    omega (arith, there, ap (λ (s : Shape). planes s.kind) c.loop-y.invariant.filled.same)
 
 pub put_rows-requires-clause-inside : goal.put_rows-requires-clause-inside
 put_rows-requires-clause-inside c =
@@ -104,26 +91,7 @@ put_rows-requires-clause-whole c =
     bytes.long
 
 pub put_rows-requires-clause-fits : goal.put_rows-requires-clause-fits
-put_rows-requires-clause-fits c =
-    let inputs : List Picture = c.args.inputs.now in
-    let shape : Shape = shape_joined StackVertical inputs in
-    let is_shape : c.shape_beneath-shape.result ≡ shape = c.shape_beneath-shape.ensures.shape in
-    let make = beneath_by shape inputs refl c.shape_beneath-shape.ensures.sizes c.requires.alike in
-    let p : ℕ = c.loop-plane.plane in
-    let there : p < planes shape.kind = omega (arith, c.loop-plane-test.true, c.planes-plane-end.ensures, ap (λ (s : Shape). planes s.kind) is_shape) in
-    let one : Picture = c.index-inputs-i.result in
-    let i : ℕ = c.loop-i.i in
-    let top : ℕ = c.loop-i.top in
-    let height : c.plane_height-height.result ≡ plane_height one.shape p = c.plane_height-height.ensures ∙ ap (λ (s : Shape). plane_height s p) c.shape.ensures.shape in
-    let ends : top + plane_height one.shape p ≤ plane_height shape p = next_ends shape inputs make p i one there c.loop-i-test.true c.index-inputs-i.is top c.loop-i.invariant.top in
-    let other : Picture = c.index-inputs-i-in-loop-y.result in
-    let more : top + plane_height other.shape p ≤ plane_height shape p = next_ends shape inputs make p i other there c.loop-i-test.true c.index-inputs-i-in-loop-y.is top c.loop-i.invariant.top in
-    let y : ℕ = c.loop-y.y in
-    let n : ℕ = c.rows_from-count.result.1 in
-    let made : Picture = c.loop-y.made in
-    let same : made.shape ≡ shape = c.loop-y.invariant.filled.same in
-    fit_rows other made.shape p y n c.rows_from-count.result.0.now (next_is shape inputs make p i other there c.loop-i-test.true c.index-inputs-i-in-loop-y.is)
-    (next_bits shape inputs make p i other there c.loop-i-test.true c.index-inputs-i-in-loop-y.is ∙ ap (λ (s : Shape). s.bits) (sym same)) c.rows_from-count.ensures.rows
+put_rows-requires-clause-fits c = search (arith, beneath_by, next_ends, fit_rows, next_is, next_bits)
 
 pub loop-y-preserved : goal.loop-y-preserved
 loop-y-preserved c =

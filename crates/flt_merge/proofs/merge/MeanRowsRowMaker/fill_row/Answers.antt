@@ -1,6 +1,3 @@
-use Rattle.std.proofs.Common.{◌≡◌, ◌∙◌, ap, sym}
-use Rattle.fv_plane.specs.declared.format.Shape.{Shape}
-use Rattle.fv_plane.specs.Format.{planes, plane_height, row_bytes}
 use Rattle.flt_merge.proofs.RowLemmas.{means_put}
 use Rattle.flt_merge.proofs.merge.MeanRowsRowMaker.fill_row.Goals as goal
 

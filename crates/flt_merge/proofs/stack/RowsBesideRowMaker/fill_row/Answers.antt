@@ -1,23 +1,11 @@
-use Rattle.std.proofs.Common.{rules, ◌≡◌, ◌∙◌, ◌*◌, ℕ, List, ap, length, sym, arith}
+use Rattle.std.proofs.Common.{◌∙◌, ◌*◌, ℕ, List, ap, length, arith}
 use Rattle.fv_plane.specs.declared.format.Shape.{Shape}
 use Rattle.fv_plane.specs.Format.{sample_bytes}
 use Rattle.fv_plane.specs.Picture.{bytes_of_row}
 use Rattle.fv_plane.proofs.BytesLemmas.{length-bytes_of_row}
 use Rattle.flt_merge.specs.Rows.{rows_beside}
-use Rattle.flt_merge.proofs.StackLemmas.{beside_by, beside_listed, bytes_beside_are, heights_beside, planes_beside, row_of_all}
+use Rattle.flt_merge.proofs.StackLemmas.{beside_by, beside_listed, bytes_beside_are, row_of_all}
 use Rattle.flt_merge.proofs.stack.RowsBesideRowMaker.fill_row.Goals as goal
-
-pub fill_row-requires-clause-plane : goal.fill_row-requires-clause-plane
-fill_row-requires-clause-plane c =
-    let rows = c.args.self.now in
-    let able = c.requires.able in
-    planes_beside rows.shape rows.inputs.now (beside_by rows.shape rows.inputs.now able.is able.sizes able.alike) c.args.plane c.requires.plane
-
-pub fill_row-requires-clause-inside : goal.fill_row-requires-clause-inside
-fill_row-requires-clause-inside c =
-    let rows = c.args.self.now in
-    let able = c.requires.able in
-    heights_beside rows.shape rows.inputs.now (beside_by rows.shape rows.inputs.now able.is able.sizes able.alike) c.args.plane c.args.y c.requires.inside
 
 pub fill_row-requires-clause-whole : goal.fill_row-requires-clause-whole
 fill_row-requires-clause-whole c =
