@@ -5,6 +5,7 @@ use Rattle.std.proofs.lemmas.Bool.{cases_lt}
 use Rattle.std.proofs.lemmas.Bool.Decides.{nat_tests}
 use Rattle.std.proofs.lemmas.List.{get_or-map, get_or_past, length-map}
 use Rattle.std.proofs.Math.Pow.{pow_mono}
+use Rattle.std.proofs.lemmas.Grind.{common_steps}
 use Rattle.fv_plane.specs.declared.format.Shape.{Shape}
 use Rattle.fv_plane.specs.Picture.{FitsRow, Look, look_in, picture_from, row_from, Picture, IsPicture, row_of}
 use Rattle.fv_plane.specs.Format.{IsLegal, planes, plane_width, plane_height}
@@ -26,11 +27,7 @@ pub record IsDepth (bits : ℕ) : Type 0 where
   pub most : bits ≤ 16
 
 of_five : (bits : ℕ) → (bits ≡ 8) ⊎ ((bits ≡ 10) ⊎ ((bits ≡ 12) ⊎ ((bits ≡ 14) ⊎ (bits ≡ 16)))) → IsDepth bits
-of_five bits (inl is) = record { least = omega arith; most = omega arith }
-of_five bits (inr (inl is)) = record { least = omega arith; most = omega arith }
-of_five bits (inr (inr (inl is))) = record { least = omega arith; most = omega arith }
-of_five bits (inr (inr (inr (inl is)))) = record { least = omega arith; most = omega arith }
-of_five bits (inr (inr (inr (inr is)))) = record { least = omega arith; most = omega arith }
+of_five bits v1 = grind (arith, common_steps)
 
 pub depth_of : (shape : Shape) → IsLegal shape → IsDepth shape.bits
 depth_of shape legal = of_five shape.bits (five_depths shape.kind shape.bits legal.depth)
@@ -52,24 +49,17 @@ raised_small old new n more most few =
 
 -- the same bits leave it as it is
 same_bits : (bits n : ℕ) → converted bits bits n ≡ n
-same_bits bits n =
-    let none : bits - bits ≡ 0 = omega arith in
-    raised bits bits n (omega arith) ∙ rw none (omega arith)
+same_bits bits n = grind (arith, common_steps)
 
 -- a row whose samples are scaled
 pub scaled_row : (old new factor : ℕ) (row out : List ℕ) → old ≤ new → factor ≡ 2 ^ (new - old) → length out ≡ length row
     → ((k : ℕ) → k < length out → get_or out k 0 ≡ get_or row k 0 * factor) → out ≡ map (converted old new) row
-scaled_row old new factor row out more is long each =
-    mapped (converted old new) row out long
-    (λ k within. each k (omega (arith, within, long)) ∙ ap (λ n. get_or row k 0 * n) is ∙ sym (raised old new (get_or row k 0) more))
+scaled_row old new factor row out more is long each = search (arith, mapped, raised)
 
 -- and one whose samples are rounded
 pub rounded_row : (old new bits largest : ℕ) (row out : List ℕ) → new < old → bits ≡ old - new → largest ≡ 2 ^ new - 1 → length out ≡ length row
     → ((k : ℕ) → k < length out → get_or out k 0 ≡ min largest ((get_or row k 0 + 2 ^ (bits - 1)) / 2 ^ bits)) → out ≡ map (converted old new) row
-rounded_row old new bits largest row out fewer is most long each =
-    mapped (converted old new) row out long
-    (λ k within. each k (omega (arith, within, long)) ∙ ap (λ m. min m ((get_or row k 0 + 2 ^ (bits - 1)) / 2 ^ bits)) most
-    ∙ ap (λ b. min (2 ^ new - 1) ((get_or row k 0 + 2 ^ (b - 1)) / 2 ^ b)) is ∙ sym (lowered old new (get_or row k 0) fewer))
+rounded_row old new bits largest row out fewer is most long each = search (arith, mapped, lowered)
 
 module _ (input : Picture) (is : IsPicture input) where
   -- a row in other bits is the one that is listed

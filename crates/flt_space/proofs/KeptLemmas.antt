@@ -1,6 +1,7 @@
 -- Planes that a filter keeps.
-use Rattle.std.proofs.Common.{◌≡◌, ℕ, Bool, true, false, refl}
+use Rattle.std.proofs.Common.{◌≡◌, ℕ, Bool, true, false, arith}
 use Rattle.std.specs.Prelude.{if◌then◌else◌, not}
+use Rattle.std.proofs.lemmas.Grind.{common_steps}
 use Rattle.fv_plane.specs.declared.format.Shape.{Shape}
 use Rattle.fv_plane.specs.Picture.{Look}
 use Rattle.clip_term.specs.declared.op.SpaceOp.{SpaceOp}
@@ -9,18 +10,13 @@ use Rattle.clip_term.proofs.SpaceFacts.{space_facts}
 use Rattle.flt_space.specs.Kept.{keeps_plane}
 
 pub first_of : {A : Type 0} (test : Bool) (a b : A) → test ≡ true → (if test then a else b) ≡ a
-first_of true a b e = refl
-first_of false a b e = cc
+first_of v0 a b e = grind (arith, common_steps)
 
 pub second_of : {A : Type 0} (test : Bool) (a b : A) → test ≡ false → (if test then a else b) ≡ b
-second_of true a b e = cc
-second_of false a b e = refl
+second_of v0 a b e = grind (arith, common_steps)
 
 pub negated : (test other : Bool) → not test ≡ not other → test ≡ other
-negated true true e = refl
-negated false false e = refl
-negated true false e = cc
-negated false true e = cc
+negated v0 v1 e = grind (arith, common_steps)
 
 -- the size stays
 pub kept_shape : (filter : SpaceOp) (shape : Shape) (p : ℕ) → keeps_plane filter p ≡ true → space_shape filter shape ≡ shape

@@ -1,8 +1,9 @@
 -- Rows that are changed in their place, 32 samples at a time.
 use Rattle.std.proofs.Common.{◌≡◌, ◌∙◌, ℕ, ◌+◌, ◌*◌, ◌-◌, ◌^◌, ◌<◌, ◌≤◌, min, max, Bool, cond, ltb, List, [], ◌∷◌, length, get_or, map, replicate, w8, ap, sym, refl, subst, arith, ⊎_elim}
-use Rattle.std.proofs.lemmas.Bool.{cases_lt, cond_above, cond_below}
+use Rattle.std.proofs.lemmas.Bool.{cases_lt}
 use Rattle.std.proofs.lemmas.List.{get_or-map, length-map}
 use Rattle.std.proofs.lemmas.Simd.{length-chunk, get_or-chunk, length-put_chunk, get_or-put_chunk_below, get_or-put_chunk_at, get_or-put_chunk_above, tops_compared}
+use Rattle.std.proofs.lemmas.Grind.{common_steps}
 use Rattle.clip_term.specs.Space.{limited}
 use lib.Lanes.{chunk, put_chunk, zip2, sel_l, top}
 use mir.Val.{bits, hbits}
@@ -35,16 +36,10 @@ lanes_changed f old row lanes k so room are =
 -- BOUNDS
 
 greater : (sample bound : ℕ) → cond (ltb sample bound) bound sample ≡ max sample bound
-greater sample bound = ⊎_elim
-    (λ (less : sample < bound). sym (cond_below sample bound bound sample less) ∙ omega arith)
-    (λ (more : bound ≤ sample). sym (cond_above sample bound bound sample sample more refl) ∙ omega arith)
-    (cases_lt sample bound)
+greater sample bound = grind (arith, common_steps)
 
 lesser : (sample bound : ℕ) → cond (ltb sample bound) sample bound ≡ min sample bound
-lesser sample bound = ⊎_elim
-    (λ (less : sample < bound). sym (cond_below sample bound sample bound less) ∙ omega arith)
-    (λ (more : bound ≤ sample). sym (cond_above sample bound sample bound bound more refl) ∙ omega arith)
-    (cases_lt sample bound)
+lesser sample bound = grind (arith, common_steps)
 
 -- where a mask tells which lanes are below a bound, either side may be chosen by it
 abbrev masks : List ℕ → List ℕ → List Bool

@@ -1,5 +1,5 @@
 -- Rows that are parts of rows of the input.
-use Rattle.std.proofs.Common.{◌≡◌, ◌∙◌, ℕ, zero, suc, refl, ◌+◌, ◌-◌, ◌*◌, ◌<◌, ◌≤◌, List, ◌∷◌, ◌++◌, length, take, drop, replicate, ap, sym, arith, true, false}
+use Rattle.std.proofs.Common.{◌≡◌, ◌∙◌, ℕ, zero, suc, refl, ◌+◌, ◌-◌, ◌*◌, ◌<◌, ◌≤◌, List, ◌∷◌, ◌++◌, length, take, drop, replicate, ap, arith, true, false}
 use Rattle.std.specs.Prelude.{ℤ}
 use Rattle.std.proofs.lemmas.List.{take_all, length-take-le, length-drop}
 use Rattle.fv_plane.specs.Picture.{wide_bytes, across, down, look_in, row_from, Picture, IsPicture, row_of}
@@ -24,9 +24,7 @@ padded_nothing row value width = ap (λ n. replicate n value) (let left : width 
 
 -- the bytes of a part of a row
 pub part_bytes : (samples : List ℕ) (left count a n : ℕ) → a ≡ left * 2 → n ≡ count * 2 → take n (drop a (wide_bytes samples)) ≡ wide_bytes (take count (drop left samples))
-part_bytes samples left count a n begins is =
-    ap (λ m. take m (drop a (wide_bytes samples))) is ∙ ap (λ m. take (count * 2) (drop m (wide_bytes samples))) begins
-    ∙ ap (take (count * 2)) (sym (wide_bytes-drop left samples)) ∙ sym (wide_bytes-take count (drop left samples))
+part_bytes samples left count a n begins is = search (arith, wide_bytes-drop, wide_bytes-take)
 
 -- a part of a row has as many samples as are asked
 pub length_part : (row : List ℕ) (from count width : ℕ) → length row ≡ width → from + count ≤ width → length (take count (drop from row)) ≡ count
@@ -35,12 +33,7 @@ length_part row from count width long inside = length-take-le count (drop from r
 -- the bytes of a row between samples of one value
 pub padded_bytes : (before value width after : ℕ) (part bytes : List ℕ) → wide_bytes part ≡ bytes → after ≡ width - before - length part
     → wide_bytes (replicate before value) ++ (bytes ++ wide_bytes (replicate after value)) ≡ wide_bytes (padded before value part width)
-padded_bytes before value width after part bytes is count =
-    let edge : List ℕ = replicate after value in
-    ap (λ l. wide_bytes (replicate before value) ++ (l ++ wide_bytes edge)) (sym is)
-    ∙ ap (λ l. wide_bytes (replicate before value) ++ l) (sym (wide_bytes-append part edge))
-    ∙ sym (wide_bytes-append (replicate before value) (part ++ edge))
-    ∙ ap (λ n. wide_bytes (replicate before value ++ (part ++ replicate n value))) count
+padded_bytes before value width after part bytes is count = search (arith, wide_bytes-append)
 
 -- a row of a picture with borders, by its plan
 pub bordered_plan : (input : Picture) (left top right bottom color : ℤ) (p y before dy high count width : ℕ) → IsPicture input → p < planes input.shape.kind → before ≡ across input.shape p (nat_of left)
@@ -68,15 +61,7 @@ pub boxed_plan : (input : Picture) (top bottom x1 x2 color : ℤ) (p y left righ
     → across input.shape p (nat_of x1) + across input.shape p (nat_of x2) ≤ plane_width input.shape p → is_within dy end y ≡ true
     → padded left (paint color input.shape p) (take count (drop left (row_of input.planes p y))) (plane_width input.shape p)
     ≡ row_from (space_at (LetterBox top bottom x1 x2 color) input.shape (look_in input)) p (plane_width input.shape p) y
-boxed_plan input top bottom x1 x2 color p y left right dy end count sizes there left_is right_is top_is end_is count_is room told =
-    let row : List ℕ = row_of input.planes p y in
-    let value : ℕ = paint color input.shape p in
-    let width : ℕ = plane_width input.shape p in
-    let places = inside_of dy end y told in
-    let long : length row ≡ width = length-row input p y sizes there (omega (arith, places.1, end_is)) in
-    ap (λ n. padded left value (take n (drop left row)) width) (count_is ∙ ap (λ n. n - right - left) (sym long)) ∙ ap (λ n. padded left value (take (length row - right - left) (drop left row)) n) (sym long)
-    ∙ ap (λ n. covered n right value row) left_is ∙ ap (λ n. covered (across input.shape p (nat_of x1)) n value row) right_is
-    ∙ boxed_row input top bottom x1 x2 color p y long room (rw (top_is, end_is) at told)
+boxed_plan input top bottom x1 x2 color p y left right dy end count sizes there left_is right_is top_is end_is count_is room told = search (arith, inside_of, length-row, covered, boxed_row)
 
 -- and one that it covers
 pub box_plan : (input : Picture) (top bottom x1 x2 color : ℤ) (p y dy end width : ℕ) → dy ≡ down input.shape p (nat_of top) → end ≡ plane_height input.shape p - down input.shape p (nat_of bottom) → is_within dy end y ≡ false

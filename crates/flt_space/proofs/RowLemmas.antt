@@ -1,11 +1,11 @@
 -- The rows that are made.
-use Rattle.std.proofs.Common.{◌≡◌, ℕ, ◌*◌, ◌<◌, ◌==◌, ◌∙◌, List, None, true, false, length, get_or, ap, arith, ne_eqb}
+use Rattle.std.proofs.Common.{◌≡◌, ℕ, ◌<◌, ◌==◌, ◌∙◌, List, None, true, false, length, get_or, ap, arith, ne_eqb}
+use Rattle.std.proofs.lemmas.Grind.{common_steps}
 use Rattle.fv_plane.specs.declared.format.Shape.{Shape}
-use Rattle.fv_plane.specs.Format.{planes, plane_width, plane_height, row_bytes}
+use Rattle.fv_plane.specs.Format.{planes, plane_width}
 use Rattle.fv_plane.specs.Picture.{look_in, Picture, IsPicture}
 use Rattle.fv_plane.specs.Made.{FitsLook, IsPlaneOf}
 use Rattle.fv_plane.specs.Refusals.{first_fault}
-use Rattle.fv_plane.proofs.CallerLemmas.{two_bytes}
 use Rattle.fv_plane.proofs.FillLemmas.{row_listed}
 use Rattle.clip_term.specs.declared.op.SpaceOp.{SpaceOp}
 use Rattle.clip_term.specs.Space.{space_at, space_refusals, space_shape}
@@ -13,13 +13,11 @@ use Rattle.flt_space.specs.Kept.{keeps_plane}
 use Rattle.clip_term.proofs.BoundedLemmas.{IsBounded, space_bounded}
 use Rattle.flt_space.specs.Rows.{row_made}
 use Rattle.flt_space.proofs.CutLemmas.{accepted}
-use Rattle.flt_space.proofs.KeptLemmas.{kept_shape, kept_samples}
 
 -- a row whose samples are those of the filter is the row that it makes
 pub made_row : (op : SpaceOp) (input : Picture) (p y : ℕ) (out : List ℕ) → length out ≡ plane_width (space_shape op input.shape) p
     → ((x : ℕ) → x < length out → get_or out x 0 ≡ space_at op input.shape (look_in input) p x y) → out ≡ row_made op input p y
-made_row op input p y out long each =
-    row_listed out (space_at op input.shape (look_in input)) p (plane_width (space_shape op input.shape) p) y long (λ x within. each x (omega (arith, within, long)))
+made_row op input p y out long each = search (arith, row_listed)
 
 -- a shape that was asked has more than eight bits
 pub more_bits : (shape same : Shape) → same ≡ shape → (same.bits ≡ 8 → ⊥) → (shape.bits == 8) ≡ false
@@ -28,10 +26,6 @@ more_bits shape same is more = ne_eqb shape.bits 8 (λ eight. more (ap (λ (s : 
 -- where a filter keeps the bits, what has two bytes a sample still has
 pub wide_kept : (made shape : Shape) → made.bits ≡ shape.bits → (shape.bits == 8) ≡ false → (made.bits == 8) ≡ false
 wide_kept made shape kept wide = rw kept wide
-
--- and then its row has twice as many bytes as samples
-pub wide_row_bytes : (shape : Shape) (p : ℕ) → (shape.bits == 8) ≡ false → row_bytes shape p ≡ plane_width shape p * 2
-wide_row_bytes shape p wide = ap (λ n. plane_width shape p * n) (two_bytes shape wide)
 
 -- no sample of the picture is over the largest
 pub looks_fit : (op : SpaceOp) (input : Picture) → first_fault (space_refusals op input.shape) ≡ None → IsPicture input → FitsLook (space_shape op input.shape) (space_at op input.shape (look_in input))
@@ -43,10 +37,4 @@ looks_fit op input none sizes =
 -- a plane that is kept is that plane of the input
 pub kept_plane : (op : SpaceOp) (input : Picture) (p : ℕ) → keeps_plane op p ≡ true → p < planes (space_shape op input.shape).kind
     → IsPlaneOf (space_shape op input.shape) (space_at op input.shape (look_in input)) p input p
-kept_plane op input p keeps there =
-    let same : space_shape op input.shape ≡ input.shape = kept_shape op input.shape p keeps in
-    record {
-      there = omega (arith, there, ap (λ (s : Shape). planes s.kind) same);
-      same = record { width = ap (λ (s : Shape). plane_width s p) same; height = ap (λ (s : Shape). plane_height s p) same; bits = ap (λ (s : Shape). s.bits) same };
-      shown = kept_samples op input.shape p keeps (look_in input);
-    }
+kept_plane op input p keeps there = grind (arith, common_steps)

@@ -12,14 +12,10 @@ pub loop-plane-init : goal.loop-plane-init
 loop-plane-init c = search (rules, filled_start)
 
 pub put_plane-requires-clause-of : goal.put_plane-requires-clause-of
-put_plane-requires-clause-of c =
-    let there : c.loop-plane.plane < planes c.args.input.now.shape.kind = search rules in
-    rw c.swapped.ensures (swapped_there c.args.input.now.shape.kind c.loop-plane.plane there)
+put_plane-requires-clause-of c = search (arith, swapped_there)
 
 pub put_plane-requires-clause-same : goal.put_plane-requires-clause-same
-put_plane-requires-clause-same c =
-    let there : c.loop-plane.plane < planes c.args.input.now.shape.kind = search rules in
-    rw (c.swapped.ensures, c.loop-plane.invariant.same) (swapped_same c.args.input.now.shape c.loop-plane.plane there)
+put_plane-requires-clause-same c = search (arith, swapped_same)
 
 pub loop-plane-preserved : goal.loop-plane-preserved
 loop-plane-preserved c =

@@ -1,21 +1,12 @@
 use Rattle.std.proofs.Common.{◌≡◌, ◌∙◌, ◌+◌, ◌-◌, length, take, drop, ap, arith}
-use Rattle.fv_plane.specs.Format.{plane_width}
 use Rattle.fv_plane.specs.Picture.{row_of}
 use Rattle.fv_plane.proofs.CallerLemmas.{bytes_of_narrow}
 use Rattle.flt_space.specs.Rows.{padded}
-use Rattle.flt_space.proofs.MoveLemmas.{length_part}
 use Rattle.flt_turn.proofs.PartLemmas.{narrow_bytes}
 use Rattle.flt_space.proofs.borders.fill_narrow.Goals as goal
 
 pub slice_bounds-pad_row-end : goal.slice_bounds-pad_row-end
 slice_bounds-pad_row-end c = omega (arith, c.row-row.ensures.whole, narrow_bytes c.args.input.now.shape c.args.plane c.requires.narrow, c.requires.fits.part)
-
-pub pad_row-requires : goal.pad_row-requires
-pad_row-requires c =
-    let plan = c.args.plan in
-    let long : length c.row-row.result.now ≡ plane_width c.args.input.now.shape c.args.plane = c.row-row.ensures.whole ∙ narrow_bytes c.args.input.now.shape c.args.plane c.requires.narrow in
-    let count : plan.from + plan.count - plan.from ≡ plan.count = omega arith in
-    omega (arith, ap (λ n. length (take n (drop plan.from c.row-row.result.now))) count, length_part c.row-row.result.now plan.from plan.count (plane_width c.args.input.now.shape c.args.plane) long c.requires.fits.part, c.requires.fits.room)
 
 pub returns : goal.returns
 returns c =

@@ -7,11 +7,6 @@ use Rattle.flt_space.specs.Rows.{padded}
 use Rattle.flt_space.proofs.MoveLemmas.{length_part, part_bytes}
 use Rattle.flt_space.proofs.borders.fill_wide.Goals as goal
 
-pub slice_bounds-pad_bytes-end : goal.slice_bounds-pad_bytes-end
-slice_bounds-pad_bytes-end c =
-    let two : row_bytes c.args.input.now.shape c.args.plane ≡ plane_width c.args.input.now.shape c.args.plane * 2 = ap (λ n. plane_width c.args.input.now.shape c.args.plane * n) c.requires.wide in
-    omega (arith, c.row-row.ensures.whole, two, c.requires.fits.part)
-
 pub pad_bytes-requires-clause-whole : goal.pad_bytes-requires-clause-whole
 pad_bytes-requires-clause-whole c =
     let shape = c.args.input.now.shape in

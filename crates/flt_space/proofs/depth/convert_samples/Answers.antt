@@ -1,6 +1,6 @@
-use Rattle.std.proofs.Common.{◌≡◌, ◌∙◌, ◌-◌, ◌^◌, ◌≤◌, ℕ, List, map, get_or, ap, sym, subst, arith}
+use Rattle.std.proofs.Common.{◌≡◌, ◌∙◌, ◌-◌, ◌^◌, ◌≤◌, map, get_or, ap, sym, arith}
 use Rattle.fv_plane.specs.declared.format.Shape.{Shape}
-use Rattle.fv_plane.specs.Picture.{FitsRow, wide_samples, row_of}
+use Rattle.fv_plane.specs.Picture.{wide_samples, row_of}
 use Rattle.fv_plane.proofs.CallerLemmas.{bytes_of_narrow}
 use Rattle.clip_term.specs.Space.{converted}
 use Rattle.flt_space.proofs.DepthLemmas.{depth_of, scaled_row, rounded_row, raised_small, converted_fits}
@@ -21,11 +21,6 @@ returns-then-old-eq8-clause-row c =
     (c.copy_scaled.auto.out ∙ c.requires.whole ∙ sym (c.row.ensures.whole ∙ narrow_bytes input.shape c.args.plane eight)) c.copy_scaled.ensures
     ∙ ap (map (converted old new)) row
 
-pub factor-requires-then-old-shape-clause-least : goal.factor-requires-then-old-shape-clause-least
-factor-requires-then-old-shape-clause-least c =
-    let is : c.shape-old.result.bits ≡ c.args.input.now.shape.bits = ap (λ (s : Shape). s.bits) c.shape-old.ensures.shape in
-    omega (arith, is, (depth_of c.args.input.now.shape c.shape-old.ensures.sizes.legal).least)
-
 pub copy_scaled-requires-then-old-shape-clause-small :
     goal.copy_scaled-requires-then-old-shape-clause-small
 copy_scaled-requires-then-old-shape-clause-small c = λ k.
@@ -36,11 +31,6 @@ copy_scaled-requires-then-old-shape-clause-small c = λ k.
     let factor : c.factor-then-old-shape.result ≡ 2 ^ (new - old) = c.factor-then-old-shape.ensures ∙ ap (λ n. 2 ^ (new - n)) is in
     let few : get_or (wide_samples c.wide_row-row.result.now) k 0 ≤ 2 ^ old - 1 = rw c.wide_row-row.ensures.row (c.shape-old.ensures.sizes.bounded c.args.plane k c.args.y) in
     rw factor (raised_small old new (get_or (wide_samples c.wide_row-row.result.now) k 0) (omega (arith, is, c.if-old-shape.true)) (depth_of c.args.shape c.requires.legal).most few)
-
-pub copy_rounded-requires-clause-few : goal.copy_rounded-requires-clause-few
-copy_rounded-requires-clause-few c =
-    let is : c.shape-old.result.bits ≡ c.args.input.now.shape.bits = ap (λ (s : Shape). s.bits) c.shape-old.ensures.shape in
-    omega (arith, is, (depth_of c.args.input.now.shape c.shape-old.ensures.sizes.legal).most)
 
 pub returns-then-old-shape-clause-row : goal.returns-then-old-shape-clause-row
 returns-then-old-shape-clause-row c =
@@ -64,13 +54,7 @@ returns-else-old-shape-clause-row c =
     ∙ ap (map (converted old new)) c.wide_row-row.ensures.row
 
 pub returns-then-old-eq8-clause-fits : goal.returns-then-old-eq8-clause-fits
-returns-then-old-eq8-clause-fits c =
-    subst (λ (row : List ℕ). FitsRow c.args.shape row) (sym (returns-then-old-eq8-clause-row c)) (converted_fits c.args.input.now c.shape-old.ensures.sizes c.args.shape c.args.plane c.args.y)
+returns-then-old-eq8-clause-fits c = search (arith, returns-then-old-eq8-clause-row, converted_fits)
 
 pub returns-then-old-shape-clause-fits : goal.returns-then-old-shape-clause-fits
-returns-then-old-shape-clause-fits c =
-    subst (λ (row : List ℕ). FitsRow c.args.shape row) (sym (returns-then-old-shape-clause-row c)) (converted_fits c.args.input.now c.shape-old.ensures.sizes c.args.shape c.args.plane c.args.y)
-
-pub returns-else-old-shape-clause-fits : goal.returns-else-old-shape-clause-fits
-returns-else-old-shape-clause-fits c =
-    subst (λ (row : List ℕ). FitsRow c.args.shape row) (sym (returns-else-old-shape-clause-row c)) (converted_fits c.args.input.now c.shape-old.ensures.sizes c.args.shape c.args.plane c.args.y)
+returns-then-old-shape-clause-fits c = search (arith, returns-then-old-shape-clause-row, converted_fits)

@@ -1,3 +1,4 @@
+use Rattle.std.proofs.lemmas.Grind.{common_steps}
 use Rattle.std.proofs.Common.{w32, ◌≡◌, arith}
 use Rattle.std.proofs.lemmas.Int.{ints}
 use mir.Val.{to_z, of_z}
@@ -33,10 +34,4 @@ returns-in-LetterBox c =
     rw op.is (rw (a, b, d, e, f) at c.letter_box.ensures)
 
 pub returns-in-Limiter : goal.returns-in-Limiter
-returns-in-Limiter c =
-    let op = c.in-Limiter in
-    let a : to_z w32 (of_z w32 op.min_luma) ≡ op.min_luma = omega (arith, ints) in
-    let b : to_z w32 (of_z w32 op.max_luma) ≡ op.max_luma = omega (arith, ints) in
-    let d : to_z w32 (of_z w32 op.min_chroma) ≡ op.min_chroma = omega (arith, ints) in
-    let e : to_z w32 (of_z w32 op.max_chroma) ≡ op.max_chroma = omega (arith, ints) in
-    rw op.is (rw (a, b, d, e) at c.limiter.ensures)
+returns-in-Limiter c = grind (arith, common_steps)

@@ -7,12 +7,6 @@ use Rattle.flt_space.proofs.KeptLemmas.{negated}
 use Rattle.flt_space.proofs.RowLemmas.{made_row}
 use Rattle.flt_space.proofs.adjust.InvertRowsRowFilter.fill_samples.Goals as goal
 
-pub copy_inverted-requires-clause-small : goal.copy_inverted-requires-clause-small
-copy_inverted-requires-clause-small c = λ x.
-    let input = c.args.input.now in
-    let most : c.largest_sample.result ≡ largest_sample input.shape = c.largest_sample.ensures ∙ ap (λ (s : Shape). largest_sample s) c.shape.ensures.shape in
-    rw (c.wide_row-row.ensures.row, most) (c.shape.ensures.sizes.bounded c.args.plane x c.args.y)
-
 pub returns : goal.returns
 returns c =
     let channels = c.args.self.now.channels in

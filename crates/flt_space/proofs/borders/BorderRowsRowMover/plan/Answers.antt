@@ -1,7 +1,7 @@
+use Rattle.std.proofs.lemmas.Grind.{common_steps}
 use Rattle.std.proofs.Common.{rules, ◌≡◌, ◌+◌, ◌∙◌, true, false, sym, arith}
 use Rattle.fv_plane.specs.Format.{plane_width, plane_height}
 use Rattle.fv_plane.specs.Picture.{across, down}
-use Rattle.fv_plane.proofs.CallerLemmas.{some_rows}
 use Rattle.clip_term.specs.Refusals.{nat_of}
 use Rattle.clip_term.specs.Space.{is_within}
 use Rattle.flt_space.proofs.BorderLemmas.{below_start, fits_between}
@@ -38,9 +38,6 @@ returns-then-is_within-clause-row c =
     bordered_plan input borders.left borders.top borders.right borders.bottom borders.color_yuv p c.args.y c.across-before.result c.down-top.result c.plane_height.result c.plane_width.result _ c.shape-shape.ensures.sizes
     c.requires.plane left top high wide (fits_between shape p (nat_of borders.left) (nat_of borders.right) (shape.height + nat_of borders.top + nat_of borders.bottom)) told
 
-pub returns-else-is_within-clause-fits : goal.returns-else-is_within-clause-fits
-returns-else-is_within-clause-fits c = record { there = c.requires.plane; inside = some_rows c.args.input.now.shape c.args.plane c.shape-shape.ensures.sizes.legal; part = omega arith; room = omega arith }
-
 pub returns-else-is_within-clause-row : goal.returns-else-is_within-clause-row
 returns-else-is_within-clause-row c =
     let input = c.args.input.now in
@@ -50,3 +47,6 @@ returns-else-is_within-clause-row c =
     let high : c.plane_height.result ≡ plane_height input.shape p = search rules in
     let told : is_within c.down-top.result (c.down-top.result + c.plane_height.result) c.args.y ≡ false = sym c.is_within.ensures ∙ c.if-is_within.false in
     border_plan input borders.left borders.top borders.right borders.bottom borders.color_yuv p c.args.y c.down-top.result c.plane_height.result _ top high told
+
+pub returns-else-is_within-clause-fits : goal.returns-else-is_within-clause-fits
+returns-else-is_within-clause-fits c = grind (arith, common_steps)

@@ -1,7 +1,6 @@
 use Rattle.std.proofs.Common.{rules, ◌≡◌, ◌-◌, ◌∙◌, true, false, ap, sym, arith}
 use Rattle.fv_plane.specs.Format.{plane_width, plane_height}
 use Rattle.fv_plane.specs.Picture.{across, down}
-use Rattle.fv_plane.proofs.CallerLemmas.{some_rows}
 use Rattle.clip_term.specs.Refusals.{nat_of}
 use Rattle.clip_term.specs.Space.{is_within}
 use Rattle.flt_space.proofs.BorderLemmas.{covers_less, fits_across}
@@ -53,9 +52,6 @@ returns-then-is_within-clause-row c =
     let told : is_within c.down-top.result c.saturating_sub-end.result c.args.y ≡ true = sym c.is_within.ensures ∙ c.if-is_within.true in
     boxed_plan input box.top box.bottom box.x1 box.x2 box.color_yuv p c.args.y c.across-left.result c.across-right.result c.down-top.result c.saturating_sub-end.result (c.plane_width.result - c.across-right.result - c.across-left.result) c.shape-shape.ensures.sizes c.requires.plane left right top end
     (ap (λ n. n - c.across-right.result - c.across-left.result) wide) (fits_across shape p (nat_of box.x1) (nat_of box.x2) (covers_less shape box.top box.bottom box.x1 box.x2 box.color_yuv c.requires.accepted)) told
-
-pub returns-else-is_within-clause-fits : goal.returns-else-is_within-clause-fits
-returns-else-is_within-clause-fits c = record { there = c.requires.plane; inside = some_rows c.args.input.now.shape c.args.plane c.shape-shape.ensures.sizes.legal; part = omega arith; room = omega arith }
 
 pub returns-else-is_within-clause-row : goal.returns-else-is_within-clause-row
 returns-else-is_within-clause-row c =

@@ -1,14 +1,6 @@
-use Rattle.std.proofs.Common.{sym, subst}
-use Rattle.fv_plane.specs.declared.format.Shape.{Shape}
-use Rattle.fv_plane.specs.Picture.{look_in}
-use Rattle.fv_plane.specs.Made.{FitsLook}
-use Rattle.clip_term.specs.Space.{space_at}
+use Rattle.std.proofs.Common.{arith}
 use Rattle.flt_space.proofs.RowLemmas.{looks_fit}
 use Rattle.flt_space.proofs.borders.MovedRowsRowMaker.shape.Goals as goal
 
 pub returns-clause-fits : goal.returns-clause-fits
-returns-clause-fits g c =
-    let rows = c.args.self.now in
-    let op = g.M.RowMover.op rows.mover.now in
-    let input = rows.input.now in
-    subst (λ (s : Shape). FitsLook s (space_at op input.shape (look_in input))) (sym c.requires.make.is) (looks_fit op input c.requires.make.accepted c.shape.ensures.sizes)
+returns-clause-fits g c = search (arith, looks_fit)
