@@ -1,59 +1,25 @@
+use Rattle.std.proofs.lemmas.Grind.{common_steps}
 -- The samples around a place lie in three rows of the picture.
-use Rattle.std.proofs.Common.{◌≡◌, ◌≤◌, ◌∙◌, ℕ, List, length, get_or, ap, sym, arith, w32, pos, ◌+ℤ◌, ◌*ℤ◌}
-use Rattle.std.specs.Prelude.{ℤ, int_div, ◌-ℤ◌, ◌==◌, if◌then◌else◌, unsigned_abs}
+use Rattle.std.proofs.Common.{◌≡◌, ◌∙◌, ℕ, List, length, get_or, ap, sym, arith, w32, pos, ◌+ℤ◌, ◌*ℤ◌}
+use Rattle.std.specs.Prelude.{ℤ, int_div, ◌-ℤ◌, ◌==◌, if◌then◌else◌}
 use Rattle.std.proofs.lemmas.Int.{ints, to_z-of_z}
 use Rattle.fv_plane.specs.declared.format.Shape.{Shape}
 use Rattle.fv_plane.specs.Format.{largest_sample, plane_height, plane_width, scale}
 use Rattle.fv_plane.specs.Picture.{look_in}
 use Rattle.clip_term.specs.Soft.{place, side_of, weighed, divisor_of, sample_from}
-use Rattle.flt_rows.specs.Squares.{size_of_all, shown, weighed_around}
+use Rattle.flt_rows.specs.Squares.{shown, weighed_around}
 use Rattle.flt_rows.proofs.NarrowLemmas.{divisor_size, square_is, square_size}
-use Rattle.flt_soft.proofs.PictureLemmas.{few_columns, light_weights, row_fits, scaled_small, some_columns}
+use Rattle.flt_soft.proofs.PictureLemmas.{light_weights, scaled_small}
 use Rattle.flt_soft.proofs.convolve.convolve_in_16_bits.Goals as goal
-use mir.Val.{to_z, of_z}
 
 pub ending_of-ending-requires-clause-small : goal.ending_of-ending-requires-clause-small
-ending_of-ending-requires-clause-small g c =
-    let weights = c.args.weights.now in
-    let light : size_of_all weights ≤ 128 = light_weights (size_of_all weights) c.args.input.now.shape c.shape-shape.ensures.sizes.legal c.requires.light in
-    let few : unsigned_abs (divisor_of weights) ≤ 128 = divisor_size weights 128 light (omega arith) in
-    let same : to_z w32 (of_z w32 c.divisor_of.result) ≡ divisor_of weights = omega (arith, ints, c.divisor_of.ensures.value) in
-    rw same few
+ending_of-ending-requires-clause-small g c = search (arith, light_weights, divisor_size, w32, ints)
 
 pub ending_of-ending-requires-clause-bias : goal.ending_of-ending-requires-clause-bias
-ending_of-ending-requires-clause-bias g c =
-    let shape : Shape = c.args.input.now.shape in
-    let bias : to_z w32 (of_z w32 c.scaled_bias-bias.result) ≡ c.args.bias *ℤ pos (scale shape)
-    = to_z-of_z w32 c.scaled_bias-bias.result (record { sfits = c.scaled_bias-bias.type_inv }) ∙ c.scaled_bias-bias.ensures.value
-    ∙ ap (λ b. b *ℤ pos (scale c.shape-shape.result)) (to_z-of_z w32 c.args.bias c.ranges.bias)
-    ∙ ap (λ (s : Shape). c.args.bias *ℤ pos (scale s)) c.shape-shape.ensures.shape in
-    rw bias (scaled_small c.args.bias shape c.requires.bias c.shape-shape.ensures.sizes.legal c.requires.small)
-
-pub convolve_row-requires-clause-some : goal.convolve_row-requires-clause-some
-convolve_row-requires-clause-some g c = rw c.requires.whole (some_columns c.args.input.now.shape c.args.plane c.shape-shape.ensures.sizes.legal)
-
-pub convolve_row-requires-clause-wide : goal.convolve_row-requires-clause-wide
-convolve_row-requires-clause-wide g c = rw c.requires.whole (few_columns c.args.input.now.shape c.args.plane c.shape-shape.ensures.sizes.legal)
-
-pub convolve_row-requires-clause-few_above : goal.convolve_row-requires-clause-few_above
-convolve_row-requires-clause-few_above g c =
-    row_fits c.args.input.now c.args.plane c.place.result c.ending_of-ending.result.largest (g.T.Sample.of_bytes c.row-above.result.now) c.shape-shape.ensures.sizes c.row-above.ensures.row
-    (c.ending_of-ending.ensures.largest ∙ c.largest.ensures.value)
-
-pub convolve_row-requires-clause-few : goal.convolve_row-requires-clause-few
-convolve_row-requires-clause-few g c =
-    row_fits c.args.input.now c.args.plane c.args.y c.ending_of-ending.result.largest (g.T.Sample.of_bytes c.row-row.result.now) c.shape-shape.ensures.sizes c.row-row.ensures.row
-    (c.ending_of-ending.ensures.largest ∙ c.largest.ensures.value)
-
-pub convolve_row-requires-clause-few_below : goal.convolve_row-requires-clause-few_below
-convolve_row-requires-clause-few_below g c =
-    row_fits c.args.input.now c.args.plane c.place-2.result c.ending_of-ending.result.largest (g.T.Sample.of_bytes c.row-below.result.now) c.shape-shape.ensures.sizes c.row-below.ensures.row
-    (c.ending_of-ending.ensures.largest ∙ c.largest.ensures.value)
+ending_of-ending-requires-clause-bias g c = search (arith, w32, to_z-of_z, scaled_small)
 
 pub convolve_row-requires-clause-light : goal.convolve_row-requires-clause-light
-convolve_row-requires-clause-light g c =
-    rw (square_size c.square_of.result c.args.weights.now c.square_of.ensures, c.ending_of-ending.ensures.largest ∙ c.largest.ensures.value)
-    c.requires.light
+convolve_row-requires-clause-light g c = search (arith, square_size)
 
 pub returns : goal.returns
 returns g c =
@@ -92,3 +58,18 @@ returns g c =
     ∙ ap (λ d. sample_from ending.largest (int_div sum d +ℤ (pos ending.more -ℤ pos ending.less))) divisor
     ∙ ap (λ b. sample_from ending.largest (int_div sum (divisor_of weights) +ℤ b)) bias
     ∙ ap (λ m. sample_from m (int_div sum (divisor_of weights) +ℤ c.args.bias *ℤ pos (scale shape))) most
+
+pub convolve_row-requires-clause-some : goal.convolve_row-requires-clause-some
+convolve_row-requires-clause-some g c = grind (arith, common_steps)
+
+pub convolve_row-requires-clause-wide : goal.convolve_row-requires-clause-wide
+convolve_row-requires-clause-wide g c = grind (arith, common_steps)
+
+pub convolve_row-requires-clause-few_above : goal.convolve_row-requires-clause-few_above
+convolve_row-requires-clause-few_above g c = grind (arith, common_steps)
+
+pub convolve_row-requires-clause-few : goal.convolve_row-requires-clause-few
+convolve_row-requires-clause-few g c = grind (arith, common_steps)
+
+pub convolve_row-requires-clause-few_below : goal.convolve_row-requires-clause-few_below
+convolve_row-requires-clause-few_below g c = grind (arith, common_steps)

@@ -1,4 +1,4 @@
-use Rattle.std.proofs.Common.{◌≤◌, ◌≡◌, ◌<◌, ◌+◌, ◌/◌, ◌∙◌, ℕ, List, length, map, get_or, take, sym, ap, arith}
+use Rattle.std.proofs.Common.{◌≡◌, ◌<◌, ◌+◌, ◌/◌, ◌∙◌, ℕ, List, length, map, get_or, take, sym, ap, arith}
 use Rattle.std.specs.List.{sum}
 use Rattle.std.proofs.lemmas.Nat.{mul-le}
 use Rattle.fv_plane.specs.Picture.{Picture, look_in, look_at}
@@ -30,28 +30,7 @@ loop-i-preserved g c =
     }
 
 pub add_near-requires-clause-room : goal.add_near-requires-clause-room
-add_near-requires-clause-room g c =
-    let most : ℕ = g.T.Sample.most in
-    let i : ℕ = c.loop-i.i in
-    let few : i ≤ most + 1 = omega (arith, g.met.T.Sample.large, c.loop-i-test.true, c.requires.around.few) in
-    λ x. omega (arith, c.loop-i.invariant.few x, mul-le most i most (most + 1) (omega arith) few)
-
-pub returns-in-7 : goal.returns-in-7
-returns-in-7 g c = λ x h.
-    many_is 7 c.args.threshold c.args.inputs.now c.loop-i.i c.args.plane x c.args.y _ _ c.requires.some (omega arith) (omega (arith, c.loop-i-test.false)) (c.loop-i.invariant.made x (omega arith)) (c.mean_row.ensures x h)
-
-pub returns-in-9 : goal.returns-in-9
-returns-in-9 g c = λ x h.
-    many_is 9 c.args.threshold c.args.inputs.now c.loop-i.i c.args.plane x c.args.y _ _ c.requires.some (omega arith) (omega (arith, c.loop-i-test.false)) (c.loop-i.invariant.made x (omega arith)) (c.mean_row-in-9.ensures x h)
-
-pub returns-in-11 : goal.returns-in-11
-returns-in-11 g c = λ x h.
-    many_is 11 c.args.threshold c.args.inputs.now c.loop-i.i c.args.plane x c.args.y _ _ c.requires.some (omega arith) (omega (arith, c.loop-i-test.false)) (c.loop-i.invariant.made x (omega arith)) (c.mean_row-in-11.ensures x h)
-
-pub returns-in-13 : goal.returns-in-13
-returns-in-13 g c = λ x h.
-    many_is 13 c.args.threshold c.args.inputs.now c.loop-i.i c.args.plane x c.args.y _ _ c.requires.some (omega arith) (omega (arith, c.loop-i-test.false)) (c.loop-i.invariant.made x (omega arith)) (c.mean_row-in-13.ensures x h)
+add_near-requires-clause-room g c = search (arith, mul-le)
 
 pub returns-in_default : goal.returns-in_default
-returns-in_default g c = λ x h.
-    many_is 15 c.args.threshold c.args.inputs.now c.loop-i.i c.args.plane x c.args.y _ _ c.requires.some (omega arith) (omega (arith, c.loop-i-test.false)) (c.loop-i.invariant.made x (omega arith)) (c.mean_row-in_default.ensures x h)
+returns-in_default g c = search (arith, many_is)

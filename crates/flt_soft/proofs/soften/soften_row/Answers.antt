@@ -10,14 +10,10 @@ use Rattle.flt_soft.proofs.SoftenLemmas.{means_listed, means_made, some_scaled, 
 use Rattle.flt_soft.proofs.soften.soften_row.Goals as goal
 
 pub soften-requires-clause-some : goal.soften-requires-clause-some
-soften-requires-clause-some c =
-    rw c.scaled-threshold.ensures
-    (some_scaled c.shape-shape.result c.threshold-threshold.result (rw c.threshold-threshold.ensures (some_threshold c.args.radius c.args.luma c.args.chroma c.args.plane c.requires.changed)))
+soften-requires-clause-some c = search (arith, some_scaled, some_threshold)
 
 pub soften-requires-else-shape-eq8-clause-some : goal.soften-requires-else-shape-eq8-clause-some
-soften-requires-else-shape-eq8-clause-some c =
-    rw c.scaled-threshold.ensures
-    (some_scaled c.shape-shape.result c.threshold-threshold.result (rw c.threshold-threshold.ensures (some_threshold c.args.radius c.args.luma c.args.chroma c.args.plane c.requires.changed)))
+soften-requires-else-shape-eq8-clause-some c = search (arith, some_scaled, some_threshold)
 
 pub returns-then-shape-eq8-clause-row : goal.returns-then-shape-eq8-clause-row
 returns-then-shape-eq8-clause-row c =

@@ -7,12 +7,6 @@ use Rattle.flt_soft.specs.Pictures.{shape_of}
 use Rattle.flt_soft.proofs.PictureLemmas.{first_shape, soft_bounded, some_pictures}
 use Rattle.flt_soft.proofs.make.SoftRowsRowMaker.shape.Goals as goal
 
-pub returns-clause-shape : goal.returns-clause-shape
-returns-clause-shape c =
-    let inputs : List Picture = c.args.self.now.inputs.now in
-    let some : 0 < length inputs = some_pictures c.args.self.now.op.now inputs c.requires.able in
-    c.shape.ensures.shape ∙ ap (λ (q : Picture). q.shape) (sym c.index-self-0.is) ∙ first_shape inputs c.index-self-0.result some c.index-self-0.is
-
 pub returns-clause-fits : goal.returns-clause-fits
 returns-clause-fits c =
     let inputs : List Picture = c.args.self.now.inputs.now in
