@@ -309,32 +309,38 @@ beneath_by shape pictures is sizes alike = grind (arith, common_steps)
 pub beside_by : (shape : Shape) (pictures : List Picture) → shape ≡ shape_joined StackHorizontal pictures → All IsPicture pictures → HaveHeight (shape_joined StackHorizontal pictures) pictures → Beside shape pictures
 beside_by shape pictures is sizes alike = grind (arith, common_steps)
 
--- the picture that is read next
-module _ (shape : Shape) (pictures : List Picture) (make : Beneath shape pictures) (p i : ℕ) (one : Picture) (there : p < planes shape.kind) (h : i < length pictures) (is : one ≡ get_or pictures i one) where
+-- the picture that is read next, at place i
+pub record Next (shape : Shape) (pictures : List Picture) (p i : ℕ) (one : Picture) : Type 0 where
+  pub make : Beneath shape pictures
+  pub there : p < planes shape.kind
+  pub here : i < length pictures
+  pub is : one ≡ get_or pictures i one
+
+module _ {shape : Shape} {pictures : List Picture} {p i : ℕ} {one : Picture} (next : Next shape pictures p i one) where
   pub next_is : IsPicture one
-  next_is = subst (λ (q : Picture). IsPicture q) (sym is) (make.sizes i one h)
+  next_is = subst (λ (q : Picture). IsPicture q) (sym next.is) (next.make.sizes i one next.here)
 
   pub next_planes : p < planes one.shape.kind
-  next_planes = subst (λ (q : Picture). p < planes q.shape.kind) (sym is) (planes_beneath shape pictures make p there i one h)
+  next_planes = subst (λ (q : Picture). p < planes q.shape.kind) (sym next.is) (planes_beneath shape pictures next.make p next.there i one next.here)
 
   pub next_width : plane_width one.shape p ≡ plane_width shape p
   next_width =
-      ap (λ (q : Picture). plane_width q.shape p) is
-      ∙ ap (λ kind. if p == 0 then (get_or pictures i one).shape.width else (get_or pictures i one).shape.width / sub_w kind) (make.alike i one h).0
-      ∙ ap (λ w. if p == 0 then w else w / sub_w shape.kind) (make.alike i one h).1
+      ap (λ (q : Picture). plane_width q.shape p) next.is
+      ∙ ap (λ kind. if p == 0 then (get_or pictures i one).shape.width else (get_or pictures i one).shape.width / sub_w kind) (next.make.alike i one next.here).0
+      ∙ ap (λ w. if p == 0 then w else w / sub_w shape.kind) (next.make.alike i one next.here).1
 
   pub next_bits : one.shape.bits ≡ shape.bits
-  next_bits = ap (λ (q : Picture). q.shape.bits) is ∙ (make.alike i one h).2
+  next_bits = ap (λ (q : Picture). q.shape.bits) next.is ∙ (next.make.alike i one next.here).2
 
   next_height : plane_height (get_or pictures i one).shape p ≡ plane_height one.shape p
-  next_height = ap (λ (q : Picture). plane_height q.shape p) (sym is)
+  next_height = ap (λ (q : Picture). plane_height q.shape p) (sym next.is)
 
   -- it ends inside the plane
   pub next_ends : (top : ℕ) → top ≡ length (plane_of_all (take i pictures) p) → top + plane_height one.shape p ≤ plane_height shape p
-  next_ends top at = omega (arith, ends_inside shape pictures make p i one there h, next_height)
+  next_ends top at = omega (arith, ends_inside shape pictures next.make p i one next.there next.here, next_height)
 
   pub next_after : (top : ℕ) → top ≡ length (plane_of_all (take i pictures) p) → top + plane_height one.shape p ≡ length (plane_of_all (take (i + 1) pictures) p)
-  next_after top at = omega (arith, next_top shape pictures make p i one there h, next_height)
+  next_after top at = omega (arith, next_top shape pictures next.make p i one next.there next.here, next_height)
 
   -- its rows are the wanted ones
   pub next_wanted : (top y n z : ℕ) → top ≡ length (plane_of_all (take i pictures) p) → y + n ≤ plane_height one.shape p → z < n
@@ -342,7 +348,17 @@ module _ (shape : Shape) (pictures : List Picture) (make : Beneath shape picture
   next_wanted top y n z at inside within =
       let place : length (plane_of_all (take i pictures) p) + (y + z) ≡ top + y + z = omega arith in
       get_or-take n (drop y (get_or one.planes p [])) z [] within ∙ get_or-drop y (get_or one.planes p []) z []
-      ∙ ap (λ (q : Picture). row_of q.planes p (y + z)) is ∙ sym (row_beneath shape pictures make p i (y + z) one there h (omega (arith, next_height))) ∙ ap (rows_beneath pictures p) place
+      ∙ ap (λ (q : Picture). row_of q.planes p (y + z)) next.is ∙ sym (row_beneath shape pictures next.make p i (y + z) one next.there next.here (omega (arith, next_height))) ∙ ap (rows_beneath pictures p) place
+
+-- what the loops over the pictures know of it
+pub next_of : {inputs : List Picture} {got : Shape} {p i end : ℕ} {one : Picture} → All IsPicture inputs → HaveWidth (shape_joined StackVertical inputs) inputs → got ≡ shape_joined StackVertical inputs → end ≡ planes got.kind
+    → p < end → i < length inputs → one ≡ get_or inputs i one → Next (shape_joined StackVertical inputs) inputs p i one
+next_of {inputs} sizes alike is_shape all there here is = record {
+  make = beneath_by (shape_joined StackVertical inputs) inputs refl sizes alike;
+  there = omega (arith, ap (λ (s : Shape). planes s.kind) is_shape);
+  here = here;
+  is = is;
+}
 
 -- a part of a row is written
 pub length-put_mid : (a k : ℕ) (xs ys : List ℕ) → length ys ≡ k → a + k ≤ length xs → length (put_mid a k xs ys) ≡ length xs
