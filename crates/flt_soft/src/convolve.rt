@@ -294,8 +294,9 @@ fn convolve_in_16_bits<T: Stored>(
     let row = T::row(input, plane, y);
     let below = T::row(input, plane, place(y, 2, 1, height));
     let bias = scaled_bias(bias, shape);
-    let ending = ending_of(divisor_of(weights), bias, T::largest(input));
-    narrow::convolve_row(square_of(weights), ending, above, row, below, out);
+    let largest = T::largest(input);
+    let ending = ending_of(divisor_of(weights), bias, largest);
+    narrow::convolve_row(square_of(weights), ending, largest, above, row, below, out);
 }
 
 // A row of the picture that is made. Where 16 bits hold all sums, they take less than half the time.

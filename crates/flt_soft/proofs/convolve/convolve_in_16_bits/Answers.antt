@@ -1,5 +1,5 @@
-use Rattle.std.proofs.lemmas.Grind.{common_steps}
 -- The samples around a place lie in three rows of the picture.
+use Rattle.std.proofs.lemmas.Grind.{common_steps}
 use Rattle.std.proofs.Common.{◌≡◌, ◌∙◌, ℕ, List, length, get_or, ap, sym, arith, w32, pos, ◌+ℤ◌, ◌*ℤ◌}
 use Rattle.std.specs.Prelude.{ℤ, int_div, ◌-ℤ◌, ◌==◌, if◌then◌else◌}
 use Rattle.std.proofs.lemmas.Int.{ints, to_z-of_z}
@@ -39,7 +39,7 @@ returns g c =
     let bias : pos ending.more -ℤ pos ending.less ≡ c.args.bias *ℤ pos (scale shape)
     = c.ending_of-ending.ensures.bias ∙ to_z-of_z w32 c.scaled_bias-bias.result (record { sfits = c.scaled_bias-bias.type_inv }) ∙ c.scaled_bias-bias.ensures.value
     ∙ ap (λ b. b *ℤ pos (scale c.shape-shape.result)) (to_z-of_z w32 c.args.bias c.ranges.bias) ∙ ap (λ (s : Shape). c.args.bias *ℤ pos (scale s)) same in
-    let most : ending.largest ≡ largest_sample shape = c.ending_of-ending.ensures.largest ∙ c.largest.ensures.value in
+    let most : ending.largest ≡ largest_sample shape = c.ending_of-ending.ensures.largest ∙ c.largest-largest.ensures.value in
     let side : 3 ≡ side_of weights = sym (ap (λ n. if n == 9 then 3 else 5) c.requires.nine) in
     let samples_above : List ℕ = g.T.Sample.of_bytes c.row-above.result.now in
     let samples : List ℕ = g.T.Sample.of_bytes c.row-row.result.now in
