@@ -92,9 +92,13 @@ abbrev pub Says : Type 0 → Outcome → Result Value ValueFault → Type 0
 Says memory outcome (Ok x) = outcome ≡ Ok x
 Says memory outcome (Err fault) = Refuses memory outcome (refusal_of fault)
 
--- The call gives this outcome, or is out of memory.
+abbrev pub HasValue : {X E : Type 0} → Result X E → Type 0
+HasValue (Ok x) = Unit {0}
+HasValue (Err fault) = ⊥
+
+-- The call gives this outcome, or is out of memory in the place of a value. Memory never runs out in the place of a refusal.
 abbrev pub Gives : Outcome → Result Value ValueFault → Type 0
-Gives = Says (Unit {0})
+Gives outcome = Says (HasValue outcome) outcome
 
 -- The call gives this outcome, and is never out of memory.
 abbrev pub AlwaysGives : Outcome → Result Value ValueFault → Type 0

@@ -2,8 +2,7 @@
 ghost use Rattle.avs_values.specs.Functions as s;
 ghost use Rattle.avs_values.specs.Values.{Gives, AlwaysGives};
 
-use crate::{Kind, Value, ValueFault};
-use fv_io::Text;
+use crate::{Kind, Message, Value, ValueFault};
 use std::alloc::Global;
 
 pub fn select(alloc: Global, values: &[Value], rest: &[Value]) -> Result<Value, ValueFault>
@@ -44,27 +43,27 @@ pub fn default(alloc: Global, values: &[Value]) -> Result<Value, ValueFault>
     Ok(chosen.try_clone(alloc)?)
 }
 
-fn failed(alloc: Global, message: &Value) -> Result<Value, ValueFault>
-    ensures { Gives (s.failed message.now) result }
+fn failed(message: Value) -> Result<Value, ValueFault>
+    ensures { AlwaysGives (s.failed message) result }
 {
-    let message = match message {
-        Value::Undefined => "Assert",
-        Value::Text(text) => text.as_str(),
-        _ => return Err(ValueFault::TypeFault),
-    };
-    Err(ValueFault::AssertFailed(Text::from_str(alloc, message)?))
+    match message {
+        Value::Undefined => Err(ValueFault::AssertFailed(Message::new(None))),
+        Value::Text(text) => Err(ValueFault::AssertFailed(Message::new(Some(text)))),
+        _ => Err(ValueFault::TypeFault),
+    }
 }
 
-pub fn assertion(alloc: Global, values: &[Value]) -> Result<Value, ValueFault>
-    ensures { Gives (s.assertion values.now) result }
+/// `Assert`. A fault takes the message out of the values.
+pub fn assertion(values: &mut [Value]) -> Result<Value, ValueFault>
+    ensures { AlwaysGives (s.assertion values.old) result }
 {
-    let [Value::Bool(holds), message] = values else {
+    let [Value::Bool(holds), _] = &*values else {
         return Err(ValueFault::TypeFault);
     };
     if *holds {
         return Ok(Value::Undefined);
     }
-    failed(alloc, message)
+    failed(std::mem::replace(&mut values[1], Value::Undefined))
 }
 
 pub fn is_of_kind(kind: Kind, values: &[Value]) -> Result<Value, ValueFault>

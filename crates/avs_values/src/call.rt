@@ -8,9 +8,12 @@ use crate::{Bound, Kind, PlainFn, Value, ValueFault, any, numbers, texts};
 use std::alloc::Global;
 
 /// The value of a function for arguments that `bind` bound to its signature. Arguments of other kinds are `TypeFault`.
-pub fn call_plain(alloc: Global, function: PlainFn, bound: &Bound) -> Result<Value, ValueFault>
-    ensures { Gives (plain function (bound_view bound.now)) result }
+pub fn call_plain(alloc: Global, function: PlainFn, mut bound: Bound) -> Result<Value, ValueFault>
+    ensures { Gives (plain function (bound_view bound)) result }
 {
+    if function == PlainFn::Assert {
+        return any::assertion(bound.values.as_mut_slice());
+    }
     let values = bound.values.as_slice();
     let rest = bound.rest.as_slice();
     match function {
@@ -39,7 +42,7 @@ pub fn call_plain(alloc: Global, function: PlainFn, bound: &Bound) -> Result<Val
         PlainFn::Select => any::select(alloc, values, rest),
         PlainFn::Defined => any::defined(values),
         PlainFn::Default => any::default(alloc, values),
-        PlainFn::Assert => any::assertion(alloc, values),
+        PlainFn::Assert => Err(ValueFault::TypeFault),
         PlainFn::IsBool => any::is_of_kind(Kind::Bool, values),
         PlainFn::IsInt => any::is_of_kind(Kind::Int, values),
         PlainFn::IsString => any::is_of_kind(Kind::Text, values),

@@ -1,7 +1,7 @@
 // Why an operator or a function has no value.
 ghost use Rattle.std.specs.Prelude.{◌≡◌};
 
-use fv_io::Text;
+use crate::Message;
 use std::alloc::AllocError;
 
 /// Why an operator or a function has no value.
@@ -20,7 +20,7 @@ pub enum ValueFault {
     /// A text of more than 1,048,576 bytes.
     TextLimit,
     /// The message of an `Assert` whose condition is false.
-    AssertFailed(Text),
+    AssertFailed(Message),
     /// Out of memory.
     Memory,
 }

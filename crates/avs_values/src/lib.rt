@@ -2,7 +2,7 @@
 //! no state.
 //!
 //! `bind`, `unary`, `binary` and `call_plain` answer exactly what `specs/Binding.antt`, `specs/Operators.antt` and
-//! `specs/Functions.antt` define, or that they are out of memory. `laws` says what holds of arguments that were bound.
+//! `specs/Functions.antt` define, or, where that is a value, that they are out of memory. `laws` says what holds of arguments that were bound.
 #![tactic(auto)]
 
 mod any;
@@ -10,6 +10,7 @@ mod binding;
 mod call;
 mod fault;
 pub mod laws;
+mod message;
 mod numbers;
 mod operators;
 mod parameter;
@@ -21,6 +22,7 @@ mod value;
 pub use binding::{Bound, Given, bind};
 pub use call::call_plain;
 pub use fault::ValueFault;
+pub use message::Message;
 pub use operators::{BinaryOp, UnaryOp, binary, unary};
 pub use parameter::{Param, Signature};
 pub use plain_fn::PlainFn;
