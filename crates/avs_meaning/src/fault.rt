@@ -1,7 +1,7 @@
 // Faults of scripts and of their inputs.
 use avs_lex::LexKind;
+use avs_values::Message;
 use clip_term::FilterFault;
-use fv_io::Text;
 use y4m_stream::Y4mFault;
 
 /// Why a script can't be read from its file. The first of these that holds counts, in the order of the variants.
@@ -64,7 +64,7 @@ pub enum ScriptKind {
     /// A text has more than 1,048,576 bytes.
     TextLimit,
     /// The message of an `Assert` whose condition is false.
-    AssertFailed(Text),
+    AssertFailed(Message),
     /// The tokens are no script.
     Syntax,
     /// More than 32 parentheses, braces, unary operators and branches are open at once.
