@@ -1,6 +1,6 @@
 -- Stops within a text, and where out of memory may be one.
 use Rattle.std.specs.Prelude.{Result, Ok, Err}
-use Rattle.avs_values.specs.Values.{Text}
+use Rattle.avs_values.specs.Values.{Text, HasValue}
 use Rattle.avs_meaning.specs.Faults.{Fault}
 use Rattle.avs_meaning.specs.declared.stop.EvalError.{EvalError}
 use Rattle.avs_meaning.specs.declared.stop.EvalError.TheVariants as e
@@ -23,10 +23,6 @@ in_text here (Err stop) = Err (named here stop)
 abbrev pub TakesNone : {X : Type 0} → Result X Stop → Type 0
 TakesNone (Err (s.Whole e.Memory)) = ⊥
 TakesNone _ = Unit {0}
-
-abbrev pub HasValue : {Y : Type 0} → Result Y Fault → Type 0
-HasValue (Ok y) = Unit {0}
-HasValue (Err fault) = ⊥
 
 -- Memory runs out only where the definition gives a value, so never in place of its fault.
 abbrev pub HidesNone : {X Y : Type 0} → Result Y Fault → Result X Stop → Type 0

@@ -1,5 +1,5 @@
 // `RunState`: the variables, functions, settings and graph of a run.
-ghost use Rattle.std.specs.Prelude.{◌≡◌, ◌↔◌, IsTrue, ◌+◌, ◌^◌, Some, ◌∷◌, ◌++◌, ◌<◌, [], length, map, IfOk, Ok, OnOk, option_map};
+ghost use Rattle.std.specs.Prelude.{◌≡◌, ◌↔◌, IsTrue, false, ◌+◌, ◌^◌, Some, ◌∷◌, ◌++◌, ◌<◌, ◌≤◌, [], length, map, IfOk, Ok, Err, OnOk, OnErr, IsSome, is_some, option_map};
 ghost use Rattle.std.specs.List.{All};
 ghost use Rattle.fv_plane.specs.Info.{IsLawful};
 ghost use Rattle.avs_tree.specs.View.{function_view};
@@ -15,6 +15,8 @@ ghost use Rattle.avs_state.specs.Answers.{Gives};
 ghost use Rattle.avs_state.specs.Stops.{in_text, TakesNone, HidesNone};
 ghost use Rattle.avs_state.specs.Sources.{source_of, sources_of, Lists};
 ghost use Rattle.avs_state.specs.Walks.{Runs};
+ghost use Rattle.avs_state.specs.declared.stop.Stop.TheVariants as s;
+ghost use Rattle.avs_meaning.specs.declared.fault.ScriptKind.TheVariants as k;
 ghost use Rattle.avs_state.specs.States.{state_of, defined_view, AsksNothing};
 
 use crate::variables::{set_in, value_in};
@@ -24,7 +26,7 @@ use avs_tree::Function;
 use avs_values::Value;
 use clip_check::check;
 use clip_graph::{Graph, GraphFault};
-use clip_term::{Filter, Op};
+use clip_term::{Filter, FilterFault, Op};
 use fv_io::Text;
 use fv_plane::Info;
 use mt_modes::{ModeFault, ModeTable};
@@ -54,7 +56,7 @@ fn are_places(plan: &Graph, inputs: &[u32]) -> bool
     inputs.iter().all(|i| *i < count)
 }
 
-// The infos of places.
+// The infos of places. An `Err` is out of memory.
 fn infos_among(alloc: Global, plan: &Graph, inputs: &[u32]) -> Result<Vec<Info>, AllocError>
     requires { All (λ i. i < length plan.now) inputs.now }
     ensures { IfOk result (λ infos. infos.items ≡ infos_among plan.now inputs.now) }
@@ -64,6 +66,25 @@ fn infos_among(alloc: Global, plan: &Graph, inputs: &[u32]) -> Result<Vec<Info>,
         infos.push(plan.node(*i).info)?;
     }
     Ok(infos)
+}
+
+// The info of a filter over places, or why it refuses them. For two at most it takes no memory.
+fn checked(
+    alloc: Global,
+    plan: &Graph,
+    op: &Op,
+    inputs: &[u32],
+) -> Result<Result<Info, FilterFault>, AllocError>
+    requires { All (λ i. i < length plan.now) inputs.now }
+    ensures checked { IfOk result (λ found. found ≡ check (act_of op.now) (infos_among plan.now inputs.now)) }
+    ensures memory { OnErr result (2 < length inputs.now) }
+{
+    match inputs {
+        [] => Ok(check(op, &[])),
+        [i] => Ok(check(op, &[plan.node(*i).info])),
+        [i, j] => Ok(check(op, &[plan.node(*i).info, plan.node(*j).info])),
+        _ => Ok(check(op, &infos_among(alloc, plan, inputs)?)),
+    }
 }
 
 impl RunState {
@@ -144,26 +165,26 @@ impl RunState {
 
     /// The value of a variable of the function that runs.
     #[tactic(auto, unfolding(crate::specs::States::state_of))]
-    pub fn local(&self, alloc: Global, name: &Text) -> Result<Option<Value>, AllocError>
-        ensures { IfOk result (λ value. value ≡ d.lookup name.now (state_of self.now).env) }
+    pub fn local(&self, alloc: Global, name: &str) -> Option<&Value>
+        ensures { option_map (λ value. value.now) result ≡ d.lookup name.now (state_of self.now).env }
     {
         value_in(alloc, &self.env, name)
     }
 
     // The value of a global variable.
     #[tactic(auto, unfolding(crate::specs::States::state_of))]
-    fn global(&self, alloc: Global, name: &Text) -> Result<Option<Value>, AllocError>
-        ensures { IfOk result (λ value. value ≡ d.lookup name.now (state_of self.now).globals) }
+    fn global(&self, alloc: Global, name: &str) -> Option<&Value>
+        ensures { option_map (λ value. value.now) result ≡ d.lookup name.now (state_of self.now).globals }
     {
         value_in(alloc, &self.globals, name)
     }
 
     /// The value of a variable: one of the function that runs, or else a global one.
-    pub fn variable(&self, alloc: Global, name: &Text) -> Result<Option<Value>, AllocError>
-        ensures { IfOk result (λ value. value ≡ d.variable name.now (state_of self.now)) }
+    pub fn variable(&self, alloc: Global, name: &str) -> Option<&Value>
+        ensures { option_map (λ value. value.now) result ≡ d.variable name.now (state_of self.now) }
     {
-        match self.local(alloc, name)? {
-            Some(value) => Ok(Some(value)),
+        match self.local(alloc, name) {
+            Some(value) => Some(value),
             None => self.global(alloc, name),
         }
     }
@@ -198,13 +219,22 @@ impl RunState {
     /// The function of a name.
     #[tactic(auto, unfolding(crate::specs::States::state_of), using(crate::proofs::StateLemmas::find_found, crate::proofs::StateLemmas::find_missed))]
     pub fn find(&self, alloc: Global, name: &Text) -> Result<Option<Rc<Definition>>, AllocError>
-        ensures { IfOk result (λ found.
+        ensures found { IfOk result (λ found.
             option_map (λ shared. defined_view shared.value) found ≡ d.find name.now (state_of self.now).functions) }
+        ensures memory { OnErr result (IsSome (d.find name.now (state_of self.now).functions)) }
     {
-        match self.functions.find(alloc, name.as_str())? {
+        match self.functions.find(alloc, name.as_str()) {
             Some(shared) => Ok(Some(shared.clone()?)),
             None => Ok(None),
         }
+    }
+
+    // Whether there is a function of this name.
+    #[tactic(auto, unfolding(crate::specs::States::state_of), using(crate::proofs::StateLemmas::find_found, crate::proofs::StateLemmas::find_missed))]
+    fn is_defined(&self, alloc: Global, name: &Text) -> bool
+        ensures { result ≡ is_some (d.find name.now (state_of self.now).functions) }
+    {
+        self.functions.find(alloc, name.as_str()).is_some()
     }
 
     /// Adds a function of the text of this name.
@@ -215,15 +245,13 @@ impl RunState {
         function: Function,
         script_name: &Text,
     ) -> Result<(), Stop>
-        ensures { Runs (λ u. u) (d.define (function_view function) script_name.now) self.old
+        ensures runs { Runs (λ u. u) (d.define (function_view function) script_name.now) self.old
             (in_text script_name.now result) self.new }
+        ensures memory { HidesNone (d.define (function_view function) script_name.now (state_of self.old)) result }
     {
-        match self.find(alloc, &function.name)? {
-            Some(_) => {
-                let kind = ScriptKind::DuplicateFunction;
-                return Err(Stop::Fault(kind, function.line));
-            }
-            None => {}
+        if self.is_defined(alloc, &function.name) {
+            let kind = ScriptKind::DuplicateFunction;
+            return Err(Stop::Fault(kind, function.line));
         }
         let text = Text::from_str(alloc, script_name.as_str())?;
         let shared = Rc::new(alloc, Definition { function, text })?;
@@ -308,6 +336,9 @@ impl RunState {
             (mode_in (state_of self.old).modes filter) }
         ensures gives { (here : Name) → Gives (λ v. v) (f.made here filter (act_of op) inputs.now line
             (state_of self.old)) (in_text here result) (state_of self.new) }
+        ensures memory { (here : Name) → length inputs.now ≤ 2 → HidesNone (f.made here filter (act_of op) inputs.now line
+            (state_of self.old)) result }
+        ensures places { f.are_places inputs.now (state_of self.old).plan ≡ false → result ≡ Err (s.Fault k.TypeFault line) }
         ensures asks { AsksNothing self.old self.new }
         ensures sources { OnOk result (sources_of (state_of self.new).plan
             ≡ sources_of (state_of self.old).plan ++ source_of (act_of op)) }
@@ -315,8 +346,7 @@ impl RunState {
         if !are_places(&self.plan, inputs) {
             return Err(Stop::Fault(ScriptKind::TypeFault, line));
         }
-        let infos = infos_among(alloc, &self.plan, inputs)?;
-        match check(&op, &infos) {
+        match checked(alloc, &self.plan, &op, inputs)? {
             Ok(info) => {
                 let mode = self.modes.mode_for(filter);
                 self.add(op, inputs, info, mode, line)
