@@ -1,5 +1,5 @@
 // What a name calls, and what that takes.
-ghost use Rattle.std.specs.Prelude.{◌≡◌, [], map, IfOk, option_map};
+ghost use Rattle.std.specs.Prelude.{◌≡◌, [], map, IfOk, IsSome, OnErr, option_map};
 ghost use Rattle.avs_values.specs.Views.{signature_view};
 ghost use Rattle.avs_meaning.specs.Expressions as m;
 ghost use Rattle.avs_state.specs.States.{state_of};
@@ -22,7 +22,8 @@ pub enum Callee {
 
 /// What a name calls. A function of the script hides a built-in one. An `Err` is out of memory.
 pub fn callee_of(alloc: Global, state: &RunState, name: &Text) -> Result<Option<Callee>, AllocError>
-    ensures { IfOk result (λ found. option_map callee_view found ≡ m.callee name.now (state_of state.now).functions) }
+    ensures found { IfOk result (λ found. option_map callee_view found ≡ m.callee name.now (state_of state.now).functions) }
+    ensures memory { OnErr result (IsSome (m.callee name.now (state_of state.now).functions)) }
 {
     if let Some(definition) = state.find(alloc, name)? {
         return Ok(Some(Callee::User(definition)));

@@ -6,7 +6,7 @@ ghost use Rattle.avs_meaning.specs.Expressions as e;
 ghost use Rattle.avs_state.specs.Answers.{Gives};
 ghost use Rattle.avs_state.specs.Hosts.{Told};
 ghost use Rattle.avs_state.specs.States.{state_of};
-ghost use Rattle.avs_state.specs.Stops.{in_text};
+ghost use Rattle.avs_state.specs.Stops.{in_text, HidesNone};
 ghost use Rattle.avs_state.specs.Walks.{Keeps, stop_in};
 ghost use Rattle.avs_expressions.specs.Views.{callee_view};
 
@@ -14,15 +14,16 @@ use crate::callee::{Callee, callee_of};
 use crate::calls::Calls;
 use crate::evaluation::Evaluation;
 use avs_meaning::ScriptKind;
-use avs_state::{Host, RunState, Stop};
+use avs_state::{Host, RunState, Stop, copy_of};
 use avs_values::{Given, Value};
 use fv_io::Text;
 use std::alloc::{AllocError, Global};
 
 /// What a name calls, at a line.
 pub fn called(alloc: Global, state: &RunState, name: &Text, line: u32) -> Result<Callee, Stop>
-    ensures { (here : Name) → Gives callee_view (e.called here name.now line (state_of state.now))
+    ensures gives { (here : Name) → Gives callee_view (e.called here name.now line (state_of state.now))
         (in_text here result) (state_of state.now) }
+    ensures memory { (here : Name) → HidesNone (e.called here name.now line (state_of state.now)) result }
 {
     match callee_of(alloc, state, name)? {
         Some(callee) => Ok(callee),
@@ -47,8 +48,7 @@ impl<'c, H: Host, C: Calls<H>> Evaluation<'c, H, C> {
         ensures kept { Keeps H.Host state.old host.old (stop_in (in_text (C.here self.now.calls.now) result))
             state.new host.new }
     {
-        let name = Text::from_str(self.alloc, "last")?;
-        let last = state.local(self.alloc, &name)?;
+        let last = copy_of(self.alloc, state.local(self.alloc, "last"))?;
         self.calls.apply(state, host, callee, args, last, line)
     }
 
@@ -66,8 +66,8 @@ impl<'c, H: Host, C: Calls<H>> Evaluation<'c, H, C> {
         ensures kept { Keeps H.Host state.old host.old (stop_in (in_text (C.here self.now.calls.now) result))
             state.new host.new }
     {
-        if let Some(value) = state.variable(self.alloc, name)? {
-            return Ok(value);
+        if let Some(value) = state.variable(self.alloc, name.as_str()) {
+            return Ok(value.try_clone(self.alloc)?);
         }
         let callee = called(self.alloc, state, name, line)?;
         self.apply_last(state, host, &callee, Vec::new(self.alloc), line)

@@ -4,7 +4,8 @@ ghost use Rattle.avs_values.specs.Operators as v;
 ghost use Rattle.avs_values.specs.Values.{Text as Name};
 ghost use Rattle.avs_meaning.specs.Expressions as m;
 ghost use Rattle.avs_state.specs.Answers.{Answers};
-ghost use Rattle.avs_state.specs.Stops.{in_text, TakesNone};
+ghost use Rattle.avs_state.specs.States.{state_of};
+ghost use Rattle.avs_state.specs.Stops.{in_text, HidesNone, TakesNone};
 ghost use Rattle.avs_state.specs.Walks.{Runs};
 
 use avs_meaning::ScriptKind;
@@ -41,8 +42,9 @@ pub(crate) fn compared(
     right: &Value,
     line: u32,
 ) -> Result<Value, Stop>
-    ensures { (here : Name) → Answers (λ x. x) (m.placed here line (v.binary (m.binary_of op) left.now right.now))
+    ensures told { (here : Name) → Answers (λ x. x) (m.placed here line (v.binary (m.binary_of op) left.now right.now))
         (in_text here result) }
+    ensures memory { (here : Name) → HidesNone (m.placed here line (v.binary (m.binary_of op) left.now right.now)) result }
 {
     match binary(alloc, binary_of(op), left, right) {
         Ok(value) => Ok(value),
@@ -70,8 +72,9 @@ pub(crate) fn combined(
     right: &Value,
     line: u32,
 ) -> Result<Value, Stop>
-    ensures { (here : Name) → Runs (λ x. x) (m.combined here op line left.now right.now) state.old
+    ensures runs { (here : Name) → Runs (λ x. x) (m.combined here op line left.now right.now) state.old
         (in_text here result) state.new }
+    ensures memory { (here : Name) → HidesNone (m.combined here op line left.now right.now (state_of state.old)) result }
 {
     match (op, left, right) {
         (Operator::Plus, Value::Clip(i), Value::Clip(j)) => state.make(
