@@ -7,7 +7,7 @@ ghost use Rattle.avs_state.specs.Answers.{Answers, Gives};
 ghost use Rattle.avs_state.specs.Hosts.{Told};
 ghost use Rattle.avs_state.specs.Sources.{sources_of};
 ghost use Rattle.avs_state.specs.States.{state_of, AsksNothing};
-ghost use Rattle.avs_state.specs.Stops.{in_text, TakesNone};
+ghost use Rattle.avs_state.specs.Stops.{in_text, HidesNone, TakesNone};
 ghost use Rattle.avs_state.specs.Walks.{Keeps, stop_in};
 
 use crate::evaluator::Evaluator;
@@ -34,23 +34,23 @@ fn next_number(before: i64, step: i64) -> Option<i64>
 }
 
 // The number that the variable of a loop is.
-fn number_by(value: Option<Value>, line: u32) -> Result<i64, Stop>
-    ensures told { (here : Name) → Answers (λ n. n) (s.number_by here value line) (in_text here result) }
+fn number_by(value: Option<&Value>, line: u32) -> Result<i64, Stop>
+    ensures told { (here : Name) → Answers (λ n. n) (s.number_by here (option_map (λ value. value.now) value.entry) line) (in_text here result) }
     ensures memory { TakesNone result }
 {
     match value {
-        Some(Value::Int(n)) => Ok(n),
+        Some(Value::Int(n)) => Ok(*n),
         _ => Err(Stop::Fault(ScriptKind::TypeFault, line)),
     }
 }
 
 // The variable of a loop, read again after a turn.
 fn read_number(alloc: Global, state: &RunState, name: &Text, line: u32) -> Result<i64, Stop>
-    ensures { (here : Name) → Gives (λ n. n) (s.read_number here name.now line (state_of state.now))
+    ensures gives { (here : Name) → Gives (λ n. n) (s.read_number here name.now line (state_of state.now))
         (in_text here result) (state_of state.now) }
+    ensures memory { TakesNone result }
 {
-    let value = state.variable(alloc, name)?;
-    number_by(value, line)
+    number_by(state.variable(alloc, name.as_str()), line)
 }
 
 /// Sets the variable of a loop to the next number. There is none past 64 bits.
@@ -63,6 +63,7 @@ pub(crate) fn advance(
 ) -> Result<Option<i64>, Stop>
     ensures gives { (here : Name) → Gives (λ n. n) (s.advance here name.now step line (state_of state.old))
         (in_text here result) (state_of state.new) }
+    ensures memory { (here : Name) → HidesNone (s.advance here name.now step line (state_of state.old)) result }
     ensures asks { AsksNothing state.old state.new }
     ensures sources { OnOk result (sources_of (state_of state.new).plan ≡ sources_of (state_of state.old).plan) }
 {

@@ -42,9 +42,8 @@ fn settled(alloc: Global, state: &RunState, value: Value) -> Result<Value, EvalE
     if !value.is_undefined() {
         return Ok(value);
     }
-    let name = Text::from_str(alloc, "last")?;
-    match state.local(alloc, &name)? {
-        Some(value) => Ok(value),
+    match state.local(alloc, "last") {
+        Some(value) => Ok(value.try_clone(alloc)?),
         None => Ok(Value::Undefined),
     }
 }
