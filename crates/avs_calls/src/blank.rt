@@ -1,11 +1,14 @@
 // `BlankClip`: its arguments, their refusals, and the clip that they make.
-ghost use Rattle.std.specs.Prelude.{◌≡◌, ◌≤◌, IsTrue, true, option_map};
+ghost use Rattle.std.specs.Prelude.{◌≡◌, ◌≤◌, IsTrue, true, option_map, slice_get};
 ghost use Rattle.fv_plane.specs.Format.{has_depth};
 ghost use Rattle.fv_plane.specs.Refusals.{first_fault};
 ghost use Rattle.fv_plane.specs.Info.{IsPar};
 ghost use Rattle.clip_term.specs.Blank as b;
 ghost use Rattle.avs_meaning.specs.Arguments.{all_fit_filters};
 ghost use Rattle.avs_meaning.specs.Filters as f;
+ghost use Rattle.avs_state.specs.States.{state_of};
+ghost use Rattle.avs_state.specs.Stops.{HidesNone};
+ghost use Rattle.avs_values.specs.Values.{Text as Name};
 ghost use Rattle.avs_calls.specs.Views.{args_view, text_given};
 ghost use Rattle.avs_calls.specs.Within.{RunsWithin};
 
@@ -176,8 +179,10 @@ fn blank_like(
 ) -> Result<Value, Stop>
     requires par { IsPar base.now.par }
     requires depth { has_depth base.now.shape.kind base.now.shape.bits ≡ true }
-    ensures { RunsWithin (λ x. x) (λ here. f.blank_like here base.now (args_view args.now) line)
+    ensures runs { RunsWithin (λ x. x) (λ here. f.blank_like here base.now (args_view args.now) line)
         state.old result state.new }
+    ensures memory { (here : Name) → HidesNone (f.blank_like here base.now (args_view args.now) line (state_of state.old))
+        result }
 {
     if let Some(fault) = refusal(base, args) {
         return Err(Stop::Fault(ScriptKind::Filter(fault), line));
@@ -201,8 +206,10 @@ fn blank_of(
     args: &BlankArgs<'_>,
     line: u32,
 ) -> Result<Value, Stop>
-    ensures { RunsWithin (λ x. x) (λ here. f.blank_of here (option_map (λ value. value.now) clip.entry) (args_view
+    ensures runs { RunsWithin (λ x. x) (λ here. f.blank_of here (option_map (λ value. value.now) clip.entry) (args_view
         args.now) line) state.old result state.new }
+    ensures memory { (here : Name) → HidesNone (f.blank_of here (option_map (λ value. value.now) clip.entry)
+        (args_view args.now) line (state_of state.old)) result }
 {
     match clip {
         Some(Value::Clip(i)) => {
@@ -211,6 +218,12 @@ fn blank_of(
         }
         _ => blank_like(alloc, state, &default_clip(), args, line),
     }
+}
+
+fn value_at(values: &[Value], place: usize) -> Option<&Value>
+    ensures { option_map (λ value. value.now) result ≡ slice_get values.now place }
+{
+    values.get(place)
 }
 
 /// A blank clip of arguments that are bound by the signature of this number: the clip comes last by that of number 0, and
@@ -223,12 +236,13 @@ pub(crate) fn blank(
     line: u32,
 ) -> Result<Value, Stop>
     requires fit { IsTrue (all_fit_filters values.now) }
-    ensures { RunsWithin (λ x. x) (λ here. f.blank here signature values.now line) state.old result state.new }
+    ensures runs { RunsWithin (λ x. x) (λ here. f.blank here signature values.now line) state.old result state.new }
+    ensures memory { (here : Name) → HidesNone (f.blank here signature values.now line (state_of state.old)) result }
 {
     if signature == 0 {
         let args = BlankArgs::of(values, 0);
-        return blank_of(alloc, state, values.get(7), &args, line);
+        return blank_of(alloc, state, value_at(values, 7), &args, line);
     }
     let args = BlankArgs::of(values, 1);
-    blank_of(alloc, state, values.first(), &args, line)
+    blank_of(alloc, state, value_at(values, 0), &args, line)
 }

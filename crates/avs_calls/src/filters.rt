@@ -9,7 +9,7 @@ ghost use Rattle.avs_meaning.specs.State.{Outside};
 ghost use Rattle.avs_parse.specs.Load.{script_of};
 ghost use Rattle.avs_state.specs.Answers.{Gives};
 ghost use Rattle.avs_state.specs.Sources.{sources_of};
-ghost use Rattle.avs_state.specs.Stops.{in_text};
+ghost use Rattle.avs_state.specs.Stops.{in_text, HidesNone};
 ghost use Rattle.avs_state.specs.States.{state_of, AsksNothing};
 ghost use Rattle.avs_calls.specs.Within.{RunsWithin};
 
@@ -107,8 +107,9 @@ pub fn ranged(
     shown: &Value,
     line: u32,
 ) -> Result<Value, Stop>
-    ensures { RunsWithin (λ x. x) (λ here. f.ranged here clip first last line shown.now)
+    ensures runs { RunsWithin (λ x. x) (λ here. f.ranged here clip first last line shown.now)
         state.old result state.new }
+    ensures memory { (here : Name) → HidesNone (f.ranged here clip first last line shown.now (state_of state.old)) result }
 {
     match shown {
         Value::Clip(shown) => state.make(
