@@ -1,6 +1,5 @@
 -- How a part of a run that fails makes the whole fail.
-use Rattle.std.proofs.Common.{◌≡◌, ◌∙◌, refl, sym, ap, subst, ℕ, Result, Ok, Err}
-use Rattle.avs_meaning.specs.Faults.{Fault}
+use Rattle.std.proofs.Common.{◌≡◌, refl, sym, ap, subst, ℕ, Result, Ok, Err}
 use Rattle.avs_meaning.specs.State.{State, Outcome, Run, and_then}
 use Rattle.avs_meaning.specs.declared.stop.EvalError.{EvalError}
 use Rattle.avs_meaning.specs.declared.stop.EvalError.TheVariants as e

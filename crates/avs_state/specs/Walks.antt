@@ -26,7 +26,7 @@ unasked h state x = pos (h.fetched x) -ℤ pos (length (state_of state).opened +
 
 -- Unless a part of a run ends early, the clips that were opened stay those that the host gave, and those of the plan's
 -- sources, and each file that the host fetched is a clip that was opened or a script that was imported. The host's counts of
--- faults and of fetches never fall.
+-- faults and of fetches never fall, and nor does the count of steps.
 pub record Keeps {H : Type 0} (h : host.Ghosts H) (old : RunState) (before : H) (ended : Option EvalError) (new : RunState)
     (now : H) : Type 0 where
   pub given : (state_of old).opened ≡ h.opened before → IfNone ended ((state_of new).opened ≡ h.opened now)
@@ -36,6 +36,7 @@ pub record Keeps {H : Type 0} (h : host.Ghosts H) (old : RunState) (before : H) 
   pub more : h.fetched before ≤ h.fetched now
   pub faults : Counts ended (h.faults before) (h.faults now)
   pub fetched : IfNone ended (unasked h new now ≡ unasked h old before)
+  pub steps : old.steps ≤ new.steps
 
 -- ---- with nothing asked of the outside
 

@@ -1,7 +1,8 @@
 // `RunState`: the variables, functions, settings and graph of a run.
-ghost use Rattle.std.specs.Prelude.{◌≡◌, ◌↔◌, IsTrue, false, ◌+◌, ◌^◌, Some, ◌∷◌, ◌++◌, ◌<◌, ◌≤◌, [], length, map, IfOk, Ok, Err, OnOk, OnErr, IsSome, is_some, option_map};
+ghost use Rattle.std.specs.Prelude.{◌≡◌, ◌↔◌, IsTrue, false, ◌+◌, ◌^◌, Some, ◌∷◌, ◌++◌, ◌<◌, ◌≤◌, [], length, map, IfOk, Ok, Err, OnOk, OnErr, IsSome, is_some, option_map, ◌-◌, ◌*◌};
 ghost use Rattle.std.specs.List.{All};
 ghost use Rattle.fv_plane.specs.Info.{IsLawful};
+ghost use Rattle.avs_tree.specs.Sizes.{AreShort, FunctionsAreShort};
 ghost use Rattle.avs_tree.specs.View.{function_view};
 ghost use Rattle.avs_values.specs.Values.{Text as Name};
 ghost use Rattle.clip_term.specs.Terms.{act_of, IsSound, check};
@@ -18,6 +19,8 @@ ghost use Rattle.avs_state.specs.Walks.{Runs};
 ghost use Rattle.avs_state.specs.declared.stop.Stop.TheVariants as s;
 ghost use Rattle.avs_meaning.specs.declared.fault.ScriptKind.TheVariants as k;
 ghost use Rattle.avs_state.specs.States.{state_of, defined_view, AsksNothing};
+ghost use Rattle.avs_state.specs.Steps.{Works, Pays, Counted, work};
+ghost use Rattle.avs_state.specs.Units.{steps_a_unit};
 
 use crate::variables::{set_in, value_in};
 use crate::{ByName, Definition, Stop};
@@ -33,8 +36,12 @@ use mt_modes::{ModeFault, ModeTable};
 use std::alloc::{AllocError, Global};
 use std::rc::Rc;
 
+// How many units a run may pay.
+const UNITS: u32 = 1_000_000;
+
 /// The state of a run: variables, functions, the modes that were set, the workers that were asked for, the graph of the
-/// clips, the sources that were opened, how many scripts were imported, and the units that are left.
+/// clips, the sources that were opened, how many scripts were imported, the units that are left, and the steps that were
+/// taken.
 #[derive(Drop)]
 pub struct RunState {
     env: ByName<Variable>,
@@ -46,6 +53,7 @@ pub struct RunState {
     opened: Vec<SourceClip>,
     imports: u64,
     units: u32,
+    steps: u64,
 }
 
 // Whether all these are places of the graph.
@@ -89,9 +97,10 @@ fn checked(
 
 impl RunState {
     /// The state at the start. It allocates nothing.
-    #[tactic(auto, unfolding(crate::specs::States::state_of))]
+    #[tactic(auto, unfolding(crate::specs::States::state_of, crate::specs::Steps::work))]
     pub fn new(alloc: Global) -> RunState
-        ensures { state_of result ≡ m.start }
+        ensures start { state_of result ≡ m.start }
+        ensures work { work result ≡ steps_a_unit * 1000000 }
     {
         RunState {
             env: ByName::new(alloc),
@@ -102,12 +111,13 @@ impl RunState {
             plan: Graph::new(alloc),
             opened: Vec::new(alloc),
             imports: 0,
-            units: 1_000_000,
+            units: UNITS,
+            steps: 0,
         }
     }
 
     /// The workers that the last call of `Prefetch` asked for.
-    #[tactic(auto, unfolding(crate::specs::States::state_of))]
+    #[tactic(auto, unfolding(crate::specs::States::state_of, crate::specs::Steps::work))]
     pub fn crew(&self) -> Option<Crew>
         ensures { result ≡ (state_of self.now).crew }
     {
@@ -115,7 +125,7 @@ impl RunState {
     }
 
     /// The graph of the clips.
-    #[tactic(auto, unfolding(crate::specs::States::state_of))]
+    #[tactic(auto, unfolding(crate::specs::States::state_of, crate::specs::Steps::work))]
     pub fn into_graph(self) -> Graph
         ensures plan { result ≡ (state_of self).plan }
     {
@@ -123,7 +133,7 @@ impl RunState {
     }
 
     /// How many units are left.
-    #[tactic(auto, unfolding(crate::specs::States::state_of))]
+    #[tactic(auto, unfolding(crate::specs::States::state_of, crate::specs::Steps::work))]
     pub fn units(&self) -> u32
         ensures { result ≡ (state_of self.now).units }
     {
@@ -131,13 +141,14 @@ impl RunState {
     }
 
     /// Pays a unit for a statement or a turn at a line.
-    #[tactic(auto, unfolding(crate::specs::States::state_of))]
+    #[tactic(auto, unfolding(crate::specs::States::state_of, crate::specs::Steps::work))]
     pub fn spend(&mut self, line: u32) -> Result<(), Stop>
         ensures gives { (here : Name) → Gives (λ u. u) (d.spend here line (state_of self.old)) (in_text here result)
             (state_of self.new) }
         ensures asks { AsksNothing self.old self.new }
         ensures plan { (state_of self.new).plan ≡ (state_of self.old).plan }
         ensures memory { TakesNone result }
+        ensures work { OnOk result (Pays self.old self.new) }
     {
         if self.units == 0 {
             return Err(Stop::Fault(ScriptKind::StepLimit, line));
@@ -146,8 +157,34 @@ impl RunState {
         Ok(())
     }
 
+    /// How many units were paid.
+    #[tactic(auto, unfolding(crate::specs::States::state_of, crate::specs::Steps::work))]
+    pub fn paid(&self) -> u32
+        ensures { result ≡ 1000000 - (state_of self.now).units }
+    {
+        UNITS.saturating_sub(self.units)
+    }
+
+    /// Counts a step.
+    #[tactic(auto, unfolding(crate::specs::States::state_of, crate::specs::Steps::work, crate::specs::Steps::last_count))]
+    pub fn step(&mut self)
+        ensures kept { state_of self.new ≡ state_of self.old }
+        ensures counted { Counted self.old self.new }
+        ensures later { self.old.steps ≤ self.new.steps }
+        ensures work { Works 1 self.old self.new }
+    {
+        self.steps = self.steps.saturating_add(1);
+    }
+
+    /// How many steps were counted.
+    pub fn steps(&self) -> u64
+        ensures { result ≡ self.now.steps }
+    {
+        self.steps
+    }
+
     /// Whether the count of imports, of 64 bits, has room for one more.
-    #[tactic(auto, unfolding(crate::specs::States::state_of))]
+    #[tactic(auto, unfolding(crate::specs::States::state_of, crate::specs::Steps::work))]
     pub fn can_import(&self) -> bool
         ensures { IsTrue result ↔ ((state_of self.now).imports + 1 < 2 ^ 64) }
     {
@@ -155,10 +192,12 @@ impl RunState {
     }
 
     /// Counts a script that was imported.
-    #[tactic(auto, unfolding(crate::specs::States::state_of))]
+    #[tactic(auto, unfolding(crate::specs::States::state_of, crate::specs::Steps::work))]
     pub fn count_import(&mut self)
         requires { (state_of self.old).imports + 1 < 2 ^ 64 }
-        ensures { state_of self.new ≡ d.imported (state_of self.old) }
+        ensures counted { state_of self.new ≡ d.imported (state_of self.old) }
+        ensures steps { self.new.steps ≡ self.old.steps }
+        ensures work { Works 0 self.old self.new }
     {
         self.imports += 1;
     }
@@ -190,7 +229,7 @@ impl RunState {
     }
 
     /// Sets a variable of the function that runs.
-    #[tactic(auto, unfolding(crate::specs::States::state_of))]
+    #[tactic(auto, unfolding(crate::specs::States::state_of, crate::specs::Steps::work))]
     pub fn set(&mut self, alloc: Global, name: &Text, value: Value) -> Result<(), EvalError>
         ensures { Runs (λ u. u) (d.set name.now value) self.old result self.new }
     {
@@ -199,7 +238,7 @@ impl RunState {
     }
 
     /// Sets a global variable.
-    #[tactic(auto, unfolding(crate::specs::States::state_of))]
+    #[tactic(auto, unfolding(crate::specs::States::state_of, crate::specs::Steps::work))]
     pub fn set_global(&mut self, alloc: Global, name: &Text, value: Value) -> Result<(), EvalError>
         ensures { Runs (λ u. u) (d.set_global name.now value) self.old result self.new }
     {
@@ -208,16 +247,18 @@ impl RunState {
     }
 
     /// Takes the variables of a function in the place of those that are there, which it answers.
-    #[tactic(auto, unfolding(crate::specs::States::state_of))]
+    #[tactic(auto, unfolding(crate::specs::States::state_of, crate::specs::Steps::work))]
     pub fn enter(&mut self, env: ByName<Variable>) -> ByName<Variable>
         ensures new { state_of self.new ≡ record (state_of self.old) { env = env } }
         ensures before { result ≡ (state_of self.old).env }
+        ensures steps { self.new.steps ≡ self.old.steps }
+        ensures work { Works 0 self.old self.new }
     {
         std::mem::replace(&mut self.env, env)
     }
 
     /// The function of a name.
-    #[tactic(auto, unfolding(crate::specs::States::state_of), using(crate::proofs::StateLemmas::find_found, crate::proofs::StateLemmas::find_missed))]
+    #[tactic(auto, unfolding(crate::specs::States::state_of, crate::specs::Steps::work), using(crate::proofs::StateLemmas::find_found, crate::proofs::StateLemmas::find_missed))]
     pub fn find(&self, alloc: Global, name: &Text) -> Result<Option<Rc<Definition>>, AllocError>
         ensures found { IfOk result (λ found.
             option_map (λ shared. defined_view shared.value) found ≡ d.find name.now (state_of self.now).functions) }
@@ -238,13 +279,14 @@ impl RunState {
     }
 
     /// Adds a function of the text of this name.
-    #[tactic(auto, unfolding(crate::specs::States::state_of), using(crate::proofs::StateLemmas::put_new))]
+    #[tactic(auto, unfolding(crate::specs::States::state_of, crate::specs::Steps::work), using(crate::proofs::StateLemmas::put_new))]
     pub fn define(
         &mut self,
         alloc: Global,
         function: Function,
         script_name: &Text,
     ) -> Result<(), Stop>
+        requires short { AreShort steps_a_unit (function_view function).body }
         ensures runs { Runs (λ u. u) (d.define (function_view function) script_name.now) self.old
             (in_text script_name.now result) self.new }
         ensures memory { HidesNone (d.define (function_view function) script_name.now (state_of self.old)) result }
@@ -266,6 +308,7 @@ impl RunState {
         functions: Vec<Function>,
         script_name: &Text,
     ) -> Result<(), Stop>
+        requires short { FunctionsAreShort steps_a_unit (map function_view functions.items) }
         ensures { Runs (λ u. u) (d.define_all (map function_view functions.items) script_name.now)
             self.old (in_text script_name.now result) self.new }
     {
@@ -276,7 +319,7 @@ impl RunState {
     }
 
     /// The info of a clip, by its place.
-    #[tactic(auto, unfolding(crate::specs::States::state_of))]
+    #[tactic(auto, unfolding(crate::specs::States::state_of, crate::specs::Steps::work))]
     pub fn info_of(&self, i: u32, line: u32) -> Result<Info, Stop>
         ensures gives { (here : Name) → Gives (λ info. info) (f.info_of here i line (state_of self.now))
             (in_text here result) (state_of self.now) }
@@ -291,7 +334,7 @@ impl RunState {
     }
 
     // Adds what a filter does over clips, which has this info.
-    #[tactic(auto, using(crate::proofs::SourceLemmas::sources_more), unfolding(crate::specs::States::state_of))]
+    #[tactic(auto, using(crate::proofs::SourceLemmas::sources_more), unfolding(crate::specs::States::state_of, crate::specs::Steps::work))]
     fn add(
         &mut self,
         op: Op,
@@ -322,7 +365,7 @@ impl RunState {
     }
 
     /// Applies a filter to clips, at a line.
-    #[tactic(auto, unfolding(crate::specs::States::state_of))]
+    #[tactic(auto, unfolding(crate::specs::States::state_of, crate::specs::Steps::work))]
     pub fn make(
         &mut self,
         alloc: Global,
@@ -356,7 +399,7 @@ impl RunState {
     }
 
     /// `SetFilterMTMode` of a mode for the filter of a name, at a line.
-    #[tactic(auto, unfolding(crate::specs::States::state_of))]
+    #[tactic(auto, unfolding(crate::specs::States::state_of, crate::specs::Steps::work))]
     pub fn set_mode(
         &mut self,
         name: &Text,
@@ -379,20 +422,24 @@ impl RunState {
     }
 
     /// Keeps the workers that a call of `Prefetch` asks for.
-    #[tactic(auto, unfolding(crate::specs::States::state_of))]
+    #[tactic(auto, unfolding(crate::specs::States::state_of, crate::specs::Steps::work))]
     pub fn set_crew(&mut self, crew: Crew)
-        ensures { state_of self.new ≡ record (state_of self.old) { crew = Some crew } }
+        ensures crew { state_of self.new ≡ record (state_of self.old) { crew = Some crew } }
+        ensures steps { self.new.steps ≡ self.old.steps }
+        ensures work { Works 0 self.old self.new }
     {
         self.crew = Some(crew);
     }
 
     // Lists a clip that was opened.
-    #[tactic(auto, unfolding(crate::specs::States::state_of))]
+    #[tactic(auto, unfolding(crate::specs::States::state_of, crate::specs::Steps::work))]
     fn list(&mut self, alloc: Global, name: &Text, info: Info) -> Result<(), AllocError>
         ensures listed { OnOk result (state_of self.new ≡ record (state_of self.old) {
           opened = (state_of self.old).opened ++ record { name = name.now; info = info } ∷ [];
         }) }
         ensures imports { (state_of self.new).imports ≡ (state_of self.old).imports }
+        ensures steps { self.new.steps ≡ self.old.steps }
+        ensures work { Works 0 self.old self.new }
     {
         let name = Text::from_str(alloc, name.as_str())?;
         self.opened.push(SourceClip { name, info })?;
@@ -414,6 +461,8 @@ impl RunState {
             ≡ (state_of self.old).opened ++ record { name = name; info = info } ∷ []) }
         ensures imports { (state_of self.new).imports ≡ (state_of self.old).imports }
         ensures listed { Lists self.old result self.new }
+        ensures steps { self.new.steps ≡ self.old.steps }
+        ensures work { Works 0 self.old self.new }
     {
         self.list(alloc, &name, info)?;
         let number = self.sources();
@@ -422,7 +471,7 @@ impl RunState {
     }
 
     // How many sources the graph has.
-    #[tactic(auto, unfolding(crate::specs::States::state_of))]
+    #[tactic(auto, unfolding(crate::specs::States::state_of, crate::specs::Steps::work))]
     fn sources(&self) -> u32
         ensures { result ≡ sources_in (state_of self.now).plan }
     {
