@@ -1,5 +1,6 @@
 // The numbers of `for`, and the conditions of `if` and `while`.
-ghost use Rattle.std.specs.Prelude.{◌≡◌, ℤ, ◌+ℤ◌, option_map, OnOk};
+ghost use Rattle.std.specs.Prelude.{◌≡◌, ◌+◌, ◌≤◌, ℤ, ◌+ℤ◌, option_map, OnOk};
+ghost use Rattle.avs_tree.specs.Sizes.{size, step_size};
 ghost use Rattle.avs_tree.specs.View.{expr_view};
 ghost use Rattle.avs_values.specs.Values.{Text as Name};
 ghost use Rattle.avs_meaning.specs.Statements as s;
@@ -8,6 +9,7 @@ ghost use Rattle.avs_state.specs.Hosts.{Told};
 ghost use Rattle.avs_state.specs.Sources.{sources_of};
 ghost use Rattle.avs_state.specs.States.{state_of, AsksNothing};
 ghost use Rattle.avs_state.specs.Stops.{in_text, HidesNone, TakesNone};
+ghost use Rattle.avs_state.specs.Steps.{Works};
 ghost use Rattle.avs_state.specs.Walks.{Keeps, stop_in};
 
 use crate::evaluator::Evaluator;
@@ -107,6 +109,7 @@ impl<'e, H: Host, E: Evaluator<H>> Executor<'e, H, E> {
             state.old (in_text (E.here self.now.evaluator.now) result) state.new }
         ensures kept { Keeps H.Host state.old host.old (stop_in (in_text (E.here self.now.evaluator.now) result))
             state.new host.new }
+        ensures work { Works (size (expr_view e.now)) state.old state.new }
     {
         let value = self.evaluator.value_of(state, host, e)?;
         truth(&value, line)
@@ -125,6 +128,7 @@ impl<'e, H: Host, E: Evaluator<H>> Executor<'e, H, E> {
             state.old (in_text (E.here self.now.evaluator.now) result) state.new }
         ensures kept { Keeps H.Host state.old host.old (stop_in (in_text (E.here self.now.evaluator.now) result))
             state.new host.new }
+        ensures work { Works (step_size (option_map expr_view step.now)) state.old state.new }
     {
         match step {
             Some(e) => self.evaluator.value_of(state, host, e),
@@ -148,6 +152,8 @@ impl<'e, H: Host, E: Evaluator<H>> Executor<'e, H, E> {
             state.old (in_text (E.here self.now.evaluator.now) result) state.new }
         ensures kept { Keeps H.Host state.old host.old (stop_in (in_text (E.here self.now.evaluator.now) result))
             state.new host.new }
+        ensures work { Works (size (expr_view first.now) + (size (expr_view last.now) + step_size (option_map
+            expr_view step.now))) state.old state.new }
     {
         let first = self.evaluator.value_of(state, host, first)?;
         let last = self.evaluator.value_of(state, host, last)?;

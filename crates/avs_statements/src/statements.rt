@@ -1,5 +1,6 @@
 // The execution of statements and blocks: assignments, `return`, `if`, `while` and `for`.
-ghost use Rattle.std.specs.Prelude.{map, option_map};
+ghost use Rattle.std.specs.Prelude.{◌+◌, ◌≤◌, map, option_map};
+ghost use Rattle.avs_tree.specs.Sizes.{size, step_size, arms_size, IsShort, ArmsAreShort, AreShort};
 ghost use Rattle.avs_tree.specs.Tree as t;
 ghost use Rattle.avs_tree.specs.View.{expr_view, arm_view, statement_view, kind_view, block_view, arms_of};
 ghost use Rattle.avs_meaning.specs.Statements as m;
@@ -8,7 +9,9 @@ ghost use Rattle.avs_state.specs.Hosts.{Told};
 ghost use Rattle.avs_state.specs.States.{state_of};
 ghost use Rattle.avs_statements.specs.Flows.{flow_view, turn_view};
 ghost use Rattle.avs_statements.specs.Turns as r;
+ghost use Rattle.avs_state.specs.Steps.{Works};
 ghost use Rattle.avs_state.specs.Stops.{in_text};
+ghost use Rattle.avs_state.specs.Units.{steps_a_unit};
 ghost use Rattle.avs_state.specs.Walks.{Keeps, Runs, stop_in};
 
 use crate::evaluator::Evaluator;
@@ -59,11 +62,13 @@ impl<'e, H: Host, E: Evaluator<H>> Executor<'e, H, E> {
         line: u32,
     ) -> Result<Flow, Stop>
         requires may { E.may self.now.evaluator.now }
+        requires short { IsShort steps_a_unit (kind_view kind.now) }
         ensures told { Told H.told flow_view (m.effect_of (E.context self.now.evaluator.now) (E.here self.now.evaluator.now)
             (kind_view kind.now) line)
             state.old (in_text (E.here self.now.evaluator.now) result) state.new }
         ensures kept { Keeps H.Host state.old host.old (stop_in (in_text (E.here self.now.evaluator.now) result))
             state.new host.new }
+        ensures work { Works steps_a_unit state.old state.new }
     {
         match kind {
             StatementKind::Global { name, value } => {
@@ -106,7 +111,7 @@ impl<'e, H: Host, E: Evaluator<H>> Executor<'e, H, E> {
 
     // The first arm whose condition holds.
     #[cycle(statements)]
-    #[tactic(auto, using(crate::proofs::Rows::arms_more))]
+    #[tactic(auto, using(crate::proofs::Rows::arms_more, crate::proofs::Rows::arms_short, crate::proofs::Rows::arms_sizes))]
     fn arms_of(
         &self,
         state: &mut RunState,
@@ -115,11 +120,13 @@ impl<'e, H: Host, E: Evaluator<H>> Executor<'e, H, E> {
         line: u32,
     ) -> Result<Option<Flow>, Stop>
         requires may { E.may self.now.evaluator.now }
+        requires short { ArmsAreShort steps_a_unit (arms_of (map arm_view arms.now)) }
         ensures told { Told H.told (option_map flow_view) (m.arms_of (E.context self.now.evaluator.now)
             (E.here self.now.evaluator.now) (arms_of (map arm_view arms.now)) line)
             state.old (in_text (E.here self.now.evaluator.now) result) state.new }
         ensures kept { Keeps H.Host state.old host.old (stop_in (in_text (E.here self.now.evaluator.now) result))
             state.new host.new }
+        ensures work { Works (arms_size (arms_of (map arm_view arms.now))) state.old state.new }
     {
         for arm in arms {
             if self.condition(state, host, &arm.condition, line)? {
@@ -142,11 +149,14 @@ impl<'e, H: Host, E: Evaluator<H>> Executor<'e, H, E> {
         line: u32,
     ) -> Result<Flow, Stop>
         requires may { E.may self.now.evaluator.now }
+        requires small { size (expr_view test.now) ≤ steps_a_unit }
+        requires short { AreShort steps_a_unit (block_view body.now) }
         ensures told { Told H.told flow_view (r.loop_of (E.context self.now.evaluator.now) (E.here self.now.evaluator.now)
             (expr_view test.now) line (block_view body.now))
             state.old (in_text (E.here self.now.evaluator.now) result) state.new }
         ensures kept { Keeps H.Host state.old host.old (stop_in (in_text (E.here self.now.evaluator.now) result))
             state.new host.new }
+        ensures work { Works (size (expr_view test.now)) state.old state.new }
     {
         let most = state.units();
         for _turn in 0..most {
@@ -179,6 +189,7 @@ impl<'e, H: Host, E: Evaluator<H>> Executor<'e, H, E> {
         line: u32,
     ) -> Result<Flow, Stop>
         requires may { E.may self.now.evaluator.now }
+        requires short { AreShort steps_a_unit (block_view body.now) }
         ensures told { Told H.told flow_view (m.effect_of (E.context self.now.evaluator.now) (E.here self.now.evaluator.now)
             (t.for name.now (expr_view first.now) (expr_view last.now) (option_map expr_view step.now) (block_view
             body.now))
@@ -186,6 +197,8 @@ impl<'e, H: Host, E: Evaluator<H>> Executor<'e, H, E> {
             state.old (in_text (E.here self.now.evaluator.now) result) state.new }
         ensures kept { Keeps H.Host state.old host.old (stop_in (in_text (E.here self.now.evaluator.now) result))
             state.new host.new }
+        ensures work { Works (size (expr_view first.now) + (size (expr_view last.now) + step_size (option_map
+            expr_view step.now))) state.old state.new }
     {
         let (first, last, step) = self.bounds(state, host, first, last, step, line)?;
         state.set(self.alloc, name, Value::Int(first))?;
@@ -210,11 +223,13 @@ impl<'e, H: Host, E: Evaluator<H>> Executor<'e, H, E> {
         line: u32,
     ) -> Result<Flow, Stop>
         requires may { E.may self.now.evaluator.now }
+        requires short { AreShort steps_a_unit (block_view body.now) }
         ensures told { Told H.told flow_view (r.count_of (E.context self.now.evaluator.now) (E.here self.now.evaluator.now)
             name.now first.at first.last first.step line (block_view body.now))
             state.old (in_text (E.here self.now.evaluator.now) result) state.new }
         ensures kept { Keeps H.Host state.old host.old (stop_in (in_text (E.here self.now.evaluator.now) result))
             state.new host.new }
+        ensures work { Works 0 state.old state.new }
     {
         let most = state.units();
         let mut counter = first;
@@ -246,11 +261,13 @@ impl<'e, H: Host, E: Evaluator<H>> Executor<'e, H, E> {
         line: u32,
     ) -> Result<Turn, Stop>
         requires may { E.may self.now.evaluator.now }
+        requires short { AreShort steps_a_unit (block_view body.now) }
         ensures told { Told H.told turn_view (r.turn (E.context self.now.evaluator.now) (E.here self.now.evaluator.now) name.now
             counter.now.at counter.now.last counter.now.step line (block_view body.now))
             state.old (in_text (E.here self.now.evaluator.now) result) state.new }
         ensures kept { Keeps H.Host state.old host.old (stop_in (in_text (E.here self.now.evaluator.now) result))
             state.new host.new }
+        ensures work { Works 0 state.old state.new }
     {
         if is_past(counter.last, counter.step, counter.at) {
             return Ok(Turn::Done(Flow::On(Value::Undefined)));
@@ -276,11 +293,13 @@ impl<'e, H: Host, E: Evaluator<H>> Executor<'e, H, E> {
         statement: &Statement,
     ) -> Result<Flow, Stop>
         requires may { E.may self.now.evaluator.now }
+        requires short { IsShort steps_a_unit (statement_view statement.now).0 }
         ensures told { Told H.told flow_view (r.statement (E.context self.now.evaluator.now) (E.here self.now.evaluator.now)
             (statement_view statement.now))
             state.old (in_text (E.here self.now.evaluator.now) result) state.new }
         ensures kept { Keeps H.Host state.old host.old (stop_in (in_text (E.here self.now.evaluator.now) result))
             state.new host.new }
+        ensures work { Works 0 state.old state.new }
     {
         state.spend(statement.line)?;
         self.effect_of(state, host, &statement.kind, statement.line)
@@ -288,14 +307,16 @@ impl<'e, H: Host, E: Evaluator<H>> Executor<'e, H, E> {
 
     // The statements of a block.
     #[cycle(statements)]
-    #[tactic(auto, using(crate::proofs::Rows::block_more))]
+    #[tactic(auto, using(crate::proofs::Rows::block_more, crate::proofs::Rows::block_short))]
     fn block_of(&self, state: &mut RunState, host: &mut H, body: &[Statement]) -> Result<Flow, Stop>
         requires may { E.may self.now.evaluator.now }
+        requires short { AreShort steps_a_unit (block_view body.now) }
         ensures told { Told H.told flow_view (m.block_of (E.context self.now.evaluator.now) (E.here self.now.evaluator.now)
             (block_view body.now))
             state.old (in_text (E.here self.now.evaluator.now) result) state.new }
         ensures kept { Keeps H.Host state.old host.old (stop_in (in_text (E.here self.now.evaluator.now) result))
             state.new host.new }
+        ensures work { Works 0 state.old state.new }
     {
         for statement in body {
             match self.statement_of(state, host, statement)? {
@@ -307,14 +328,16 @@ impl<'e, H: Host, E: Evaluator<H>> Executor<'e, H, E> {
     }
 
     // The statements of a text or a function.
-    #[tactic(auto, using(crate::proofs::Rows::block_more))]
+    #[tactic(auto, using(crate::proofs::Rows::block_more, crate::proofs::Rows::block_short))]
     fn body_of(&self, state: &mut RunState, host: &mut H, body: &[Statement]) -> Result<Value, Stop>
         requires may { E.may self.now.evaluator.now }
+        requires short { AreShort steps_a_unit (block_view body.now) }
         ensures told { Told H.told (λ x. x) (m.body_of (E.context self.now.evaluator.now) (E.here self.now.evaluator.now)
             (block_view body.now) Value.Undefined)
             state.old (in_text (E.here self.now.evaluator.now) result) state.new }
         ensures kept { Keeps H.Host state.old host.old (stop_in (in_text (E.here self.now.evaluator.now) result))
             state.new host.new }
+        ensures work { Works 0 state.old state.new }
     {
         let mut last = Value::Undefined;
         for statement in body {
@@ -339,11 +362,13 @@ pub fn body_of<H: Host, E: Evaluator<H>>(
     body: &[Statement],
 ) -> Result<Value, Stop>
     requires may { E.may evaluator.now }
+    requires short { AreShort steps_a_unit (block_view body.now) }
     ensures told { Told H.told (λ x. x) (m.body_of (E.context evaluator.now) (E.here evaluator.now) (block_view body.now)
         Value.Undefined)
         state.old (in_text (E.here evaluator.now) result) state.new }
     ensures kept { Keeps H.Host state.old host.old (stop_in (in_text (E.here evaluator.now) result))
         state.new host.new }
+    ensures work { Works 0 state.old state.new }
 {
     let executor = Executor {
         alloc,
