@@ -10,6 +10,7 @@ pub trait Calls<H: Host> {
     ghost use Rattle.avs_meaning.specs.State.{Context};
     ghost use Rattle.avs_meaning.specs.Expressions as e;
     ghost use Rattle.avs_state.specs.Hosts.{Told};
+    ghost use Rattle.avs_state.specs.Steps.{Works};
     ghost use Rattle.avs_state.specs.Stops.{in_text};
     ghost use Rattle.avs_state.specs.Walks.{Keeps, stop_in};
     ghost use Rattle.avs_expressions.specs.Views.{callee_view};
@@ -38,5 +39,6 @@ pub trait Calls<H: Host> {
             (e.apply (context self.now) (callee_view callee.now) args.items last (here self.now) line)
             state.old (in_text (here self.now) result) state.new }
         ensures kept { Keeps H.Host state.old host.old (stop_in (in_text (here self.now) result))
-            state.new host.new };
+            state.new host.new }
+        ensures work { Works 0 state.old state.new };
 }

@@ -1,9 +1,11 @@
 // The value of an expression: one method for each kind of list that an expression holds.
-ghost use Rattle.std.specs.Prelude.{◌≡◌, ◌∷◌, [], map};
+ghost use Rattle.std.specs.Prelude.{◌≡◌, ◌+◌, ◌≤◌, ◌∷◌, [], map};
+ghost use Rattle.avs_tree.specs.Sizes.{size, args_size, method_calls_size, steps_size};
 ghost use Rattle.avs_tree.specs.Tree as t;
 ghost use Rattle.avs_tree.specs.View.{expr_view, arg_view, method_call_view, step_view, args_of, method_calls_of, steps_of};
 ghost use Rattle.avs_meaning.specs.Expressions as m;
 ghost use Rattle.avs_state.specs.Hosts.{Told};
+ghost use Rattle.avs_state.specs.Steps.{Works, Counted};
 ghost use Rattle.avs_state.specs.Stops.{in_text};
 ghost use Rattle.avs_state.specs.Walks.{Keeps, stop_in};
 ghost use Rattle.avs_expressions.specs.Operands as s;
@@ -20,7 +22,7 @@ use std::alloc::{AllocError, Global};
 use std::marker::PhantomData;
 
 impl<'c, H: Host, C: Calls<H>> Evaluation<'c, H, C> {
-    // The value of an expression.
+    // The value of an expression, which is a step.
     #[cycle(expressions)]
     fn value_of(&self, state: &mut RunState, host: &mut H, e: &Expr) -> Result<Value, Stop>
         requires may { C.may self.now.calls.now }
@@ -29,7 +31,10 @@ impl<'c, H: Host, C: Calls<H>> Evaluation<'c, H, C> {
             state.old (in_text (C.here self.now.calls.now) result) state.new }
         ensures kept { Keeps H.Host state.old host.old (stop_in (in_text (C.here self.now.calls.now) result))
             state.new host.new }
+        ensures counted { Counted state.old state.new }
+        ensures work { Works (size (expr_view e.now)) state.old state.new }
     {
+        state.step();
         match e {
             Expr::Int(n) => Ok(Value::Int(*n)),
             Expr::Bool(holds) => Ok(Value::Bool(*holds)),
@@ -95,6 +100,7 @@ impl<'c, H: Host, C: Calls<H>> Evaluation<'c, H, C> {
             state.old (in_text (C.here self.now.calls.now) result) state.new }
         ensures kept { Keeps H.Host state.old host.old (stop_in (in_text (C.here self.now.calls.now) result))
             state.new host.new }
+        ensures work { Works (args_size (args_of (map arg_view args.now))) state.old state.new }
     {
         let callee = called(self.alloc, state, name, line)?;
         let given = self.givens_of(state, host, args, Vec::new(self.alloc))?;
@@ -103,7 +109,7 @@ impl<'c, H: Host, C: Calls<H>> Evaluation<'c, H, C> {
 
     // Arguments, after those that are there.
     #[cycle(expressions)]
-    #[tactic(auto, using(crate::proofs::Rows::args_more))]
+    #[tactic(auto, using(crate::proofs::Rows::args_more, crate::proofs::Rows::args_sizes))]
     fn givens_of(
         &self,
         state: &mut RunState,
@@ -117,6 +123,7 @@ impl<'c, H: Host, C: Calls<H>> Evaluation<'c, H, C> {
             state.old (in_text (C.here self.now.calls.now) result) state.new }
         ensures kept { Keeps H.Host state.old host.old (stop_in (in_text (C.here self.now.calls.now) result))
             state.new host.new }
+        ensures work { Works (args_size (args_of (map arg_view args.now))) state.old state.new }
     {
         for arg in args {
             let value = self.value_of(state, host, &arg.value)?;
@@ -131,7 +138,7 @@ impl<'c, H: Host, C: Calls<H>> Evaluation<'c, H, C> {
 
     // Method calls, each with the value before it as its first argument.
     #[cycle(expressions)]
-    #[tactic(auto, using(crate::proofs::Rows::calls_more, crate::proofs::Rows::calls_fail))]
+    #[tactic(auto, using(crate::proofs::Rows::calls_more, crate::proofs::Rows::calls_fail, crate::proofs::Rows::calls_sizes))]
     fn calls_from(
         &self,
         state: &mut RunState,
@@ -145,6 +152,7 @@ impl<'c, H: Host, C: Calls<H>> Evaluation<'c, H, C> {
             state.old (in_text (C.here self.now.calls.now) result) state.new }
         ensures kept { Keeps H.Host state.old host.old (stop_in (in_text (C.here self.now.calls.now) result))
             state.new host.new }
+        ensures work { Works (method_calls_size (method_calls_of (map method_call_view calls.now))) state.old state.new }
     {
         let mut value = first;
         for call in calls {
@@ -153,6 +161,7 @@ impl<'c, H: Host, C: Calls<H>> Evaluation<'c, H, C> {
         Ok(value)
     }
 
+    // A method call, which is a step.
     #[cycle(expressions)]
     fn method_call(
         &self,
@@ -167,7 +176,10 @@ impl<'c, H: Host, C: Calls<H>> Evaluation<'c, H, C> {
             state.old (in_text (C.here self.now.calls.now) result) state.new }
         ensures kept { Keeps H.Host state.old host.old (stop_in (in_text (C.here self.now.calls.now) result))
             state.new host.new }
+        ensures counted { Counted state.old state.new }
+        ensures work { Works (method_calls_size (method_calls_of (method_call_view call.now ∷ []))) state.old state.new }
     {
+        state.step();
         let callee = called(self.alloc, state, &call.name, call.line)?;
         let mut given = Vec::new(self.alloc);
         given.push(Given {
@@ -188,7 +200,7 @@ impl<'c, H: Host, C: Calls<H>> Evaluation<'c, H, C> {
 
     // The operators of a chain, from the left.
     #[cycle(expressions)]
-    #[tactic(auto, using(crate::proofs::Rows::steps_more))]
+    #[tactic(auto, using(crate::proofs::Rows::steps_more, crate::proofs::Rows::steps_sizes))]
     fn steps_from(
         &self,
         state: &mut RunState,
@@ -202,6 +214,7 @@ impl<'c, H: Host, C: Calls<H>> Evaluation<'c, H, C> {
             state.old (in_text (C.here self.now.calls.now) result) state.new }
         ensures kept { Keeps H.Host state.old host.old (stop_in (in_text (C.here self.now.calls.now) result))
             state.new host.new }
+        ensures work { Works (steps_size (steps_of (map step_view steps.now))) state.old state.new }
     {
         let mut value = first;
         for step in steps {
@@ -226,6 +239,7 @@ impl<'c, H: Host, C: Calls<H>> Evaluation<'c, H, C> {
             line (expr_view operand.now) first) state.old (in_text (C.here self.now.calls.now) result) state.new }
         ensures kept { Keeps H.Host state.old host.old (stop_in (in_text (C.here self.now.calls.now) result))
             state.new host.new }
+        ensures work { Works (size (expr_view operand.now)) state.old state.new }
     {
         match op {
             Operator::Or | Operator::And => {
@@ -257,6 +271,7 @@ impl<'c, H: Host, C: Calls<H>> Evaluation<'c, H, C> {
             state.old (in_text (C.here self.now.calls.now) result) state.new }
         ensures kept { Keeps H.Host state.old host.old (stop_in (in_text (C.here self.now.calls.now) result))
             state.new host.new }
+        ensures work { Works (size (expr_view operand.now)) state.old state.new }
     {
         let value = self.value_of(state, host, operand)?;
         let holds = truth(&value, line)?;
@@ -277,6 +292,8 @@ pub fn value_of<H: Host, C: Calls<H>>(
         state.old (in_text (C.here calls.now) result) state.new }
     ensures kept { Keeps H.Host state.old host.old (stop_in (in_text (C.here calls.now) result))
         state.new host.new }
+    ensures counted { Counted state.old state.new }
+    ensures work { Works (size (expr_view e.now)) state.old state.new }
 {
     let evaluation = Evaluation {
         alloc,

@@ -7,6 +7,7 @@ ghost use Rattle.avs_state.specs.Answers.{Gives};
 ghost use Rattle.avs_state.specs.Hosts.{Told};
 ghost use Rattle.avs_state.specs.States.{state_of};
 ghost use Rattle.avs_state.specs.Stops.{in_text, HidesNone};
+ghost use Rattle.avs_state.specs.Steps.{Works};
 ghost use Rattle.avs_state.specs.Walks.{Keeps, stop_in};
 ghost use Rattle.avs_expressions.specs.Views.{callee_view};
 
@@ -47,6 +48,7 @@ impl<'c, H: Host, C: Calls<H>> Evaluation<'c, H, C> {
             state.old (in_text (C.here self.now.calls.now) result) state.new }
         ensures kept { Keeps H.Host state.old host.old (stop_in (in_text (C.here self.now.calls.now) result))
             state.new host.new }
+        ensures work { Works 0 state.old state.new }
     {
         let last = copy_of(self.alloc, state.local(self.alloc, "last"))?;
         self.calls.apply(state, host, callee, args, last, line)
@@ -65,6 +67,7 @@ impl<'c, H: Host, C: Calls<H>> Evaluation<'c, H, C> {
             (t.name name.now line)) state.old (in_text (C.here self.now.calls.now) result) state.new }
         ensures kept { Keeps H.Host state.old host.old (stop_in (in_text (C.here self.now.calls.now) result))
             state.new host.new }
+        ensures work { Works 0 state.old state.new }
     {
         if let Some(value) = state.variable(self.alloc, name.as_str()) {
             return Ok(value.try_clone(self.alloc)?);

@@ -1,5 +1,5 @@
--- The stop of a method call is that of all.
-use Rattle.std.proofs.Common.{◌≡◌, map, Err, rules}
+-- The stop of a method call is that of all, and operators evaluate nothing.
+use Rattle.std.proofs.Common.{◌≡◌, map, Err, arith, rules}
 use Rattle.avs_tree.specs.View.{method_call_view, method_calls_of}
 use Rattle.avs_state.specs.States.{state_of}
 use Rattle.avs_state.specs.Stops.{named}
@@ -18,3 +18,8 @@ calls_from-returns-in_err-value-clause-told g t c = λ told.
     rw is (calls_fail context here c.args.calls.now c.loop-call.call-index c.call-item.result
     c.loop-call.value (state_of c.loop-call.state) whole (named here stop) (search rules) c.call-item.is (c.loop-call.invariant.told told)
     (c.in_err-value.ensures.told told))
+
+pub joined-returns-clause-work : goal.joined-returns-clause-work
+joined-returns-clause-work g t c =
+    let asks = (c.combined.ensures (g.C.Calls.here c.args.self.now.calls.now)).asks in
+    omega (arith, asks.work, c.in_ok-second-in_default.ensures.work)
