@@ -1,5 +1,5 @@
 // Calls of the script's functions, of built-in functions and of filters, by name and with bound arguments.
-ghost use Rattle.std.specs.Prelude.{◌≡◌, ◌<◌, Err};
+ghost use Rattle.std.specs.Prelude.{◌≡◌, ◌<◌, Err, IfErr};
 ghost use Rattle.avs_values.specs.Views.{bound_view};
 ghost use Rattle.avs_meaning.specs.Expressions as e;
 ghost use Rattle.avs_meaning.specs.Filters as f;
@@ -12,6 +12,7 @@ ghost use Rattle.avs_eval.specs.OutsideBy.{context_in, outside_by};
 ghost use Rattle.avs_state.specs.States.{defined_view};
 ghost use Rattle.avs_expressions.specs.Views.{callee_view};
 ghost use Rattle.avs_eval.specs.Deeper.{Deeper};
+ghost use Rattle.avs_eval.specs.Ranges as g;
 
 use crate::ranges::{positional_args, range_in};
 use crate::walker::Walker;
@@ -121,13 +122,13 @@ impl<
         host: &mut H,
         builtin: Builtin,
         signature: usize,
-        given: &Bound,
+        given: Bound,
         line: u32,
     ) -> Result<Value, Stop>
         requires deeper { Deeper H.Host self.now.depth F.Fn self.now.run }
         requires other { builtin ≡ Builtin.ApplyRange → ⊥ }
         ensures told { Told H.told (λ v. v) (e.performed (context_in H.Host self.now.depth) (e.builtin builtin) signature
-            (bound_view given.now) self.now.script_name.now line)
+            (bound_view given) self.now.script_name.now line)
             state.old (in_text self.now.script_name.now result) state.new }
         ensures kept { Keeps H.Host state.old host.old (stop_in (in_text self.now.script_name.now result))
             state.new host.new }
@@ -143,7 +144,7 @@ impl<
                 clip_property(self.alloc, state, function, &given.values, line)
             }
             Builtin::Filter(filter) => {
-                self.apply_filter(state, host, filter, signature, given, line)
+                self.apply_filter(state, host, filter, signature, &given, line)
             }
         }
     }
@@ -212,6 +213,7 @@ impl<
             state.old (in_text self.now.script_name.now result) state.new }
         ensures kept { Keeps H.Host state.old host.old (stop_in (in_text self.now.script_name.now result))
             state.new host.new }
+        ensures refused { IfErr (g.given_in given.now.values.items) (λ kind. result ≡ Err (s.Fault kind line)) }
     {
         let range = match range_in(&given.values) {
             Ok(range) => range,
@@ -258,7 +260,7 @@ impl<
         };
         match builtin {
             Builtin::ApplyRange => self.apply_range(state, host, &given, line),
-            _ => self.builtin(state, host, builtin, signature, &given, line),
+            _ => self.builtin(state, host, builtin, signature, given, line),
         }
     }
 

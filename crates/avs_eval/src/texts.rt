@@ -1,5 +1,5 @@
 // Texts that a run executes beside the script: those of `Eval`, `Import` and functions.
-ghost use Rattle.std.specs.Prelude.{◌≡◌, ◌<◌, ◌≤◌, length, Err};
+ghost use Rattle.std.specs.Prelude.{◌≡◌, ◌<◌, ◌≤◌, length, IfSome, Err};
 ghost use Rattle.avs_tree.specs.View.{block_view};
 ghost use Rattle.avs_values.specs.Values.{text_limit};
 ghost use Rattle.avs_parse.specs.Load.{script_of};
@@ -196,6 +196,7 @@ impl<
             state.old (in_text self.now.script_name.now result) state.new }
         ensures kept { Keeps H.Host state.old host.old (stop_in (in_text self.now.script_name.now result))
             state.new host.new }
+        ensures refused { IfSome (b.refused self.now.depth values.now) (λ kind. result ≡ Err (s.Fault kind line)) }
     {
         match values {
             [Value::Text(text)] => self.eval_text(state, host, text, line),
@@ -243,6 +244,7 @@ impl<
             state.old (in_text self.now.script_name.now result) state.new }
         ensures kept { Keeps H.Host state.old host.old (stop_in (in_text self.now.script_name.now result))
             state.new host.new }
+        ensures refused { IfSome (b.refused self.now.depth values.now) (λ kind. result ≡ Err (s.Fault kind line)) }
     {
         let [Value::Text(file)] = values else {
             return Err(Stop::Fault(ScriptKind::NoMatch, line));
