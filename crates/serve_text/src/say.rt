@@ -51,7 +51,7 @@ fn say_script_kind<E: Sink>(err: &mut E, name: &Text, line: u32, kind: &str)
 }
 
 // Says that an assertion failed, with its message.
-fn say_assertion<E: Sink>(err: &mut E, name: &Text, line: u32, message: &Text)
+fn say_assertion<E: Sink>(err: &mut E, name: &Text, line: u32, message: &str)
     ensures { Says E.Sink err.old err.new (script_line (ScriptKind.AssertFailed message.now) name.now line) }
 {
     let mut digits = Buffer::new();
@@ -64,7 +64,7 @@ fn say_assertion<E: Sink>(err: &mut E, name: &Text, line: u32, message: &Text)
             " line ",
             line,
             ": AssertFailed: ",
-            message.as_str(),
+            message,
             "\n",
         ],
     );
@@ -75,7 +75,7 @@ fn say_script<E: Sink>(err: &mut E, kind: &ScriptKind, name: &Text, line: u32)
     ensures { Says E.Sink err.old err.new (script_line kind.now name.now line) }
 {
     match kind {
-        ScriptKind::AssertFailed(message) => say_assertion(err, name, line, message),
+        ScriptKind::AssertFailed(message) => say_assertion(err, name, line, message.as_str()),
         _ => say_script_kind(err, name, line, kind.name()),
     }
 }
