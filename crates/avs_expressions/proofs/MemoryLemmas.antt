@@ -1,6 +1,5 @@
 -- Where out of memory hides no fault of a value, it hides none of a run that has that value.
 use Rattle.std.proofs.Common.{Result, Ok, Err}
-use Rattle.avs_values.specs.Values.{HasValue}
 use Rattle.avs_meaning.specs.Faults.{Fault}
 use Rattle.avs_meaning.specs.State.{State, lifted}
 use Rattle.avs_meaning.specs.declared.stop.EvalError.TheVariants as e

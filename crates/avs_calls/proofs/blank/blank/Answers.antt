@@ -1,4 +1,4 @@
-use Rattle.std.proofs.Common.{◌≡◌, ◌∙◌, refl, option_map}
+use Rattle.std.proofs.Common.{◌≡◌, refl, option_map}
 use Rattle.avs_meaning.specs.Filters as f
 use Rattle.avs_state.specs.States.{state_of}
 use Rattle.avs_calls.specs.Views.{args_view}

@@ -1,5 +1,4 @@
-use Rattle.std.proofs.Common.{rules, ◌≡◌, option_map, ℕ}
-use Rattle.clip_term.specs.Blank.{default_clip}
+use Rattle.std.proofs.Common.{rules, ◌≡◌, option_map}
 use Rattle.avs_meaning.specs.Filters as f
 use Rattle.avs_state.specs.States.{state_of}
 use Rattle.avs_calls.specs.Views.{args_view}

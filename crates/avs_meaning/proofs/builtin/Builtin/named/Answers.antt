@@ -1,5 +1,5 @@
 -- A name is found in the first of three lists that has it.
-use Rattle.std.proofs.Common.{rules, ◌≡◌, ◌∙◌, map, List, ◌++◌, None, Some}
+use Rattle.std.proofs.Common.{rules, ◌≡◌, ◌∙◌, map, List, ◌++◌, None}
 use Rattle.clip_term.specs.Filters.{all_filters}
 use Rattle.avs_meaning.specs.Table.{builtins, builtin_of, builtin_in, calling_functions, maker_of}
 use Rattle.avs_meaning.specs.declared.builtin.Builtin.{Builtin}
