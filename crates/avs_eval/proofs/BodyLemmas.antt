@@ -1,6 +1,8 @@
 -- A text that is executed, by its parts.
 use Rattle.std.proofs.Common.{◌≡◌, ◌∙◌, refl, ap, ℕ, ◌<◌, nat_le, nat_eq, Bool, false, List, [], ◌∷◌, length, Result, Ok, Err, ◌≤◌, true, rules, arith}
-use Rattle.avs_tree.specs.Tree.{Loaded, NoTree, Block}
+use Rattle.avs_tree.proofs.CallerLemmas.{script_shorter}
+use Rattle.avs_tree.specs.Sizes.{IsScriptShort}
+use Rattle.avs_tree.specs.Tree.{Loaded, NoTree, Block, Script}
 use Rattle.avs_values.specs.Values.{text_limit, Text}
 use Rattle.avs_values.specs.declared.value.Value.{Value}
 use Rattle.avs_values.specs.declared.value.Value.TheVariants as v
@@ -13,6 +15,8 @@ use Rattle.avs_meaning.specs.declared.fault.ScriptKind.TheVariants as k
 use Rattle.avs_meaning.specs.declared.stop.EvalError.{EvalError}
 use Rattle.avs_state.specs.Answers.{Fails}
 use Rattle.avs_state.proofs.Failures.{is_fault, then_fails}
+use Rattle.avs_state.proofs.StepLemmas.{fits_unit}
+use Rattle.avs_state.specs.Units.{steps_a_unit}
 use Rattle.avs_state.specs.declared.host.Host as host
 use Rattle.avs_eval.specs.Bodies.{body_by, eval_text}
 use Rattle.avs_eval.specs.OutsideBy.{context_in, outside_by}
@@ -74,3 +78,9 @@ module _ {H : Type 0} (h : host.Ghosts H) (n : ℕ) (here : Text) (line : ℕ) w
   eval_is text s some =
       let holds : nat_eq n 0 ≡ false = grind (arith, some) in
       eval_one (nat_eq n 0) text s refl holds
+
+-- ---- shortness
+
+-- A unit pays for each statement of a text that is not too long.
+pub pays_each : (text : Text) (tree : Script) → length text ≤ text_limit → IsScriptShort (length text) tree → IsScriptShort steps_a_unit tree
+pays_each text tree few short = script_shorter (length text) steps_a_unit (fits_unit (length text) few) tree short

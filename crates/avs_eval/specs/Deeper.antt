@@ -3,6 +3,7 @@ use Rattle.std.specs.Prelude.{ℕ, ◌-◌, ◌<◌, List, Result}
 use Rattle.std.specs.Borrow.{Bor, MutBor}
 use Rattle.std.specs.Fn.{Shared}
 use Rattle.std.specs.declared.alloc.Global.{Global}
+use Rattle.avs_tree.specs.Sizes.{AreShort}
 use Rattle.avs_tree.specs.View.{block_view}
 use Rattle.avs_tree.specs.declared.tree.Statement.{Statement}
 use Rattle.avs_values.specs.Values.{Text}
@@ -12,6 +13,8 @@ use Rattle.avs_meaning.specs.declared.stop.EvalError.{EvalError}
 use Rattle.avs_state.specs.Hosts.{Told}
 use Rattle.avs_state.specs.declared.host.Host as host
 use Rattle.avs_state.specs.declared.run_state.RunState.{RunState}
+use Rattle.avs_state.specs.Steps.{Works}
+use Rattle.avs_state.specs.Units.{steps_a_unit}
 use Rattle.avs_state.specs.Walks.{Keeps, stop_in}
 use Rattle.avs_eval.specs.OutsideBy.{outside_by}
 
@@ -23,11 +26,12 @@ Asked H =
 abbrev pub Answered : Type 0 → Type 0
 Answered H = Result Value EvalError × (MutBor RunState × (MutBor H × Unit {0}))
 
--- a function value that executes the statements of a text one call deeper
+-- A function value that executes the statements of a text one call deeper, for each of which a unit pays.
 pub record Deeper {H F : Type 0} (h : host.Ghosts H) (depth : ℕ) (g : Shared F (Asked H) (Answered H)) (f : F)
     : Type 0 where
   pub callable : 0 < depth → (alloc : Global) (s : MutBor RunState) (x : MutBor H)
-      (here : Bor Text) (body : Bor (List Statement)) → g.pre f (alloc, (s, (x, (depth - 1, (here, (body, tt))))))
+      (here : Bor Text) (body : Bor (List Statement)) → AreShort steps_a_unit (block_view body.now)
+      → g.pre f (alloc, (s, (x, (depth - 1, (here, (body, tt))))))
   pub runs : 0 < depth → (alloc : Global) (s s' : MutBor RunState) (x x' : MutBor H)
       (here : Bor Text) (body : Bor (List Statement)) (result : Result Value EvalError)
       → g.post f (alloc, (s, (x, (depth - 1, (here, (body, tt)))))) (result, (s', (x', tt)))
@@ -37,3 +41,6 @@ pub record Deeper {H F : Type 0} (h : host.Ghosts H) (depth : ℕ) (g : Shared F
       (here : Bor Text) (body : Bor (List Statement)) (result : Result Value EvalError)
       → g.post f (alloc, (s, (x, (depth - 1, (here, (body, tt)))))) (result, (s', (x', tt)))
       → Keeps h s.now x.now (stop_in result) s'.now x'.now
+  pub works : 0 < depth → (alloc : Global) (s s' : MutBor RunState) (x x' : MutBor H)
+      (here : Bor Text) (body : Bor (List Statement)) (result : Result Value EvalError)
+      → g.post f (alloc, (s, (x, (depth - 1, (here, (body, tt)))))) (result, (s', (x', tt))) → Works 0 s.now s'.now

@@ -1,5 +1,5 @@
 // Calls of the script's functions, of built-in functions and of filters, by name and with bound arguments.
-ghost use Rattle.std.specs.Prelude.{◌≡◌, ◌<◌, Err, IfErr};
+ghost use Rattle.std.specs.Prelude.{◌≡◌, ◌<◌, Err, IfErr, ◌+◌, ◌≤◌};
 ghost use Rattle.avs_values.specs.Views.{bound_view};
 ghost use Rattle.avs_meaning.specs.Expressions as e;
 ghost use Rattle.avs_meaning.specs.Filters as f;
@@ -7,6 +7,7 @@ ghost use Rattle.avs_meaning.specs.declared.fault.ScriptKind.TheVariants as k;
 ghost use Rattle.avs_state.specs.Hosts.{Told};
 ghost use Rattle.avs_state.specs.Stops.{in_text};
 ghost use Rattle.avs_state.specs.declared.stop.Stop.TheVariants as s;
+ghost use Rattle.avs_state.specs.Steps.{Works};
 ghost use Rattle.avs_state.specs.Walks.{Keeps, stop_in};
 ghost use Rattle.avs_eval.specs.OutsideBy.{context_in, outside_by};
 ghost use Rattle.avs_state.specs.States.{defined_view};
@@ -43,6 +44,7 @@ impl<
             state.old (in_text self.now.script_name.now result) state.new }
         ensures kept { Keeps H.Host state.old host.old (stop_in (in_text self.now.script_name.now result))
             state.new host.new }
+        ensures work { Works 0 state.old state.new }
     {
         let file = Text::from_str(self.alloc, name.as_str())?;
         match host.clip(name) {
@@ -64,6 +66,7 @@ impl<
             state.old (in_text self.now.script_name.now result) state.new }
         ensures kept { Keeps H.Host state.old host.old (stop_in (in_text self.now.script_name.now result))
             state.new host.new }
+        ensures work { Works 0 state.old state.new }
     {
         match values {
             [Value::Text(name)] => self.open(state, host, name, line),
@@ -86,6 +89,7 @@ impl<
             state.old (in_text self.now.script_name.now result) state.new }
         ensures kept { Keeps H.Host state.old host.old (stop_in (in_text self.now.script_name.now result))
             state.new host.new }
+        ensures work { Works 0 state.old state.new }
     {
         let before = state.enter(env);
         let value = self.deeper(state, host, &definition.text, &definition.function.body)?;
@@ -108,6 +112,7 @@ impl<
             state.old (in_text self.now.script_name.now result) state.new }
         ensures kept { Keeps H.Host state.old host.old (stop_in (in_text self.now.script_name.now result))
             state.new host.new }
+        ensures work { Works 0 state.old state.new }
     {
         match applied {
             Filter::Y4MSource => self.open_source(state, host, &given.values, line),
@@ -132,6 +137,7 @@ impl<
             state.old (in_text self.now.script_name.now result) state.new }
         ensures kept { Keeps H.Host state.old host.old (stop_in (in_text self.now.script_name.now result))
             state.new host.new }
+        ensures work { Works 0 state.old state.new }
     {
         match builtin {
             Builtin::Eval => self.eval(state, host, &given.values, line),
@@ -165,6 +171,7 @@ impl<
         ensures kept { Keeps H.Host state.old host.old (stop_in (in_text self.now.script_name.now result))
             state.new host.new }
         ensures deep { self.now.depth ≡ 0 → result ≡ Err (s.Fault k.CallDepth line) }
+        ensures work { Works 0 state.old state.new }
     {
         if self.depth == 0 {
             return Err(Stop::Fault(ScriptKind::CallDepth, line));
@@ -189,6 +196,7 @@ impl<
             state.old (in_text self.now.script_name.now result) state.new }
         ensures kept { Keeps H.Host state.old host.old (stop_in (in_text self.now.script_name.now result))
             state.new host.new }
+        ensures work { Works 0 state.old state.new }
     {
         let taken = signature_of(self.alloc, &definition.function.params)?;
         let Some((_, given)) = fit_or_last(self.alloc, &[taken], args, last)? else {
@@ -214,6 +222,7 @@ impl<
         ensures kept { Keeps H.Host state.old host.old (stop_in (in_text self.now.script_name.now result))
             state.new host.new }
         ensures refused { IfErr (g.given_in given.now.values.items) (λ kind. result ≡ Err (s.Fault kind line)) }
+        ensures work { Works 0 state.old state.new }
     {
         let range = match range_in(&given.values) {
             Ok(range) => range,
@@ -253,6 +262,7 @@ impl<
             state.old (in_text self.now.script_name.now result) state.new }
         ensures kept { Keeps H.Host state.old host.old (stop_in (in_text self.now.script_name.now result))
             state.new host.new }
+        ensures work { Works 0 state.old state.new }
     {
         let taken = signatures(self.alloc, builtin)?;
         let Some((signature, given)) = fit_or_last(self.alloc, &taken, args, last)? else {
@@ -281,6 +291,7 @@ impl<
             state.old (in_text self.now.script_name.now result) state.new }
         ensures kept { Keeps H.Host state.old host.old (stop_in (in_text self.now.script_name.now result))
             state.new host.new }
+        ensures work { Works 0 state.old state.new }
     {
         match callee {
             Callee::User(definition) => {

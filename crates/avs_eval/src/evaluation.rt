@@ -1,5 +1,6 @@
 // The public call `eval`: a text becomes the graph of its clip, or a stop.
-ghost use Rattle.std.specs.Prelude.{◌≡◌, ◌≤◌, ◌<◌, [], length, IsTrue, IfOk, OnOk};
+ghost use Rattle.std.specs.Prelude.{◌≡◌, ◌+◌, ◌*◌, ◌≤◌, ◌<◌, [], length, IsTrue, IfOk, OnOk};
+ghost use Rattle.avs_tree.specs.Sizes.{AreShort};
 ghost use Rattle.avs_tree.specs.View.{block_view};
 ghost use Rattle.avs_values.specs.Values.{text_limit, Text as Name};
 ghost use Rattle.avs_meaning.specs.Meaning.{clip_or_not, executed, text_meaning, to_clip};
@@ -9,6 +10,8 @@ ghost use Rattle.avs_eval.specs.OutsideBy.{outside_by};
 ghost use Rattle.avs_state.specs.States.{state_of};
 ghost use Rattle.avs_eval.specs.Evaluates.{Evaluates, Opens, CountsFaults, FetchesAll};
 ghost use Rattle.avs_state.specs.Stops.{in_text, TakesNone};
+ghost use Rattle.avs_state.specs.Steps.{Works};
+ghost use Rattle.avs_state.specs.Units.{steps_a_unit};
 ghost use Rattle.avs_state.specs.Walks.{Keeps, stop_in};
 
 use crate::depth::run;
@@ -56,10 +59,12 @@ fn clip_of_run<H: Host>(
     statements: &[Statement],
     last_line: u32,
 ) -> Result<u32, Stop>
+    requires { AreShort steps_a_unit (block_view statements.now) }
     ensures told { Told H.told (λ i. i) (to_clip (outside_by H.clips H.scripts) name.now (block_view statements.now)
         last_line) state.old (in_text name.now result) state.new }
     ensures kept { Keeps H.Host state.old host.old (stop_in (in_text name.now result)) state.new host.new }
     ensures inside { IfOk result (λ i. i < length (state_of state.new).plan) }
+    ensures work { Works 0 state.old state.new }
 {
     let value = run(alloc, state, host, CALL_LIMIT, name, statements)?;
     clip_of(state, value, last_line)
@@ -78,6 +83,7 @@ fn execute<H: Host>(
         state.old (in_text name.now result) state.new }
     ensures kept { Keeps H.Host state.old host.old (stop_in (in_text name.now result)) state.new host.new }
     ensures inside { IfOk result (λ i. i < length (state_of state.new).plan) }
+    ensures work { Works 0 state.old state.new }
 {
     let body = load_body(alloc, state, name, text)?;
     clip_of_run(alloc, state, host, name, &body.statements, body.last_line)
@@ -96,11 +102,62 @@ fn root_of<H: Host>(
         state.old result state.new }
     ensures kept { Keeps H.Host state.old host.old (stop_in result) state.new host.new }
     ensures inside { IfOk result (λ i. i < length (state_of state.new).plan) }
+    ensures work { Works 0 state.old state.new }
 {
     let script_name = Text::from_str(alloc, name.as_str())?;
     match execute(alloc, state, host, name, text) {
         Ok(root) => Ok(root),
         Err(stop) => Err(stop.named(script_name)),
+    }
+}
+
+/// What `eval` answers, how many steps it took, and how many units were paid.
+pub struct Evaluated {
+    pub answer: Result<Opened, EvalError>,
+    pub steps: u64,
+    pub units: u32,
+}
+
+/// The same as `eval`, with how many steps it took, whatever the answer is. A step is that an expression is given its
+/// value, or that a method call is made. A unit is paid for each statement and each turn of a loop.
+pub fn eval_in_steps<H: Host>(alloc: Global, host: &mut H, name: &Text, text: &Text) -> Evaluated
+    requires short { length text.now ≤ text_limit }
+    requires none { H.opened host.old ≡ [] }
+    ensures told { IsTrue H.told
+        → Evaluates (text_meaning (outside_by H.clips H.scripts) name.now text.now) result.answer }
+    ensures opened { IfOk result.answer (λ opened. Opens opened (H.opened host.new)) }
+    ensures fetched { IsTrue H.told → OnOk result.answer (FetchesAll H.Host name.now text.now host.old host.new) }
+    ensures later { H.faults host.old ≤ H.faults host.new }
+    ensures more { H.fetched host.old ≤ H.fetched host.new }
+    ensures faults { CountsFaults result.answer (H.faults host.old) (H.faults host.new) }
+    // A unit pays for at most so many steps, and at most so many units are paid.
+    ensures steps { result.steps ≤ 1048576 * result.units }
+    ensures units { result.units ≤ 1000000 }
+{
+    let mut state = RunState::new(alloc);
+    let root = root_of(alloc, &mut state, host, name, text);
+    let steps = state.steps();
+    let units = state.paid();
+    match root {
+        Ok(root) => {
+            let prefetch = state.crew();
+            let graph = state.into_graph();
+            let answer = Ok(Opened {
+                graph,
+                root,
+                prefetch,
+            });
+            Evaluated {
+                answer,
+                steps,
+                units,
+            }
+        }
+        Err(stop) => Evaluated {
+            answer: Err(stop),
+            steps,
+            units,
+        },
     }
 }
 
@@ -126,12 +183,10 @@ pub fn eval<H: Host>(
     // Only a failed read counts a fault, so none is tried again.
     ensures faults { CountsFaults result (H.faults host.old) (H.faults host.new) }
 {
-    let mut state = RunState::new(alloc);
-    let root = root_of(alloc, &mut state, host, name, text)?;
-    let prefetch = state.crew();
-    Ok(Opened {
-        graph: state.into_graph(),
-        root,
-        prefetch,
-    })
+    let Evaluated {
+        answer,
+        steps: _,
+        units: _,
+    } = eval_in_steps(alloc, host, name, text);
+    answer
 }

@@ -17,4 +17,4 @@ mod walker;
 /// What a caller of `eval` names besides.
 pub use avs_meaning::{Crew, FileKind, InputFault, ScriptKind};
 pub use avs_state::{Host, HostFault};
-pub use evaluation::{Opened, eval};
+pub use evaluation::{Evaluated, Opened, eval, eval_in_steps};

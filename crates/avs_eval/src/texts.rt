@@ -1,5 +1,6 @@
 // Texts that a run executes beside the script: those of `Eval`, `Import` and functions.
-ghost use Rattle.std.specs.Prelude.{◌≡◌, ◌<◌, ◌≤◌, length, IfSome, Err};
+ghost use Rattle.std.specs.Prelude.{◌≡◌, ◌<◌, ◌≤◌, length, IfSome, Err, ◌+◌, map, IfOk};
+ghost use Rattle.avs_tree.specs.Sizes.{AreShort};
 ghost use Rattle.avs_tree.specs.View.{block_view};
 ghost use Rattle.avs_values.specs.Values.{text_limit};
 ghost use Rattle.avs_parse.specs.Load.{script_of};
@@ -9,6 +10,8 @@ ghost use Rattle.avs_meaning.specs.declared.fault.ScriptKind.TheVariants as k;
 ghost use Rattle.avs_state.specs.Hosts.{Told};
 ghost use Rattle.avs_state.specs.Stops.{in_text};
 ghost use Rattle.avs_state.specs.declared.stop.Stop.TheVariants as s;
+ghost use Rattle.avs_state.specs.Steps.{Works};
+ghost use Rattle.avs_state.specs.Units.{steps_a_unit};
 ghost use Rattle.avs_state.specs.Walks.{Keeps, Runs, stop_in};
 ghost use Rattle.avs_eval.specs.Bodies as b;
 ghost use Rattle.avs_eval.specs.Bodies.{body_by, body_view};
@@ -55,8 +58,9 @@ fn read_body(
     text: &Text,
 ) -> Result<Body, Stop>
     requires { length text.now ≤ text_limit }
-    ensures { Runs body_view (body_by (script_of text.now) script_name.now) state.old
+    ensures runs { Runs body_view (body_by (script_of text.now) script_name.now) state.old
         (in_text script_name.now result) state.new }
+    ensures short { IfOk result (λ body. AreShort steps_a_unit (block_view body.statements.items)) }
 {
     match load(alloc, text.as_str()) {
         Ok(Loaded { script, last_line }) => {
@@ -82,7 +86,8 @@ pub(crate) fn load_body(
     text: &Text,
 ) -> Result<Body, EvalError>
     requires { length text.now ≤ text_limit }
-    ensures { Runs body_view (body_by (script_of text.now) script_name.now) state.old result state.new }
+    ensures runs { Runs body_view (body_by (script_of text.now) script_name.now) state.old result state.new }
+    ensures short { IfOk result (λ body. AreShort steps_a_unit (block_view body.statements.items)) }
 {
     let name = Text::from_str(alloc, script_name.as_str())?;
     match read_body(alloc, state, script_name, text) {
@@ -106,9 +111,11 @@ impl<
     ) -> Result<Value, EvalError>
         requires deeper { Deeper H.Host self.now.depth F.Fn self.now.run }
         requires room { 0 < self.now.depth }
+        requires short { AreShort steps_a_unit (block_view body.now) }
         ensures told { Told H.told (λ v. v) (m.below (outside_by H.clips H.scripts) self.now.depth script_name.now (block_view
             body.now)) state.old result state.new }
         ensures kept { Keeps H.Host state.old host.old (stop_in result) state.new host.new }
+        ensures work { Works 0 state.old state.new }
     {
         (self.run)(self.alloc, state, host, self.depth - 1, script_name, body)
     }
@@ -131,6 +138,7 @@ impl<
         ensures kept { Keeps H.Host state.old host.old (stop_in (in_text self.now.script_name.now result))
             state.new host.new }
         ensures limit { text_limit < length text.now → result ≡ Err (s.Fault k.TextLimit line) }
+        ensures work { Works 0 state.old state.new }
     {
         if text.as_str().len() > TEXT_LIMIT {
             return Err(Stop::Fault(ScriptKind::TextLimit, line));
@@ -154,6 +162,7 @@ impl<
             state.old (in_text self.now.script_name.now result) state.new }
         ensures kept { Keeps H.Host state.old host.old (stop_in (in_text self.now.script_name.now result))
             state.new host.new }
+        ensures work { Works 0 state.old state.new }
     {
         let from = Text::from_str(self.alloc, "Eval")?;
         self.execute(state, host, &from, text, line)
@@ -175,6 +184,7 @@ impl<
         ensures kept { Keeps H.Host state.old host.old (stop_in (in_text self.now.script_name.now result))
             state.new host.new }
         ensures deep { self.now.depth ≡ 0 → result ≡ Err (s.Fault k.CallDepth line) }
+        ensures work { Works 0 state.old state.new }
     {
         if self.depth == 0 {
             return Err(Stop::Fault(ScriptKind::CallDepth, line));
@@ -197,6 +207,7 @@ impl<
         ensures kept { Keeps H.Host state.old host.old (stop_in (in_text self.now.script_name.now result))
             state.new host.new }
         ensures refused { IfSome (b.refused self.now.depth values.now) (λ kind. result ≡ Err (s.Fault kind line)) }
+        ensures work { Works 0 state.old state.new }
     {
         match values {
             [Value::Text(text)] => self.eval_text(state, host, text, line),
@@ -216,6 +227,7 @@ impl<
             state.old (in_text self.now.script_name.now result) state.new }
         ensures kept { Keeps H.Host state.old host.old (stop_in (in_text self.now.script_name.now result))
             state.new host.new }
+        ensures work { Works 0 state.old state.new }
     {
         if !state.can_import() {
             return Err(Stop::Whole(EvalError::Memory));
@@ -245,6 +257,7 @@ impl<
         ensures kept { Keeps H.Host state.old host.old (stop_in (in_text self.now.script_name.now result))
             state.new host.new }
         ensures refused { IfSome (b.refused self.now.depth values.now) (λ kind. result ≡ Err (s.Fault kind line)) }
+        ensures work { Works 0 state.old state.new }
     {
         let [Value::Text(file)] = values else {
             return Err(Stop::Fault(ScriptKind::NoMatch, line));

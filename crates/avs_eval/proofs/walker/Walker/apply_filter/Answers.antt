@@ -26,4 +26,5 @@ returns-in_default-clause-kept g c =
       faults = unread (λ v. v) (filtered here outside c.args.applied c.args.signature (bound_view c.args.given.now) c.args.line (state_of c.args.state.now))
           (in_text here c.apply_filter.result) (state_of c.apply_filter.new.state) (g.H.Host.faults c.args.host.now) (c.apply_filter.ensures.gives here outside refl);
       fetched = search rules;
+      steps = search rules;
     }

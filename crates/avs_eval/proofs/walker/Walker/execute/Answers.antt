@@ -25,4 +25,4 @@ returns-in_err-body-clause-told g c = λ told.
     let is : c.from_residual.result ≡ Err (s.Whole stop) = search rules in
     rw is (execute_fails g.H.Host c.args.self.now.depth c.args.from.now c.args.text.now c.args.self.now.script_name.now c.args.line
     (state_of c.args.state.now) stop (search rules)
-    (also_fails (body_by (script_of c.args.text.now) c.args.from.now (state_of c.args.state.now)) stop c.in_err-body.ensures.gives))
+    (also_fails (body_by (script_of c.args.text.now) c.args.from.now (state_of c.args.state.now)) stop c.in_err-body.ensures.runs.gives))

@@ -24,4 +24,5 @@ returns-in-Ok-clause-kept g c = let here = c.args.self.now.script_name.now in re
       (in_text here c.add_source.result) (state_of c.add_source.new.self) (g.H.Host.faults c.args.host.now) (c.add_source.ensures.gives here));
   fetched = one_fetched g.H.Host c.args.state.now c.add_source.new.self c.args.host.now c.clip.new.self (record { name = c.in_ok-file.file; info = c.in-Ok.info }) here c.add_source.result
       c.in-Ok.ensures.fetched c.add_source.ensures.opened c.add_source.ensures.imports;
+  steps = search rules;
 }
