@@ -1,8 +1,9 @@
 -- A choice shows one of the frames of its inputs.
-use Rattle.std.proofs.Common.{◌≡◌, ℕ, ◌<◌, List, [], ◌∷◌, length, map, Ok, Err, refl, sym, ap, ◌∙◌}
+use Rattle.std.proofs.Common.{◌≡◌, ℕ, ◌<◌, List, [], ◌∷◌, length, map, Ok, refl, sym, ap, ◌∙◌, arith}
 use Rattle.std.specs.Prelude.{IsTrue, Result}
 use Rattle.std.specs.Result.{IsOkAnd}
 use Rattle.std.specs.List.{All}
+use Rattle.std.proofs.lemmas.Grind.{common_steps}
 use Rattle.fv_plane.specs.declared.format.Info.{Info}
 use Rattle.fv_plane.specs.declared.format.Shape.{Shape}
 use Rattle.fv_plane.specs.Picture.{Picture, IsPicture}
@@ -23,8 +24,7 @@ record Told (r : Result Info FilterFault) : Type 0 where
   is : r ≡ Ok info
 
 told_by : (r : Result Info FilterFault) (P : Info → Type 0) → IsOkAnd r P → Told r
-told_by (Ok info) P ok = record { info = info; is = refl }
-told_by (Err fault) P ok = absurd ok
+told_by v0 v1 ok = grind (arith, common_steps)
 
 shapes_shown : (infos : List Info) (shown : Origin → Picture) → ShowsInputs infos shown → (os : List Origin)
     → map (λ (p : Picture). p.shape) (map shown os) ≡ map (λ (o : Origin). (info_at infos o.input).shape) os

@@ -1,8 +1,8 @@
 -- The infos of a list of terms, one after the other.
-use Rattle.std.proofs.Common.{◌≡◌, ℕ, ◌+◌, ◌<◌, ◌≤◌, List, [], ◌∷◌, ◌++◌, length, map, drop, get_or, refl, sym, ap, ◌∙◌}
+use Rattle.std.proofs.Common.{◌≡◌, ℕ, ◌+◌, ◌<◌, ◌≤◌, List, [], ◌∷◌, ◌++◌, length, map, drop, get_or, refl, sym, ap, ◌∙◌, arith}
 use Rattle.std.specs.Prelude.{Result, Ok, Err, IsOk}
-use Rattle.std.proofs.lemmas.List.{drop_more, append_assoc, append-nil, drop_all}
-use Rattle.std.proofs.lemmas.Bool.{false≢true}
+use Rattle.std.proofs.lemmas.List.{drop_more, append-nil, drop_all}
+use Rattle.std.proofs.lemmas.Grind.{common_steps}
 use Rattle.fv_plane.specs.declared.format.Info.{Info}
 use Rattle.clip_term.specs.declared.fault.FilterFault.{FilterFault}
 use Rattle.clip_term.specs.declared.term.Term.{Term}
@@ -25,32 +25,23 @@ unfolding infos_of
 told_none = refl
 
 joined_none : (r : Result (List Info) FilterFault) → joined [] r ≡ r
-joined_none (Ok xs) = refl
-joined_none (Err f) = refl
-
-pub joined_start : (ts : List Term) → joined [] (told ts) ≡ told ts
-joined_start ts = joined_none (told ts)
+joined_none v0 = grind (arith, common_steps)
 
 joined_first : (done : List Info) (info : Info) (r : Result (List Info) FilterFault) → joined (done ++ info ∷ []) r ≡ joined done (with_first (Ok info) r)
-joined_first done info (Ok xs) = ap Ok (append_assoc done (info ∷ []) xs)
-joined_first done info (Err f) = refl
+joined_first done info v2 = grind (arith, common_steps)
 
 -- one more
 pub joined_more : (ts : List Term) (done : List Info) (info : Info) (i : ℕ) (d : Term) → i < length ts → info_of (term_of (get_or ts i d)) ≡ Ok info
     → joined done (told (drop i ts)) ≡ told ts → joined (done ++ info ∷ []) (told (drop (i + 1) ts)) ≡ told ts
-joined_more ts done info i d h e so_far =
-    joined_first done info (told (drop (i + 1) ts)) ∙ (let p = rw (drop_more ts i d h, told_first (get_or ts i d) (drop (i + 1) ts), e) at so_far in p)
+joined_more ts done info i d h e so_far = search (arith, joined_first, drop_more, told_first)
 
 not_ok : (r : Result (List Info) FilterFault) (fault : FilterFault) → Err fault ≡ r → IsOk r → ⊥
-not_ok (Ok xs) fault e ok = cc
-not_ok (Err f) fault e ok = false≢true ok
+not_ok v0 fault e ok = grind (arith, common_steps)
 
 -- no term is refused where none is to be
 pub none_refused : (ts : List Term) (done : List Info) (fault : FilterFault) (i : ℕ) (d : Term) → i < length ts → info_of (term_of (get_or ts i d)) ≡ Err fault
     → joined done (told (drop i ts)) ≡ told ts → IsOk (told ts) → ⊥
-none_refused ts done fault i d h e so_far ok =
-    let p = rw (drop_more ts i d h, told_first (get_or ts i d) (drop (i + 1) ts), e) at so_far in
-    not_ok (told ts) fault p ok
+none_refused ts done fault i d h e so_far ok = search (arith, drop_more, told_first, not_ok)
 
 pub all_joined : (ts : List Term) (done : List Info) (i : ℕ) → length ts ≤ i → joined done (told (drop i ts)) ≡ told ts → told ts ≡ Ok done
 all_joined ts done i h so_far = let p = rw (drop_all i ts h, told_none) at so_far in sym p ∙ ap Ok (append-nil done)

@@ -125,6 +125,4 @@ in_range_made (choice inner) infos info n shown shows filter sound lawful e are 
 -- so what a term's filter makes of its inputs' frames is in range
 pub made_in_range : (book : List (List Picture)) (row : ClipTerms) (op : Act) (infos : List Info) (info : Info) (n : ℕ) (pictures : List Picture) → infos_of row ≡ Ok infos → IsMade op → IsSound op (length infos)
     → AreLawful infos → check op infos ≡ Ok info → pictures ≡ map (asked_picture (term_pictures book row)) (asked op infos n) → All IsPicture pictures → IsInRange op infos n pictures info.shape
-made_in_range book row op infos info n pictures told filter sound lawful e same are =
-    let shown = asked_picture (term_pictures book row) in
-    rw same (in_range_made op infos info n shown (shows_inputs book row infos told) filter sound lawful e (rw same at are))
+made_in_range book row op infos info n pictures told filter sound lawful e same are = search (arith, in_range_made, shows_inputs)

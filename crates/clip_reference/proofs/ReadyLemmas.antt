@@ -1,8 +1,9 @@
 -- Filters that are ready to make frames.
-use Rattle.std.proofs.Common.{◌≡◌, ℕ, ◌+◌, ◌-◌, ◌*◌, ◌≤◌, List, [], length, refl, map, ◌∙◌, arith, true}
-use Rattle.std.specs.Prelude.{Result, Ok, Option, Some, None, ◌||◌, ◌==◌}
+use Rattle.std.proofs.Common.{◌≡◌, ℕ, ◌+◌, ◌-◌, ◌*◌, ◌≤◌, List, [], length, map, ◌∙◌, arith, true}
+use Rattle.std.specs.Prelude.{Result, Ok, Option, None, ◌||◌, ◌==◌}
 use Rattle.std.proofs.lemmas.List.FromFn.{length-map-range_with_len}
 use Rattle.std.proofs.lemmas.Bool.Decides.{nat_tests}
+use Rattle.std.proofs.lemmas.Grind.{common_steps}
 use Rattle.fv_plane.specs.declared.format.Info.{Info}
 use Rattle.fv_plane.specs.declared.format.Colour.{Colour}
 use Rattle.fv_plane.specs.Picture.{Picture, look_in, picture_from}
@@ -23,18 +24,10 @@ use Rattle.clip_reference.specs.Ready.{IsReady, IsFilter, IsMade}
 -- what a filter makes is the same in each book
 pub made_same : (op : Act) (infos : List Info) (info : Info) (n : ℕ) (pictures : List Picture) (k : ℕ) → IsReady op infos k → (book : List (List Picture))
     → picture_from info.shape (sample [] op infos n (map look_in pictures)) ≡ make book op infos info n pictures
-made_same (source name number told) infos info n pictures k ready book = absurd ready
-made_same (plain told colour) infos info n pictures k ready book = absurd ready
-made_same (time op) infos info n pictures k ready book = refl
-made_same (space op) infos info n pictures k ready book = refl
-made_same (joined op) infos info n pictures k ready book = refl
-made_same (soft op) infos info n pictures k ready book = refl
-made_same (fields op) infos info n pictures k ready book = refl
-made_same (choice op) infos info n pictures k ready book = absurd ready
+made_same v0 infos info n pictures k ready book = grind (arith, common_steps)
 
 no_fault : (o : Option FilterFault) (rest : Result Info FilterFault) (info : Info) → unless o rest ≡ Ok info → o ≡ None
-no_fault (Some fault) rest info e = cc
-no_fault None rest info e = refl
+no_fault v0 rest info e = grind (arith, common_steps)
 
 small_matrix : (k : ℕ) → k == 9 || k == 25 ≡ true → k ≤ 25
 small_matrix k e = grind (arith, nat_tests)
@@ -64,22 +57,8 @@ ready (choice inner) infos info n k filter sound lawful e long = absurd filter
 -- an op that is neither a source nor a clip of one colour
 pub filter_is : (code : Op) → ((name : Text) (number : ℕ) (told : Info) → code ≡ code_op.Source name number told → ⊥)
     → ((told : Info) (colour : Colour) → code ≡ code_op.Blank told colour → ⊥) → IsFilter (act_of code)
-filter_is (code_op.Source name number told) no_source no_blank = no_source name number told refl
-filter_is (code_op.Blank told colour) no_source no_blank = no_blank told colour refl
-filter_is (code_op.Time inner) no_source no_blank = tt
-filter_is (code_op.Space inner) no_source no_blank = tt
-filter_is (code_op.Join inner) no_source no_blank = tt
-filter_is (code_op.Soft inner) no_source no_blank = tt
-filter_is (code_op.Field inner) no_source no_blank = tt
-filter_is (code_op.Run inner) no_source no_blank = tt
+filter_is v0 no_source no_blank = grind (arith, common_steps)
 
 -- nor a choice
 pub made_is : (code : Op) → IsFilter (act_of code) → ((inner : RunOp) → code ≡ code_op.Run inner → ⊥) → IsMade (act_of code)
-made_is (code_op.Source name number told) filter no_choice = filter
-made_is (code_op.Blank told colour) filter no_choice = filter
-made_is (code_op.Time inner) filter no_choice = tt
-made_is (code_op.Space inner) filter no_choice = tt
-made_is (code_op.Join inner) filter no_choice = tt
-made_is (code_op.Soft inner) filter no_choice = tt
-made_is (code_op.Field inner) filter no_choice = tt
-made_is (code_op.Run inner) filter no_choice = no_choice inner refl
+made_is v0 filter no_choice = grind (arith, common_steps)

@@ -1,8 +1,9 @@
 -- Rows of samples that are in range, and their bytes.
-use Rattle.std.proofs.Common.{◌≡◌, ◌⊎◌, ℕ, zero, suc, ◌≤◌, ◌^◌, inl, inr, List, [], ◌∷◌, map, get_or, arith}
+use Rattle.std.proofs.Common.{◌≡◌, ◌⊎◌, ℕ, zero, suc, ◌≤◌, ◌^◌, List, [], ◌∷◌, map, get_or, arith}
 use Rattle.std.specs.List.{range_with_len}
 use Rattle.fv_plane.specs.declared.format.Shape.{Shape}
 use Rattle.std.proofs.Math.Pow.{pow_mono}
+use Rattle.std.proofs.lemmas.Grind.{common_steps}
 use Rattle.fv_plane.specs.Format.{IsLegal, largest_sample}
 use Rattle.fv_plane.specs.Picture.{bytes_of_row, row_of_bytes, FitsRow, FitBytes, Look, row_from}
 use Rattle.fv_plane.proofs.CallerLemmas.{fit_row, row_again}
@@ -26,11 +27,7 @@ pub bytes_again : (shape made : Shape) (row bytes : List ℕ) → made ≡ shape
 bytes_again shape made row bytes same put = rw (put, same) (row_again shape row)
 
 most_by : (bits : ℕ) → (bits ≡ 8) ⊎ ((bits ≡ 10) ⊎ ((bits ≡ 12) ⊎ ((bits ≡ 14) ⊎ (bits ≡ 16)))) → bits ≤ 16
-most_by bits (inl is) = omega arith
-most_by bits (inr (inl is)) = omega arith
-most_by bits (inr (inr (inl is))) = omega arith
-most_by bits (inr (inr (inr (inl is)))) = omega arith
-most_by bits (inr (inr (inr (inr is)))) = omega arith
+most_by bits v1 = grind (arith, common_steps)
 
 -- a sample has at most 16 bits
 pub most_bits : (shape : Shape) → IsLegal shape → shape.bits ≤ 16

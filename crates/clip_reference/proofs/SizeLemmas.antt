@@ -1,5 +1,5 @@
 -- The ops of a term, counted: an input has fewer.
-use Rattle.std.proofs.Common.{◌≡◌, ℕ, zero, suc, ◌+◌, ◌<◌, ◌≤◌, List, [], ◌∷◌, length, map, get_or, ap, arith}
+use Rattle.std.proofs.Common.{◌≡◌, ℕ, zero, suc, ◌+◌, ◌<◌, ◌≤◌, List, [], ◌∷◌, length, map, get_or, arith}
 use Rattle.clip_term.specs.declared.term.Term.{Term, out-Term}
 use Rattle.clip_term.specs.declared.term.Term.TheOpen.{Term-F}
 use Rattle.clip_term.specs.declared.term.Term.TheFolds.{fold-Term, fold_out-Term}
@@ -25,8 +25,4 @@ one_of_all (t ∷ ts) (suc i) d h = let later = one_of_all ts i d (omega arith) 
 
 -- what a recursion over a term goes down by
 pub fewer : (t input d : Term) (i n : ℕ) → i < length (out-Term t).inputs.items → input ≡ get_or (out-Term t).inputs.items i d → ops_in t ≡ n → ops_in input < n
-fewer t input d i n h is e =
-    let one = one_of_all (out-Term t).inputs.items i d h in
-    let same = ap ops_in is in
-    let count = counted t in
-    omega arith
+fewer t input d i n h is e = search (arith, one_of_all, counted)

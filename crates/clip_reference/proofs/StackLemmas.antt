@@ -1,17 +1,16 @@
 -- Stacks, one picture after the other.
-use Rattle.std.proofs.Common.{◌≡◌, ℕ, ◌+◌, ◌-◌, ◌<◌, ◌≤◌, List, length, map, get_or, drop, arith, Bool, true, false}
+use Rattle.std.proofs.Common.{◌≡◌, ℕ, ◌+◌, ◌-◌, ◌<◌, ◌≤◌, List, length, map, get_or, drop, arith, Bool, false}
 use Rattle.std.specs.Prelude.{nat_lt, if◌then◌else◌}
 use Rattle.std.proofs.lemmas.List.{drop_more}
-use Rattle.std.proofs.lemmas.Bool.{true≢false}
 use Rattle.std.proofs.lemmas.Bool.Decides.{nat_tests}
+use Rattle.std.proofs.lemmas.Grind.{common_steps}
 use Rattle.fv_plane.specs.declared.format.Info.{Info}
 use Rattle.fv_plane.specs.Format.{plane_width, plane_height}
 use Rattle.fv_plane.specs.Picture.{Picture, look_in}
 use Rattle.clip_term.specs.Join.{beside, beneath}
 
 later : (t : Bool) (u v w : ℕ) → t ≡ false → (if t then u else v) ≡ w → v ≡ w
-later true u v w f e = absurd (true≢false f)
-later false u v w f e = e
+later v0 u v w f e = grind (arith, common_steps)
 
 not_below : (x w : ℕ) → w ≤ x → nat_lt x w ≡ false
 not_below x w h = grind (arith, nat_tests)

@@ -1,10 +1,10 @@
 -- A term over its inputs, as its clip.
-use Rattle.std.proofs.Common.{◌≡◌, ℕ, zero, suc, ◌<◌, ◌≤◌, List, [], ◌∷◌, length, map, get_or, refl, sym, ap, ◌∙◌, arith, subst, ⊎_elim}
+use Rattle.std.proofs.Common.{◌≡◌, ℕ, zero, suc, ◌<◌, List, [], ◌∷◌, length, map, get_or, refl, sym, ap, ◌∙◌, arith, subst}
 use Rattle.std.specs.Prelude.{Result, Ok, Err, slice_index_or}
 use Rattle.std.specs.Result.{IsOk, IsOkAnd}
-use Rattle.std.proofs.lemmas.Bool.{cases_lt}
-use Rattle.std.proofs.lemmas.List.{get_or_past}
 use Rattle.std.proofs.lemmas.List.Elements.{All-get_or}
+use Rattle.std.proofs.lemmas.Bool.Decides.{nat_tests}
+use Rattle.std.proofs.lemmas.Grind.{common_steps}
 use Rattle.fv_plane.specs.declared.format.Info.{Info}
 use Rattle.fv_plane.specs.declared.format.Shape.{Shape}
 use Rattle.fv_plane.specs.Picture.{IsPictureOf, Picture, blank, look_in, picture_from}
@@ -56,12 +56,10 @@ record Both (op : Act) (r : Result (List Info) FilterFault) (n : ℕ) : Type 0 w
   inside : n < info.frames
 
 op_told : (op : Act) (infos : List Info) (r : Result Info FilterFault) (n : ℕ) → check op infos ≡ r → IsOkAnd r (λ (info : Info). n < info.frames) → Both op (Ok infos) n
-op_told op infos (Ok info) n e shown = record { infos = infos; info = info; infos_are = refl; info_is = e; inside = shown }
-op_told op infos (Err fault) n e shown = absurd shown
+op_told op infos v2 n e shown = grind (arith, common_steps)
 
 both_told : (op : Act) (r : Result (List Info) FilterFault) (n : ℕ) → IsOkAnd (then_check op r) (λ (info : Info). n < info.frames) → Both op r n
-both_told op (Ok infos) n shown = op_told op infos (check op infos) n refl shown
-both_told op (Err fault) n shown = absurd shown
+both_told op v1 n shown = grind (arith, nat_tests, op_told)
 
 ok_is : (r : Result (List Info) FilterFault) (infos : List Info) → r ≡ Ok infos → IsOk r
 ok_is r infos e = rw e refl
@@ -83,21 +81,8 @@ pub record HasFrame (book : List (List Picture)) (number n : ℕ) : Type 0 where
   pub listed : number < length book
   pub inside : n < length (slice_index_or book number [])
 
-has_frame : (book : List (List Picture)) (number n : ℕ) → n < length (slice_index_or book number []) → HasFrame book number n
-has_frame book number n inside = record {
-  listed = ⊎_elim
-      (λ (h : number < length book). h)
-      (λ (h : length book ≤ number). absurd (let none = rw (get_or_past book number [] h) at inside in omega arith))
-      (cases_lt number (length book));
-  inside = inside;
-}
-
 pub source_frame : (book : List (List Picture)) (name : List ℕ) (number : ℕ) (info : Info) (ts : List Term) (n : ℕ) → Accepted book (source name number info) ts n → HasFrame book number n
-source_frame book name number info ts n a =
-    let both = both_told (source name number info) (told ts) n a.shown in
-    let same = both.info_is in
-    let frames : info.frames ≡ both.info.frames = (let i : info ≡ both.info = cc in ap (λ (d : Info). d.frames) i) in
-    has_frame book number n (let many = a.source.count in let inside = both.inside in omega arith)
+source_frame book name number info ts n a = grind (arith, common_steps)
 
 pub source_picture : (book : List (List Picture)) (name : List ℕ) (number : ℕ) (info : Info) (ts : List Term) (n : ℕ) → Accepted book (source name number info) ts n
     → frame_in book number n info.shape ≡ term_picture book (applied (source name number info) (clips (map term_of ts))) n
@@ -177,8 +162,7 @@ is_blank book info colour ts n a =
 -- a frame that is asked is one of an input
 pub one_asked : (op : Act) (ts : List Term) (infos : List Info) (n : ℕ) → Known op ts infos n → (origins : List Origin) → origins ≡ asked op infos n → (i : ℕ) (d : Origin) → i < length origins
     → IsAsked infos (get_or origins i d)
-one_asked op ts infos n k origins e i d h =
-    All-get_or (IsAsked infos) origins i d h (rw e (asks_in_range op infos n k.sound k.lawful))
+one_asked op ts infos n k origins e i d h = search (arith, asks_in_range)
 
 -- a term that is accepted, with the infos of its inputs as the code has them
 pub record Gathered (book : List (List Picture)) (op : Act) (ts : List Term) (infos : List Info) (n : ℕ) : Type 0 where

@@ -1,6 +1,6 @@
-use Rattle.std.proofs.Common.{rules, arith, ◌≡◌, ◌∙◌, ◌*◌, List, [], length, map, ap, sym, refl}
+use Rattle.std.proofs.Common.{rules, arith, ◌≡◌, ◌∙◌, List, [], length, map, ap, refl}
 use Rattle.std.proofs.lemmas.Result.{IfOk-weaker}
-use Rattle.fv_plane.specs.Format.{sample_bytes}
+use Rattle.std.proofs.lemmas.Grind.{common_steps}
 use Rattle.fv_plane.specs.Picture.{Picture, row_of_bytes, Look, look_in, row_from, picture_from}
 use Rattle.clip_term.specs.Terms.{act_of, sample, make}
 use Rattle.fv_plane.proofs.FillLemmas.{filled_put, filled_plane, filled_done}
@@ -13,20 +13,13 @@ pub fill_row-requires-clause-fits : goal.fill_row-requires-clause-fits
 fill_row-requires-clause-fits c = λ x. omega (arith, c.requires.fits c.loop-plane.plane x c.loop-y.y, largest_small c.args.info.shape c.requires.legal)
 
 pub write_row-requires-clause-whole : goal.write_row-requires-clause-whole
-write_row-requires-clause-whole c =
-    c.loop-y.invariant.row ∙ ap (λ n. n * sample_bytes c.args.info.shape) (sym (c.fill_row.auto.row ∙ c.loop-y.invariant.samples))
+write_row-requires-clause-whole c = grind (arith, common_steps)
 
 pub write_row-requires-clause-fits : goal.write_row-requires-clause-fits
-write_row-requires-clause-fits c =
-    let at : Look = sample [] (act_of c.args.op.now) c.args.infos.now c.args.n (map look_in c.args.frames.now) in
-    row_fits at c.args.info.shape c.loop-plane.plane (length c.loop-y.samples) c.loop-y.y c.fill_row.new.row c.requires.fits c.fill_row.ensures
+write_row-requires-clause-fits c = search (arith, row_fits)
 
 pub put_row-requires-clause-fits : goal.put_row-requires-clause-fits
-put_row-requires-clause-fits c =
-    let at : Look = sample [] (act_of c.args.op.now) c.args.infos.now c.args.n (map look_in c.args.frames.now) in
-    let shape = c.args.info.shape in
-    bytes_fit shape c.loop-y.made.shape c.fill_row.new.row c.write_row.new.bytes c.loop-y.invariant.filled.same c.write_row.ensures
-    (row_fits at shape c.loop-plane.plane (length c.loop-y.samples) c.loop-y.y c.fill_row.new.row c.requires.fits c.fill_row.ensures)
+put_row-requires-clause-fits c = search (arith, bytes_fit, row_fits)
 
 pub loop-y-preserved : goal.loop-y-preserved
 loop-y-preserved c =

@@ -1,4 +1,4 @@
-use Rattle.std.proofs.Common.{◌≡◌, ◌∙◌, List, ◌++◌, ◌∷◌, [], length, sym, ap, map, refl, arith, take, Ok, Err, ◌<◌, get_or}
+use Rattle.std.proofs.Common.{◌≡◌, ◌∙◌, List, ◌++◌, ◌∷◌, [], length, sym, ap, map, refl, arith, take, Ok, Err, ◌<◌, get_or, ℕ}
 use Rattle.std.proofs.lemmas.List.{take_all, map_more, length-map}
 use Rattle.std.proofs.lemmas.List.Elements.{All-push}
 use Rattle.std.proofs.lemmas.Result.{IfOk-weaker}
@@ -15,8 +15,9 @@ use Rattle.clip_term.specs.Choice.{run_act}
 use Rattle.flt_choice.specs.Shown.{picture_shown}
 use Rattle.clip_reference.proofs.ChoiceLemmas.{chosen}
 use Rattle.clip_reference.proofs.SizeLemmas.{fewer}
-use Rattle.clip_reference.proofs.TermLemmas.{node, accepted, gathered, inputs_ok, turn, is_blank, no_refusal, made_whole, source_frame, source_picture}
+use Rattle.clip_reference.proofs.TermLemmas.{node, accepted, Gathered, gathered, inputs_ok, turn, is_blank, no_refusal, made_whole, source_frame, source_picture}
 use Rattle.clip_reference.proofs.reference.+reference_frame.Goals as goal
+use Rattle.clip_reference.proofs.reference.+reference_frame.Goals.{After-deref-origin-items}
 
 pub frame-requires : goal.frame-requires
 frame-requires t c =
@@ -66,127 +67,117 @@ asked-requires t c =
     let g = gathered c.args.book.now c.args.term.now c.args.n c.deref.result.now c.in_ok-infos.infos.items c.requires.sound c.requires.inside c.requires.sources c.deref.ensures.value c.in_ok-infos.ensures in
     rw c.deref-2.ensures.value (record { sound = g.known.sound; lawful = g.known.lawful; shown = g.known.shown })
 
+-- what is known once the inputs' infos are gathered
+given : (t : ℕ) (c : After-deref-origin-items t) → Gathered c.args.book.now (act_of (out-Term c.args.term.now).op) (out-Term c.args.term.now).inputs.items c.in_ok-infos.infos.items c.args.n
+given t c = gathered c.args.book.now c.args.term.now c.args.n c.deref.result.now c.in_ok-infos.infos.items c.requires.sound c.requires.inside c.requires.sources c.deref.ensures.value c.in_ok-infos.ensures
+
+same : (t : ℕ) (c : After-deref-origin-items t) → c.deref-origin-items.result.now ≡ asked (act_of (out-Term c.args.term.now).op) c.in_ok-infos.infos.items c.args.n
+same t c = c.deref-origin-items.ensures.value ∙ c.in_ok-origins.ensures ∙ ap (λ ds. asked (act_of (out-Term c.args.term.now).op) ds c.args.n) c.deref-2.ensures.value
+
 pub index-input-requires : goal.index-input-requires
 index-input-requires t c =
+    let d = (goal.at.index-input-requires t c).After-deref-origin-items in
     let op = act_of (out-Term c.args.term.now).op in
     let ts = (out-Term c.args.term.now).inputs.items in
     let infos = c.in_ok-infos.infos.items in
-    let origins = c.deref-origin-items.result.now in
-    let g = gathered c.args.book.now c.args.term.now c.args.n c.deref.result.now infos c.requires.sound c.requires.inside c.requires.sources c.deref.ensures.value c.in_ok-infos.ensures in
-    let same : origins ≡ asked op infos c.args.n = c.deref-origin-items.ensures.value ∙ c.in_ok-origins.ensures ∙ ap (λ ds. asked op ds c.args.n) c.deref-2.ensures.value in
-    let inside = (turn c.args.book.now op ts infos c.args.n g origins same c.loop-origin.origin-index (record { input = 0; number = 0 }) c.loop-origin-test.true _ c.args.term.now refl).inside in
+    let inside = (turn c.args.book.now op ts infos c.args.n (given t d) _ (same t d) c.loop-origin.origin-index (record { input = 0; number = 0 }) c.loop-origin-test.true _ c.args.term.now refl).inside in
     let long = ap length c.deref.ensures.value in
     omega (arith, c.deref.ensures.len)
 
 pub reference_frame-requires : goal.reference_frame-requires
 reference_frame-requires t c =
+    let d = (goal.at.reference_frame-requires t c).After-deref-origin-items in
     let op = act_of (out-Term c.args.term.now).op in
     let ts = (out-Term c.args.term.now).inputs.items in
     let infos = c.in_ok-infos.infos.items in
-    let origins = c.deref-origin-items.result.now in
-    let g = gathered c.args.book.now c.args.term.now c.args.n c.deref.result.now infos c.requires.sound c.requires.inside c.requires.sources c.deref.ensures.value c.in_ok-infos.ensures in
-    let same : origins ≡ asked op infos c.args.n = c.deref-origin-items.ensures.value ∙ c.in_ok-origins.ensures ∙ ap (λ ds. asked op ds c.args.n) c.deref-2.ensures.value in
-    let at = turn c.args.book.now op ts infos c.args.n g origins same c.loop-origin.origin-index _ c.loop-origin-test.true c.index-input.result.now _ c.index-input.ensures in
-    (fewer c.args.term.now c.index-input.result.now _ (get_or origins c.loop-origin.origin-index (record { input = 0; number = 0 })).input t at.inside c.index-input.ensures c.decreases, (at.sound, (at.shown, at.sources)))
+    let at = turn c.args.book.now op ts infos c.args.n (given t d) _ (same t d) c.loop-origin.origin-index _ c.loop-origin-test.true c.index-input.result.now _ c.index-input.ensures in
+    (fewer c.args.term.now c.index-input.result.now _ (get_or c.deref-origin-items.result.now c.loop-origin.origin-index (record { input = 0; number = 0 })).input t at.inside c.index-input.ensures c.decreases, (at.sound, (at.shown, at.sources)))
 
 pub loop-origin-preserved : goal.loop-origin-preserved
 loop-origin-preserved t c =
+    let d = (goal.at.loop-origin-preserved t c).After-deref-origin-items in
     let op = act_of (out-Term c.args.term.now).op in
     let ts = (out-Term c.args.term.now).inputs.items in
     let infos = c.in_ok-infos.infos.items in
-    let origins = c.deref-origin-items.result.now in
-    let g = gathered c.args.book.now c.args.term.now c.args.n c.deref.result.now infos c.requires.sound c.requires.inside c.requires.sources c.deref.ensures.value c.in_ok-infos.ensures in
-    let same : origins ≡ asked op infos c.args.n = c.deref-origin-items.ensures.value ∙ c.in_ok-origins.ensures ∙ ap (λ ds. asked op ds c.args.n) c.deref-2.ensures.value in
     let i = c.loop-origin.origin-index in
-    let d : Origin = record { input = 0; number = 0 } in
-    let at = turn c.args.book.now op ts infos c.args.n g origins same i d c.loop-origin-test.true c.index-input.result.now _ c.index-input.ensures in
+    let other : Origin = record { input = 0; number = 0 } in
+    let at = turn c.args.book.now op ts infos c.args.n (given t d) _ (same t d) i other c.loop-origin-test.true c.index-input.result.now _ c.index-input.ensures in
     let f = asked_picture (term_pictures c.args.book.now (clips (map term_of ts))) in
     let frames = c.loop-origin.frames.items in
     let put : c.push.new.self.items ≡ frames ++ c.in_ok-frame.frame ∷ [] = c.in_ok-push.ensures.items in
     record {
       made = put ∙ ap (λ l. l ++ c.in_ok-frame.frame ∷ []) c.loop-origin.invariant.made
-          ∙ ap (λ p. map f (take i origins) ++ p ∷ []) (c.in_ok-frame.ensures ∙ sym at.picture) ∙ sym (map_more f origins i d c.loop-origin-test.true);
+          ∙ ap (λ p. map f (take i c.deref-origin-items.result.now) ++ p ∷ []) (c.in_ok-frame.ensures ∙ sym at.picture) ∙ sym (map_more f c.deref-origin-items.result.now i other c.loop-origin-test.true);
       sizes = rw put (All-push IsPicture frames c.in_ok-frame.frame c.loop-origin.invariant.sizes c.shape.ensures.sizes);
     }
 
 pub made-requires : goal.made-requires
 made-requires t c =
+    let d = (goal.at.made-requires t c).After-deref-origin-items in
     let op = act_of (out-Term c.args.term.now).op in
     let ts = (out-Term c.args.term.now).inputs.items in
     let infos = c.in_ok-infos.infos.items in
-    let origins = c.deref-origin-items.result.now in
-    let g = gathered c.args.book.now c.args.term.now c.args.n c.deref.result.now infos c.requires.sound c.requires.inside c.requires.sources c.deref.ensures.value c.in_ok-infos.ensures in
-    let same : origins ≡ asked op infos c.args.n = c.deref-origin-items.ensures.value ∙ c.in_ok-origins.ensures ∙ ap (λ ds. asked op ds c.args.n) c.deref-2.ensures.value in
-    let k = g.known in
+    let k = (given t d).known in
     let f = asked_picture (term_pictures c.args.book.now (clips (map term_of ts))) in
     let checked : check op infos ≡ Ok c.in-Ok.info = ap (check op) (sym c.deref-3.ensures.value) ∙ sym c.check.ensures.exact ∙ c.in-Ok.is in
-    let all : c.loop-origin.frames.items ≡ map f origins = c.loop-origin.invariant.made ∙ ap (map f) (take_all c.loop-origin.origin-index origins c.loop-origin-test.false) in
-    let long : length c.loop-origin.frames.items ≡ length (asked op infos c.args.n) = ap length all ∙ length-map origins f ∙ ap length same in
+    let all : c.loop-origin.frames.items ≡ map f c.deref-origin-items.result.now = c.loop-origin.invariant.made ∙ ap (map f) (take_all c.loop-origin.origin-index c.deref-origin-items.result.now c.loop-origin-test.false) in
+    let long : length c.loop-origin.frames.items ≡ length (asked op infos c.args.n) = ap length all ∙ length-map c.deref-origin-items.result.now f ∙ ap length (same t d) in
     let filter = made_is (out-Term c.args.term.now).op (filter_is (out-Term c.args.term.now).op c.in_default.not-Source c.in_default-op.not-Blank) c.in_default-op-2.not-Run in
     rw (c.deref-in-Ok.ensures.value, c.deref-in-Ok-2.ensures.value) (record {
       legal = (checks_lawful op infos c.in-Ok.info k.sound k.lawful checked).shape;
       ready = ready op infos c.in-Ok.info c.args.n (length c.loop-origin.frames.items) filter k.sound k.lawful checked long;
-      fits = made_in_range c.args.book.now (clips (map term_of ts)) op infos c.in-Ok.info c.args.n c.loop-origin.frames.items g.all filter k.sound k.lawful checked (all ∙ ap (map f) same) c.loop-origin.invariant.sizes;
+      fits = made_in_range c.args.book.now (clips (map term_of ts)) op infos c.in-Ok.info c.args.n c.loop-origin.frames.items (given t d).all filter k.sound k.lawful checked (all ∙ ap (map f) (same t d)) c.loop-origin.invariant.sizes;
     })
 
 pub make_run-requires : goal.make_run-requires
 make_run-requires t c =
+    let d = (goal.at.make_run-requires t c).After-deref-origin-items in
+    let book = c.args.book.now in
     let op = act_of (out-Term c.args.term.now).op in
     let ts = (out-Term c.args.term.now).inputs.items in
     let infos = c.in_ok-infos.infos.items in
-    let origins = c.deref-origin-items.result.now in
-    let book = c.args.book.now in
-    let g = gathered book c.args.term.now c.args.n c.deref.result.now infos c.requires.sound c.requires.inside c.requires.sources c.deref.ensures.value c.in_ok-infos.ensures in
-    let same : origins ≡ asked op infos c.args.n = c.deref-origin-items.ensures.value ∙ c.in_ok-origins.ensures ∙ ap (λ ds. asked op ds c.args.n) c.deref-2.ensures.value in
     let f = asked_picture (term_pictures book (clips (map term_of ts))) in
     let all : c.loop-origin.frames.items ≡ map f (asked op infos c.args.n)
-    = c.loop-origin.invariant.made ∙ ap (map f) (take_all c.loop-origin.origin-index origins c.loop-origin-test.false ∙ same) in
-    let it = chosen book c.args.term.now (run_act c.in-Run.op) c.args.n infos c.loop-origin.frames.items (ap act_of c.in-Run.is) c.requires.sound g all c.loop-origin.invariant.sizes in
+    = c.loop-origin.invariant.made ∙ ap (map f) (take_all c.loop-origin.origin-index c.deref-origin-items.result.now c.loop-origin-test.false ∙ same t d) in
+    let it = chosen book c.args.term.now (run_act c.in-Run.op) c.args.n infos c.loop-origin.frames.items (ap act_of c.in-Run.is) c.requires.sound (given t d) all c.loop-origin.invariant.sizes in
     rw c.deref-in-Run.ensures.value it.ready
 
 pub returns-in-Run : goal.returns-in-Run
 returns-in-Run t c =
+    let d = (goal.at.returns-in-Run t c).After-deref-origin-items in
+    let book = c.args.book.now in
     let op = act_of (out-Term c.args.term.now).op in
     let ts = (out-Term c.args.term.now).inputs.items in
     let infos = c.in_ok-infos.infos.items in
-    let origins = c.deref-origin-items.result.now in
-    let book = c.args.book.now in
-    let g = gathered book c.args.term.now c.args.n c.deref.result.now infos c.requires.sound c.requires.inside c.requires.sources c.deref.ensures.value c.in_ok-infos.ensures in
-    let same : origins ≡ asked op infos c.args.n = c.deref-origin-items.ensures.value ∙ c.in_ok-origins.ensures ∙ ap (λ ds. asked op ds c.args.n) c.deref-2.ensures.value in
     let f = asked_picture (term_pictures book (clips (map term_of ts))) in
     let all : c.loop-origin.frames.items ≡ map f (asked op infos c.args.n)
-    = c.loop-origin.invariant.made ∙ ap (map f) (take_all c.loop-origin.origin-index origins c.loop-origin-test.false ∙ same) in
-    let it = chosen book c.args.term.now (run_act c.in-Run.op) c.args.n infos c.loop-origin.frames.items (ap act_of c.in-Run.is) c.requires.sound g all c.loop-origin.invariant.sizes in
+    = c.loop-origin.invariant.made ∙ ap (map f) (take_all c.loop-origin.origin-index c.deref-origin-items.result.now c.loop-origin-test.false ∙ same t d) in
+    let it = chosen book c.args.term.now (run_act c.in-Run.op) c.args.n infos c.loop-origin.frames.items (ap act_of c.in-Run.is) c.requires.sound (given t d) all c.loop-origin.invariant.sizes in
     IfOk-weaker c.make_run.result (λ frame. frame ≡ picture_shown (run_act c.in-Run.op) c.args.n c.deref-in-Run.result.now) (λ frame. frame ≡ term_picture book (term_of c.args.term.now) c.args.n)
     (λ frame e. e ∙ ap (picture_shown (run_act c.in-Run.op) c.args.n) c.deref-in-Run.ensures.value ∙ it.picture) c.make_run.ensures.made
 
 pub unreachable-requires : goal.unreachable-requires
 unreachable-requires t c =
+    let d = (goal.at.unreachable-requires t c).After-deref-origin-items in
     let op = act_of (out-Term c.args.term.now).op in
-    let ts = (out-Term c.args.term.now).inputs.items in
     let infos = c.in_ok-infos.infos.items in
-    let origins = c.deref-origin-items.result.now in
-    let g = gathered c.args.book.now c.args.term.now c.args.n c.deref.result.now infos c.requires.sound c.requires.inside c.requires.sources c.deref.ensures.value c.in_ok-infos.ensures in
-    let same : origins ≡ asked op infos c.args.n = c.deref-origin-items.ensures.value ∙ c.in_ok-origins.ensures ∙ ap (λ ds. asked op ds c.args.n) c.deref-2.ensures.value in
-    let k = g.known in
+    let k = (given t d).known in
     let refused : check op infos ≡ Err c.in-Err.field-0 = ap (check op) (sym c.deref-3.ensures.value) ∙ sym c.check.ensures.exact ∙ c.in-Err.is in
     no_refusal (check op infos) (λ (info : Info). c.args.n < info.frames) c.in-Err.field-0 k.shown refused
 
 pub returns : goal.returns
 returns t c =
+    let d = (goal.at.returns t c).After-deref-origin-items in
     let op = act_of (out-Term c.args.term.now).op in
     let ts = (out-Term c.args.term.now).inputs.items in
     let infos = c.in_ok-infos.infos.items in
-    let origins = c.deref-origin-items.result.now in
-    let g = gathered c.args.book.now c.args.term.now c.args.n c.deref.result.now infos c.requires.sound c.requires.inside c.requires.sources c.deref.ensures.value c.in_ok-infos.ensures in
-    let same : origins ≡ asked op infos c.args.n = c.deref-origin-items.ensures.value ∙ c.in_ok-origins.ensures ∙ ap (λ ds. asked op ds c.args.n) c.deref-2.ensures.value in
     let book = c.args.book.now in
     let n = c.args.n in
     let f = asked_picture (term_pictures book (clips (map term_of ts))) in
     let checked : check op infos ≡ Ok c.in-Ok.info = ap (check op) (sym c.deref-3.ensures.value) ∙ sym c.check.ensures.exact ∙ c.in-Ok.is in
     let all : c.deref-in-Ok-2.result.now ≡ map f (asked op infos n)
-    = c.deref-in-Ok-2.ensures.value ∙ c.loop-origin.invariant.made ∙ ap (map f) (take_all c.loop-origin.origin-index origins c.loop-origin-test.false ∙ same) in
-    let law = made_whole book c.args.term.now n infos c.in-Ok.info c.deref-in-Ok-2.result.now c.requires.sound g.all checked all in
+    = c.deref-in-Ok-2.ensures.value ∙ c.loop-origin.invariant.made ∙ ap (map f) (take_all c.loop-origin.origin-index c.deref-origin-items.result.now c.loop-origin-test.false ∙ same t d) in
+    let law = made_whole book c.args.term.now n infos c.in-Ok.info c.deref-in-Ok-2.result.now c.requires.sound (given t d).all checked all in
     IfOk-weaker c.made.result (λ frame. (b : List (List Picture)) → frame ≡ make b op c.deref-in-Ok.result.now c.in-Ok.info n c.deref-in-Ok-2.result.now)
     (λ frame. frame ≡ term_picture book (term_of c.args.term.now) n)
     (λ frame is. is book ∙ ap (λ ds. make book op ds c.in-Ok.info n c.deref-in-Ok-2.result.now) c.deref-in-Ok.ensures.value ∙ law)

@@ -3,6 +3,7 @@ use Rattle.std.specs.List.{sum}
 use Rattle.std.proofs.lemmas.Int.{to_z-of_z}
 use Rattle.std.proofs.lemmas.List.{take_all}
 use Rattle.std.proofs.lemmas.Nat.{div_below}
+use Rattle.std.proofs.lemmas.Grind.{common_steps}
 use Rattle.fv_plane.specs.Format.{scale}
 use Rattle.fv_plane.specs.Picture.{look_in, look_at}
 use Rattle.clip_term.specs.Refusals.{nat_of}
@@ -10,14 +11,10 @@ use Rattle.clip_term.specs.Soft.{near, samples_at}
 use Rattle.clip_reference.proofs.soft.softened.Goals as goal
 
 radius_is : (c : goal.After-loop-frame) → c.unsigned_abs-radius.result ≡ nat_of c.args.radius
-radius_is c = c.unsigned_abs-radius.ensures.value ∙ ap (λ z. nat_of z) (to_z-of_z w32 c.args.radius c.ranges.radius)
+radius_is c = grind (arith, common_steps)
 
 pub overflow_cast-result : goal.overflow_cast-result
-overflow_cast-result c =
-    let r = c.unsigned_abs-radius.result in
-    let same = radius_is c in
-    let below = div_below (c.loop-frame.sum + r) (2 * r + 1) 65536 (omega arith) (omega arith) in
-    omega arith
+overflow_cast-result c = search (arith, radius_is, div_below)
 
 pub returns : goal.returns
 returns c =
