@@ -24,7 +24,7 @@ record Told (r : Result Info FilterFault) : Type 0 where
   is : r ≡ Ok info
 
 told_by : (r : Result Info FilterFault) (P : Info → Type 0) → IsOkAnd r P → Told r
-told_by v0 v1 ok = grind (arith, common_steps)
+told_by r P ok = grind (arith, common_steps)
 
 shapes_shown : (infos : List Info) (shown : Origin → Picture) → ShowsInputs infos shown → (os : List Origin)
     → map (λ (p : Picture). p.shape) (map shown os) ≡ map (λ (o : Origin). (info_at infos o.input).shape) os

@@ -25,10 +25,10 @@ unfolding infos_of
 told_none = refl
 
 joined_none : (r : Result (List Info) FilterFault) → joined [] r ≡ r
-joined_none v0 = grind (arith, common_steps)
+joined_none r = grind (arith, common_steps)
 
 joined_first : (done : List Info) (info : Info) (r : Result (List Info) FilterFault) → joined (done ++ info ∷ []) r ≡ joined done (with_first (Ok info) r)
-joined_first done info v2 = grind (arith, common_steps)
+joined_first done info r = grind (arith, common_steps)
 
 -- one more
 pub joined_more : (ts : List Term) (done : List Info) (info : Info) (i : ℕ) (d : Term) → i < length ts → info_of (term_of (get_or ts i d)) ≡ Ok info
@@ -36,7 +36,7 @@ pub joined_more : (ts : List Term) (done : List Info) (info : Info) (i : ℕ) (d
 joined_more ts done info i d h e so_far = search (arith, joined_first, drop_more, told_first)
 
 not_ok : (r : Result (List Info) FilterFault) (fault : FilterFault) → Err fault ≡ r → IsOk r → ⊥
-not_ok v0 fault e ok = grind (arith, common_steps)
+not_ok r fault e ok = grind (arith, common_steps)
 
 -- no term is refused where none is to be
 pub none_refused : (ts : List Term) (done : List Info) (fault : FilterFault) (i : ℕ) (d : Term) → i < length ts → info_of (term_of (get_or ts i d)) ≡ Err fault

@@ -24,10 +24,10 @@ use Rattle.clip_reference.specs.Ready.{IsReady, IsFilter, IsMade}
 -- what a filter makes is the same in each book
 pub made_same : (op : Act) (infos : List Info) (info : Info) (n : ℕ) (pictures : List Picture) (k : ℕ) → IsReady op infos k → (book : List (List Picture))
     → picture_from info.shape (sample [] op infos n (map look_in pictures)) ≡ make book op infos info n pictures
-made_same v0 infos info n pictures k ready book = grind (arith, common_steps)
+made_same op infos info n pictures k ready book = grind (arith, common_steps)
 
 no_fault : (o : Option FilterFault) (rest : Result Info FilterFault) (info : Info) → unless o rest ≡ Ok info → o ≡ None
-no_fault v0 rest info e = grind (arith, common_steps)
+no_fault o rest info e = grind (arith, common_steps)
 
 small_matrix : (k : ℕ) → k == 9 || k == 25 ≡ true → k ≤ 25
 small_matrix k e = grind (arith, nat_tests)
@@ -57,8 +57,8 @@ ready (choice inner) infos info n k filter sound lawful e long = absurd filter
 -- an op that is neither a source nor a clip of one colour
 pub filter_is : (code : Op) → ((name : Text) (number : ℕ) (told : Info) → code ≡ code_op.Source name number told → ⊥)
     → ((told : Info) (colour : Colour) → code ≡ code_op.Blank told colour → ⊥) → IsFilter (act_of code)
-filter_is v0 no_source no_blank = grind (arith, common_steps)
+filter_is code no_source no_blank = grind (arith, common_steps)
 
 -- nor a choice
 pub made_is : (code : Op) → IsFilter (act_of code) → ((inner : RunOp) → code ≡ code_op.Run inner → ⊥) → IsMade (act_of code)
-made_is v0 filter no_choice = grind (arith, common_steps)
+made_is code filter no_choice = grind (arith, common_steps)

@@ -27,7 +27,7 @@ pub bytes_again : (shape made : Shape) (row bytes : List ℕ) → made ≡ shape
 bytes_again shape made row bytes same put = rw (put, same) (row_again shape row)
 
 most_by : (bits : ℕ) → (bits ≡ 8) ⊎ ((bits ≡ 10) ⊎ ((bits ≡ 12) ⊎ ((bits ≡ 14) ⊎ (bits ≡ 16)))) → bits ≤ 16
-most_by bits v1 = grind (arith, common_steps)
+most_by bits h = grind (arith, common_steps)
 
 -- a sample has at most 16 bits
 pub most_bits : (shape : Shape) → IsLegal shape → shape.bits ≤ 16

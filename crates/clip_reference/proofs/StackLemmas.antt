@@ -10,7 +10,7 @@ use Rattle.fv_plane.specs.Picture.{Picture, look_in}
 use Rattle.clip_term.specs.Join.{beside, beneath}
 
 later : (t : Bool) (u v w : ℕ) → t ≡ false → (if t then u else v) ≡ w → v ≡ w
-later v0 u v w f e = grind (arith, common_steps)
+later t u v w f e = grind (arith, common_steps)
 
 not_below : (x w : ℕ) → w ≤ x → nat_lt x w ≡ false
 not_below x w h = grind (arith, nat_tests)

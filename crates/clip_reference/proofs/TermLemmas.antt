@@ -56,10 +56,10 @@ record Both (op : Act) (r : Result (List Info) FilterFault) (n : ℕ) : Type 0 w
   inside : n < info.frames
 
 op_told : (op : Act) (infos : List Info) (r : Result Info FilterFault) (n : ℕ) → check op infos ≡ r → IsOkAnd r (λ (info : Info). n < info.frames) → Both op (Ok infos) n
-op_told op infos v2 n e shown = grind (arith, common_steps)
+op_told op infos r n e shown = grind (arith, common_steps)
 
 both_told : (op : Act) (r : Result (List Info) FilterFault) (n : ℕ) → IsOkAnd (then_check op r) (λ (info : Info). n < info.frames) → Both op r n
-both_told op v1 n shown = grind (arith, nat_tests, op_told)
+both_told op r n shown = grind (arith, nat_tests, op_told)
 
 ok_is : (r : Result (List Info) FilterFault) (infos : List Info) → r ≡ Ok infos → IsOk r
 ok_is r infos e = rw e refl

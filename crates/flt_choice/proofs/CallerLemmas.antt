@@ -1,9 +1,8 @@
 -- What other crates may cite: a caller who holds an accepted check and the pictures of its clips has the definition's picture.
-use Rattle.std.proofs.Common.{◌≡◌, ℕ, ◌+◌, ◌-◌, ◌<◌, List, length, map, get_or, Bool, true, false, Option, Some, None, Ok, ◌⊎◌, inl, inr, refl, sym, ap, ◌∙◌, subst, arith}
-use Rattle.std.specs.Prelude.{IsTrue, ℤ, pos, negsuc, ◌&&◌, if◌then◌else◌, nat_lt, nat_le}
+use Rattle.std.proofs.Common.{◌≡◌, ℕ, ◌<◌, List, length, map, get_or, true, Ok, sym, ap, ◌∙◌, subst, arith}
+use Rattle.std.specs.Prelude.{IsTrue}
 use Rattle.std.specs.List.{All, range_with_len}
 use Rattle.std.proofs.Math.ListN.{get_or-map}
-use Rattle.std.proofs.lemmas.Bool.Decides.{nat_tests}
 use Rattle.std.proofs.lemmas.List.{length-map}
 use Rattle.std.proofs.lemmas.List.FromFn.{fill_by_all}
 use Rattle.std.proofs.lemmas.Simd.{map-map}
@@ -12,14 +11,12 @@ use Rattle.fv_plane.specs.declared.format.Info.{Info}
 use Rattle.fv_plane.specs.declared.format.Shape.{Shape}
 use Rattle.fv_plane.specs.Picture.{Look, look_at, look_in, picture_from, Picture, IsPicture}
 use Rattle.clip_term.specs.declared.op.Origin.{Origin}
-use Rattle.clip_term.specs.declared.run.RunCompare.{RunCompare}
-use Rattle.clip_term.specs.Choice.{RunAct, choose, decide, holds, source_of, side_of, chosen, differences, run_refusals, run_base, run_inputs, check_run}
+use Rattle.clip_term.specs.Choice.{RunAct, chosen, differences, run_refusals, run_base, run_inputs, check_run}
 use Rattle.clip_term.specs.Terms.{choice, make, no_picture}
 use Rattle.clip_term.specs.Refusals.{info_at, no_info, rate_of, limits}
 use Rattle.clip_term.specs.Time.{from_input, in_range}
-use Rattle.clip_term.specs.Expression.{value, stat_of, tree_of}
 use Rattle.clip_term.proofs.ListedLemmas.{listed}
-use Rattle.clip_term.proofs.PassedLemmas.{Passed, passed, limits_shape, agreed, both, same_number}
+use Rattle.clip_term.proofs.PassedLemmas.{Passed, passed, limits_shape}
 use Rattle.flt_choice.specs.Shown.{number_shown, picture_shown}
 
 -- a picture for each clip, of its shape
@@ -48,9 +45,7 @@ run_ready op infos pictures sound same = subst (λ (k : ℕ). IsTrue (run_inputs
 
 -- it hangs on the number of clips and the shape of the test alone
 chosen_like : (op : RunAct) (infos others : List Info) (n : ℕ) (test : Look) → length others ≡ length infos → (info_at others 0).shape ≡ (info_at infos 0).shape → chosen op others n test ≡ chosen op infos n test
-chosen_like (choose e) infos others n test long shape =
-    ap (λ k. source_of k (value n (stat_of (info_at others 0).shape test) (tree_of e))) long ∙ ap (λ s. source_of (length infos) (value n (stat_of s test) (tree_of e))) shape
-chosen_like (decide e by f) infos others n test long shape = ap (λ s. side_of by (value n (stat_of s test) (tree_of e)) (value n (stat_of s test) (tree_of f))) shape
+chosen_like op infos others n test long shape = grind (arith, common_steps)
 
 look_of : (pictures : List Picture) (i : ℕ) → look_at (map look_in pictures) i ≡ look_in (get_or pictures i no_picture)
 look_of pictures i = get_or-map look_in pictures i no_picture
@@ -58,32 +53,8 @@ look_of pictures i = get_or-map look_in pictures i no_picture
 chosen_is : (op : RunAct) (infos : List Info) (n : ℕ) (pictures : List Picture) → HaveShapes infos pictures → number_shown op n pictures ≡ chosen op infos n (look_at (map look_in pictures) 0)
 chosen_is op infos n pictures same = grind (arith, common_steps, get_or-map, shape_at, chosen_like, length-map, as_many, look_of)
 
-source_low : (inputs m : ℕ) → nat_lt m (inputs - 1) ≡ true → 1 + m < inputs
-source_low inputs m e = grind (arith, nat_tests)
-
-source_by : (t : Bool) (inputs m : ℕ) → nat_le 0 m && nat_lt m (inputs - 1) ≡ t → 0 < inputs → (if t then 1 + m else 0) < inputs
-source_by true inputs m e some = source_low inputs m (both (nat_le 0 m) (nat_lt m (inputs - 1)) e).1
-source_by false inputs m e some = some
-
-source_inside : (inputs : ℕ) (number : Option ℤ) → 0 < inputs → source_of inputs number < inputs
-source_inside inputs None some = some
-source_inside inputs (Some (pos m)) some = source_by (nat_le 0 m && nat_lt m (inputs - 1)) inputs m refl some
-source_inside inputs (Some (negsuc m)) some = some
-
-side_by : (t : Bool) (k : ℕ) → k ≡ (if t then 1 else 2) → (k ≡ 1) ⊎ (k ≡ 2)
-side_by true k e = inl e
-side_by false k e = inr e
-
-side_is : (by : RunCompare) (a b : Option ℤ) → (side_of by a b ≡ 1) ⊎ (side_of by a b ≡ 2)
-side_is by (Some a) (Some b) = side_by (holds by a b) (side_of by (Some a) (Some b)) refl
-side_is by (Some a) None = inr refl
-side_is by None b = inr refl
-
 like : (a b : Shape) → Passed (differences a b) → b ≡ a
 like a b passed = grind (arith, common_steps)
-
-some_inputs : (n : ℕ) → nat_le 2 n ≡ true → 0 < n
-some_inputs n e = grind (arith, nat_tests)
 
 -- it is one of the clips, and has the shape of the op's clip
 record IsShown (op : RunAct) (infos : List Info) (k : ℕ) : Type 0 where
@@ -91,17 +62,7 @@ record IsShown (op : RunAct) (infos : List Info) (k : ℕ) : Type 0 where
   shape : (info_at infos k).shape ≡ (run_base op infos).shape
 
 is_shown : (op : RunAct) (infos : List Info) (n : ℕ) (test : Look) → run_inputs op (length infos) ≡ true → Passed (run_refusals op infos) → IsShown op infos (chosen op infos n test)
-is_shown (choose e) infos n test sound passed =
-    let inside = source_inside (length infos) (value n (stat_of (info_at infos 0).shape test) (tree_of e)) (some_inputs (length infos) sound) in
-    record { inside = inside; shape = agreed infos passed (chosen (choose e) infos n test) inside }
-is_shown (decide e by f) infos n test sound passed =
-    let stats = stat_of (info_at infos 0).shape test in
-    let k = chosen (decide e by f) infos n test in
-    let three = same_number (length infos) 3 sound in
-    elim (side_is by (value n stats (tree_of e)) (value n stats (tree_of f))) [
-      | inl one ↦ record { inside = omega arith; shape = ap (λ i. (info_at infos i).shape) one }
-      | inr two ↦ record { inside = omega arith; shape = ap (λ i. (info_at infos i).shape) two ∙ like (info_at infos 1).shape (info_at infos 2).shape passed }
-    ]
+is_shown op infos n test sound passed = grind (arith, common_steps)
 
 -- WHAT IS MADE
 

@@ -1,5 +1,5 @@
 -- The samples of bytes, one after the other.
-use Rattle.std.proofs.Common.{◌≡◌, ℕ, ◌+◌, ◌*◌, ◌/◌, ◌%◌, ◌<◌, ◌≤◌, List, [], ◌∷◌, ◌++◌, length, take, drop, get_or, suc, ◌-◌, Bool, true, false, inl, inr, refl, ap, sym, ◌∙◌, subst, arith}
+use Rattle.std.proofs.Common.{◌≡◌, ℕ, ◌+◌, ◌*◌, ◌/◌, ◌%◌, ◌<◌, ◌≤◌, List, [], ◌∷◌, ◌++◌, length, take, drop, get_or, suc, ◌-◌, Bool, false, inl, inr, refl, ap, sym, ◌∙◌, subst, arith}
 use Rattle.std.specs.Prelude.{◌==◌, if◌then◌else◌}
 use Rattle.std.specs.List.{fold}
 use Rattle.std.proofs.Math.Nat.{mul-mod_left}
@@ -13,8 +13,6 @@ use Rattle.std.proofs.lemmas.Grind.{common_steps}
 use Rattle.fv_rows.specs.Rows.{flat_rows}
 use Rattle.fv_plane.specs.declared.format.Shape.{Shape}
 use Rattle.fv_plane.specs.Picture.{wide_samples, row_of_bytes, bytes_of_rows, Picture, IsPicture}
-use Rattle.fv_plane.specs.declared.format.PixelType.{PixelType}
-use Rattle.fv_plane.specs.declared.format.PixelType.TheVariants.{Y8, YV12, YV16, YV24, YV411}
 use Rattle.fv_plane.specs.Format.{IsLegal, planes, sub_w, sub_h, frame_samples, largest_sample, plane_width, plane_height, sample_bytes}
 use Rattle.fv_rows.proofs.RowLemmas.{length-flat_rows, length-front}
 use Rattle.fv_plane.proofs.BytesLemmas.{bytes_of_rows-flat, length-bytes_of_row}
@@ -77,20 +75,11 @@ rows_fit picture p y n bytes is told x =
 
 -- THE SAMPLES OF A PLANE ARE FEW
 
-plane_few : (kind : PixelType) (w h : ℕ) → (w / sub_w kind) * (h / sub_h kind) ≤ w * h + (planes kind - 1) * ((w / sub_w kind) * (h / sub_h kind))
-plane_few Y8 w h = let a : w / 1 ≡ w = omega arith in let b : h / 1 ≡ h = omega arith in rw (a, b) (omega arith)
-plane_few YV12 w h = omega arith
-plane_few YV16 w h = omega arith
-plane_few YV24 w h = omega arith
-plane_few YV411 w h = omega arith
-
 by_plane : (t : Bool) (s : Shape) → (if t then s.width else s.width / sub_w s.kind) * (if t then s.height else s.height / sub_h s.kind) ≤ frame_samples s
-by_plane true s = omega arith
-by_plane false s = plane_few s.kind s.width s.height
+by_plane t s = grind (arith, common_steps)
 
 size_cases : (t : Bool) → (1 ≤ (if t then 1 else 2)) × ((if t then 1 else 2) ≤ 2)
-size_cases true = (omega arith, omega arith)
-size_cases false = (omega arith, omega arith)
+size_cases t = grind (arith, common_steps)
 
 -- at most those of the largest frame
 pub samples_few : (s : Shape) (p : ℕ) → IsLegal s → plane_width s p * plane_height s p ≤ 16777216

@@ -1,5 +1,5 @@
 -- A value depends on the statistics that the expression names alone; the samples of a picture's plane.
-use Rattle.std.proofs.Common.{◌≡◌, ℕ, zero, suc, ◌+◌, ◌*◌, ◌/◌, ◌%◌, ◌<◌, ◌≤◌, set, Result, Ok, Err, List, [], ◌∷◌, length, get_or, Bool, true, false, Option, Some, refl, ap, sym, ◌∙◌, arith, eq-eqb}
+use Rattle.std.proofs.Common.{◌≡◌, ℕ, zero, suc, ◌+◌, ◌*◌, ◌/◌, ◌%◌, ◌<◌, ◌≤◌, set, Result, List, [], ◌∷◌, length, get_or, Bool, true, false, Option, Some, refl, ap, sym, ◌∙◌, arith, eq-eqb}
 use Rattle.std.specs.Option.{unwrap_or}
 use Rattle.std.specs.Result.{IfOk}
 use Rattle.std.proofs.lemmas.List.{length-map, get_or-set_same, get_or-set_other, get_or_past}
@@ -10,10 +10,8 @@ use Rattle.std.proofs.lemmas.Grind.{common_steps}
 use Rattle.fv_plane.specs.Format.{largest_sample, planes, plane_width, plane_height}
 use Rattle.fv_plane.specs.Picture.{look_in, plane_from, row_from, Picture, IsPicture, row_of}
 use Rattle.clip_term.specs.declared.run.PlaneStat.{PlaneStat}
-use Rattle.clip_term.specs.declared.run.PlaneStat.TheVariants.{Least, Greatest, Median}
 use Rattle.clip_term.specs.Expression.{Expr, int, bool, current_frame, of_plane, abs_, min_, max_, minus, not_, chain, compare, group, Exprs, no_exprs, and_expr, Steps, no_steps, and_step, asks, any_asks, steps_ask, same_stat, value, of_all, picked_from, along, one_of, both_of, absolute, negative, picked, by_oper, stat_in, words, tree_of}
 use Rattle.fv_plane.specs.declared.format.PixelType.{PixelType}
-use Rattle.fv_plane.specs.declared.format.PixelType.TheVariants.{Y8, YV12, YV16, YV24, YV411}
 use Rattle.clip_term.specs.declared.run.RunCompare.{RunCompare}
 use Rattle.clip_term.specs.Choice.{choose, decide, side_of, source_of}
 use Rattle.clip_term.specs.Refusals.{no_info}
@@ -31,12 +29,10 @@ plane_listed picture p is within =
     (λ z g. fill_by_all (λ x. look_in picture p x z) (row_of picture.planes p z) (plane_width picture.shape p) 0 (plane.widths z g) (λ x i. refl)))
 
 chosen_by : (t : Bool) (a b : ℕ) → t ≡ true → (if t then a else b) ≡ a
-chosen_by true a b e = refl
-chosen_by false a b e = absurd (let never : ⊥ = cc in never)
+chosen_by t a b e = grind (arith, common_steps)
 
 other_by : (t : Bool) (a b : ℕ) → t ≡ false → (if t then a else b) ≡ b
-other_by false a b e = refl
-other_by true a b e = absurd (let never : ⊥ = cc in never)
+other_by t a b e = grind (arith, common_steps)
 
 pub stat_there : (picture : Picture) (p : ℕ) (stat : PlaneStat) → IsPicture picture → p < planes picture.shape.kind
     → stats_of picture p stat ≡ stat_in (largest_sample picture.shape) stat (plane_samples picture p)
@@ -48,20 +44,16 @@ stat_past picture p stat past = grind (arith, common_steps)
 -- VALUES
 
 same_stat_is : (stat : PlaneStat) → same_stat stat stat ≡ true
-same_stat_is Least = refl
-same_stat_is Greatest = refl
-same_stat_is Median = refl
+same_stat_is stat = grind (arith, common_steps)
 
 asked_itself : (p : ℕ) (stat : PlaneStat) → asks p stat (of_plane p stat) ≡ true
 asked_itself p stat = rw (eq-eqb p p refl) (same_stat_is stat)
 
 pub in_first : (a b : Bool) → a ≡ true → a || b ≡ true
-in_first true b e = refl
-in_first false b e = absurd (let never : ⊥ = cc in never)
+in_first a b e = grind (arith, common_steps)
 
 pub in_second : (a b : Bool) → b ≡ true → a || b ≡ true
-in_second true b e = refl
-in_second false b e = e
+in_second a b e = grind (arith, common_steps)
 
 module _ (n : ℕ) (f g : ℕ → PlaneStat → ℕ) where
   mutual
@@ -108,20 +100,10 @@ at_is (x ∷ l) zero = refl
 at_is (x ∷ l) (suc i) = at_is l i
 
 number_few : (stat : PlaneStat) → stat_number stat < 3
-number_few Least = omega arith
-number_few Greatest = omega arith
-number_few Median = omega arith
+number_few stat = grind (arith, common_steps)
 
 same_number_is : (a b : PlaneStat) → stat_number a ≡ stat_number b → a ≡ b
-same_number_is Least Least e = refl
-same_number_is Greatest Greatest e = refl
-same_number_is Median Median e = refl
-same_number_is Least Greatest e = absurd (omega arith)
-same_number_is Least Median e = absurd (omega arith)
-same_number_is Greatest Least e = absurd (omega arith)
-same_number_is Greatest Median e = absurd (omega arith)
-same_number_is Median Least e = absurd (omega arith)
-same_number_is Median Greatest e = absurd (omega arith)
+same_number_is a b e = grind (arith, common_steps)
 
 -- one more statistic is there
 pub table_step : (table : List ℕ) (place v : ℕ) (found : PlaneStat) (p : ℕ) (stat : PlaneStat) (want : ℕ → PlaneStat → ℕ) → place < length table → stat_number found ≡ place % 3
@@ -130,11 +112,7 @@ pub table_step : (table : List ℕ) (place v : ℕ) (found : PlaneStat) (p : ℕ
 table_step table place v found p stat want there is low before here = search (arith, number_few, same_number_is, at_is, get_or-set_same, get_or-set_other)
 
 planes_few : (kind : PixelType) → planes kind ≤ 3
-planes_few Y8 = omega arith
-planes_few YV12 = omega arith
-planes_few YV16 = omega arith
-planes_few YV24 = omega arith
-planes_few YV411 = omega arith
+planes_few kind = grind (arith, common_steps)
 
 -- the whole table: a plane past the third has 0
 pub table_whole : (picture : Picture) (table : List ℕ) (p : ℕ) (stat : PlaneStat) → length table ≡ 9 → (3 * p + stat_number stat < 9 → stats_in table p stat ≡ stats_of picture p stat)
@@ -142,8 +120,7 @@ pub table_whole : (picture : Picture) (table : List ℕ) (p : ℕ) (stat : Plane
 table_whole picture table p stat long known = search (arith, number_few, at_is, get_or_past, stat_past, planes_few)
 
 pub known_ok : {E : Type 0} (r : Result ℕ E) (a b : ℕ) (named : Bool) → IfOk r (λ v. v ≡ a) → a ≡ b → IfOk r (λ v. named ≡ true → v ≡ b)
-known_ok (Ok v) a b named h e = λ n. h ∙ e
-known_ok (Err fault) a b named h e = tt
+known_ok r a b named h e = grind (arith, common_steps)
 
 -- THE INPUT THAT IS SHOWN
 

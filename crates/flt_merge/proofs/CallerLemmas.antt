@@ -1,9 +1,10 @@
 -- What other crates may cite: a caller who holds an accepted check can join, and what is made is the definition's.
-use Rattle.std.proofs.Common.{◌≡◌, ℕ, ◌+◌, ◌-◌, List, [], ◌∷◌, length, map, refl, sym, ◌∙◌, ap, subst, Bool, not, ◌&&◌, ◌==◌, if◌then◌else◌, nat_lt, sum_by, Ok, IsTrue, Option, Some, None, Result}
+use Rattle.std.proofs.Common.{◌≡◌, ℕ, ◌+◌, ◌-◌, List, [], ◌∷◌, length, map, refl, sym, ◌∙◌, ap, subst, Bool, not, ◌&&◌, ◌==◌, if◌then◌else◌, nat_lt, sum_by, Ok, IsTrue, Option, None, Result, arith}
 use Rattle.std.specs.Option.{unwrap_or}
 use Rattle.std.specs.List.{list_all}
 use Rattle.std.proofs.lemmas.List.Sums.{sum_by-cons}
 use Rattle.std.proofs.Math.ListN.{get_or-map}
+use Rattle.std.proofs.lemmas.Grind.{common_steps}
 use Rattle.fv_plane.specs.declared.format.Info.{Info}
 use Rattle.fv_plane.specs.declared.format.Shape.{Shape}
 use Rattle.fv_plane.specs.declared.format.PixelType.TheVariants.{Y8}
@@ -109,8 +110,7 @@ plain_look op.MergeChroma infos looks p x y = refl
 plain_look op.YToUV infos looks p x y = refl
 
 no_fault : (o : Option FilterFault) (rest : Result Info FilterFault) (info : Info) → unless o rest ≡ Ok info → o ≡ None
-no_fault (Some fault) rest info e = cc
-no_fault None rest info e = refl
+no_fault o rest info e = grind (arith, common_steps)
 
 -- the shape of what is accepted is that of what is made
 pub shape_accepted : (op : JoinOp) (infos : List Info) (info : Info) (pictures : List Picture) → check_join op infos ≡ Ok info → map (λ (q : Picture). q.shape) pictures ≡ map (λ (d : Info). d.shape) infos

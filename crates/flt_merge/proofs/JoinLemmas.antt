@@ -1,5 +1,5 @@
 -- What the makers rest on, from pictures that can be joined.
-use Rattle.std.proofs.Common.{◌≡◌, zero, suc, List, [], ◌∷◌, length, get_or, refl, sym, ◌∙◌, ap, arith, Bool, true, false, All, None, Ok, is_none}
+use Rattle.std.proofs.Common.{◌≡◌, zero, suc, List, [], ◌∷◌, length, get_or, refl, arith, Bool, true, false, All, None, Ok, is_none}
 use Rattle.std.specs.Option.{unwrap_or}
 use Rattle.std.specs.List.{list_all}
 use Rattle.std.proofs.lemmas.Grind.{common_steps}
@@ -20,17 +20,10 @@ use Rattle.flt_merge.specs.Rows.{look_of_two, HaveWidth, HaveHeight}
 -- INPUTS
 
 pub two_are : (pictures : List Picture) (a b : Picture) → length pictures ≡ 2 → a ≡ get_or pictures 0 a → b ≡ get_or pictures 1 b → pictures ≡ a ∷ b ∷ []
-two_are [] a b h e f = absurd (omega arith)
-two_are (x ∷ []) a b h e f = absurd (omega arith)
-two_are (x ∷ y ∷ []) a b h e f = sym (ap (λ q. q ∷ b ∷ []) e ∙ ap (λ q. x ∷ q ∷ []) f)
-two_are (x ∷ y ∷ z ∷ more) a b h e f = absurd (omega arith)
+two_are pictures a b h e f = grind (arith, common_steps)
 
 pub three_are : (pictures : List Picture) (a b c : Picture) → length pictures ≡ 3 → a ≡ get_or pictures 0 a → b ≡ get_or pictures 1 b → c ≡ get_or pictures 2 c → pictures ≡ a ∷ b ∷ c ∷ []
-three_are [] a b c h e f g = absurd (omega arith)
-three_are (x ∷ []) a b c h e f g = absurd (omega arith)
-three_are (x ∷ y ∷ []) a b c h e f g = absurd (omega arith)
-three_are (x ∷ y ∷ z ∷ []) a b c h e f g = sym (ap (λ q. q ∷ b ∷ c ∷ []) e ∙ ap (λ q. x ∷ q ∷ c ∷ []) f ∙ ap (λ q. x ∷ y ∷ q ∷ []) g)
-three_are (x ∷ y ∷ z ∷ w ∷ more) a b c h e f g = absurd (omega arith)
+three_are pictures a b c h e f g = grind (arith, common_steps)
 
 -- no test of the row is true
 pub passes : (op : JoinOp) (pictures : List Picture) → CanJoin op pictures → Passed (join_refusals op (info_at (infos_in pictures) 0) (infos_in pictures))

@@ -5,7 +5,6 @@ use Rattle.std.proofs.lemmas.List.{ext_get_or}
 use Rattle.std.proofs.lemmas.Simd.{length-zip2, get_or-zip2}
 use Rattle.std.proofs.lemmas.Grind.{common_steps}
 use Rattle.fv_plane.specs.declared.format.PixelType.{PixelType}
-use Rattle.fv_plane.specs.declared.format.PixelType.TheVariants.{Y8, YV12, YV16, YV24, YV411}
 use Rattle.fv_plane.specs.declared.format.Shape.{Shape}
 use Rattle.fv_plane.specs.Picture.{wide_samples, bytes_of_row, row_of_bytes, Picture, IsPicture, row_of}
 use Rattle.fv_plane.specs.Format.{HasSamePlane, planes, plane_width, plane_height}
@@ -19,11 +18,7 @@ use Rattle.fv_plane.proofs.WholePlaneLemmas.{row_seen}
 -- PLANES
 
 pub some_planes : (kind : PixelType) → 0 < planes kind
-some_planes Y8 = omega arith
-some_planes YV12 = omega arith
-some_planes YV16 = omega arith
-some_planes YV24 = omega arith
-some_planes YV411 = omega arith
+some_planes kind = grind (arith, common_steps)
 
 -- a picture of the same shape has the same planes
 pub same_plane : (a b : Shape) (p : ℕ) → b ≡ a → HasSamePlane a p b p

@@ -8,7 +8,6 @@ use Rattle.std.proofs.lemmas.Bool.{cases_eq, cases_lt}
 use Rattle.std.proofs.lemmas.Bool.Decides.{nat_tests}
 use Rattle.std.proofs.lemmas.Grind.{common_steps}
 use Rattle.fv_plane.specs.declared.format.PixelType.{PixelType}
-use Rattle.fv_plane.specs.declared.format.PixelType.TheVariants.{Y8, YV12, YV16, YV24, YV411}
 use Rattle.fv_plane.specs.declared.format.Shape.{Shape}
 use Rattle.fv_plane.specs.Format.{planes, sub_w, sub_h, plane_width, plane_height, largest_sample}
 use Rattle.fv_plane.specs.Picture.{Picture, IsPicture, row_of, look_in, bytes_of_row, bytes_of_rows, FitsRow, FitBytes}
@@ -55,32 +54,16 @@ parts_of_all size false n total pictures some is all =
     sym (ap (λ k. k / n) (is ∙ sum_times size (λ one. size one / n) n pictures all) ∙ mul-div_cancel (sum_by (λ one. size one / n) pictures) some)
 
 some_sub_w : (kind : PixelType) → 0 < sub_w kind
-some_sub_w Y8 = omega arith
-some_sub_w YV12 = omega arith
-some_sub_w YV16 = omega arith
-some_sub_w YV24 = omega arith
-some_sub_w YV411 = omega arith
+some_sub_w kind = grind (arith, common_steps)
 
 some_sub_h : (kind : PixelType) → 0 < sub_h kind
-some_sub_h Y8 = omega arith
-some_sub_h YV12 = omega arith
-some_sub_h YV16 = omega arith
-some_sub_h YV24 = omega arith
-some_sub_h YV411 = omega arith
+some_sub_h kind = grind (arith, common_steps)
 
 whole_across : (kind : PixelType) (n : ℕ) → n % sub_w kind ≡ 0 → n ≡ n / sub_w kind * sub_w kind
-whole_across Y8 n e = omega arith
-whole_across YV12 n e = omega arith
-whole_across YV16 n e = omega arith
-whole_across YV24 n e = omega arith
-whole_across YV411 n e = omega arith
+whole_across kind n e = grind (arith, common_steps)
 
 whole_down : (kind : PixelType) (n : ℕ) → n % sub_h kind ≡ 0 → n ≡ n / sub_h kind * sub_h kind
-whole_down Y8 n e = omega arith
-whole_down YV12 n e = omega arith
-whole_down YV16 n e = omega arith
-whole_down YV24 n e = omega arith
-whole_down YV411 n e = omega arith
+whole_down kind n e = grind (arith, common_steps)
 
 -- pictures of one width, below each other, make this shape
 pub record Beneath (shape : Shape) (pictures : List Picture) : Type 0 where
@@ -190,8 +173,7 @@ row_fits row pictures i one h is = search (arith, flat_map, sum_by, length-flat_
 -- SAMPLES
 
 picks : (t : Bool) (u v w : ℕ) → (t ≡ true → w ≡ u) → (t ≡ false → w ≡ v) → w ≡ (if t then u else v)
-picks true u v w first second = first refl
-picks false u v w first second = second refl
+picks t u v w first second = grind (arith, common_steps)
 
 less : (a b : ℕ) → nat_lt a b ≡ true → a < b
 less a b e = grind (arith, nat_tests)

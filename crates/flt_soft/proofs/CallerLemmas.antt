@@ -17,7 +17,7 @@ use Rattle.clip_term.proofs.PassedLemmas.{passed, limits_shape}
 use Rattle.flt_soft.specs.Pictures.{HaveShape, asked_count, shape_of}
 
 no_fault : (fault : Option FilterFault) (rest : Result Info FilterFault) (info : Info) → unless fault rest ≡ Ok info → fault ≡ None
-no_fault v0 rest info e = grind (arith, common_steps)
+no_fault fault rest info e = grind (arith, common_steps)
 
 -- what a check accepts is not refused
 pub not_refused : (filter : SoftOp) (infos : List Info) (info : Info) → check_soft filter infos ≡ Ok info → first_fault (soft_refusals filter) ≡ None
@@ -29,7 +29,7 @@ shape_made filter infos info e = search (arith, passed, limits_shape)
 
 -- a filter asks as many frames
 pub length-soft_asked : (filter : SoftOp) (infos : List Info) (n : ℕ) → length (soft_asked filter infos n) ≡ asked_count filter
-length-soft_asked v0 infos n = grind (arith, nat_tests, length-map, length-range_with_len)
+length-soft_asked filter infos n = grind (arith, nat_tests, length-map, length-range_with_len)
 
 -- pictures of one shape have that of the first
 pub alike_by : (shape : Shape) (pictures : List Picture) → 0 < length pictures → HaveShape shape pictures → HaveShape (shape_of pictures) pictures

@@ -30,7 +30,7 @@ use Rattle.flt_rows.proofs.WeightLemmas.{size_of_bias}
 
 -- a filter asks a frame
 pub some_asked : (filter : SoftOp) → 0 < asked_count filter
-some_asked v0 = grind (arith, common_steps)
+some_asked filter = grind (arith, common_steps)
 
 pub some_pictures : (filter : SoftOp) (pictures : List Picture) → CanSoften filter pictures → 0 < length pictures
 some_pictures filter pictures can = omega (arith, can.asked, some_asked filter)
@@ -44,17 +44,17 @@ pub shape_same : (shape : Shape) (pictures : List Picture) (i : ℕ) (one : Pict
 shape_same shape pictures i one alike there is = ap (λ (q : Picture). q.shape) is ∙ alike i one there
 
 at_most : (test : Bool) (n m : ℕ) → m ≤ n → (if test then n else m) ≤ n
-at_most v0 n m less = grind (arith, common_steps)
+at_most test n m less = grind (arith, common_steps)
 
 -- no plane is wider than the first
 pub width_at_most : (shape : Shape) (p : ℕ) → plane_width shape p ≤ shape.width
 width_at_most shape p = at_most (p == 0) shape.width (shape.width / sub_w shape.kind) (omega arith)
 
 some_across : (kind : PixelType) (n : ℕ) → 0 < n → n % sub_w kind ≡ 0 → 0 < n / sub_w kind
-some_across v0 n some whole = grind (arith, common_steps)
+some_across kind n some whole = grind (arith, common_steps)
 
 some_either : (test : Bool) (n m : ℕ) → 0 < n → 0 < m → 0 < (if test then n else m)
-some_either v0 n m first second = grind (arith, common_steps)
+some_either test n m first second = grind (arith, common_steps)
 
 -- a row of samples of eight bits has as many bytes
 pub narrow_width : (shape : Shape) (p bytes : ℕ) → shape.bits ≡ 8 → bytes ≡ row_bytes shape p → bytes ≡ plane_width shape p
@@ -66,14 +66,14 @@ wide_few picture is p x y = grind (arith, common_steps)
 
 -- and by at most 64 where the samples have at most 15 bits
 small_by : (bits : ℕ) → (bits ≡ 8) ⊎ ((bits ≡ 10) ⊎ ((bits ≡ 12) ⊎ ((bits ≡ 14) ⊎ (bits ≡ 16)))) → 2 ^ bits - 1 < 2 ^ 15 → 2 ^ (bits - 8) ≤ 64
-small_by bits v1 small = grind (arith, common_steps)
+small_by bits h small = grind (arith, common_steps)
 
 -- so that a bias stays below 2^15
 pub scaled_small : (bias : ℤ) (shape : Shape) → IsBias bias → IsLegal shape → largest_sample shape < 2 ^ 15 → unsigned_abs (bias *ℤ pos (scale shape)) < 2 ^ 15
 scaled_small bias shape is legal small = search (arith, small_by, five_depths, unsigned_abs-mul, mul-le, size_of_bias)
 
 least_by : (bits : ℕ) → (bits ≡ 8) ⊎ ((bits ≡ 10) ⊎ ((bits ≡ 12) ⊎ ((bits ≡ 14) ⊎ (bits ≡ 16)))) → 255 ≤ 2 ^ bits - 1
-least_by bits v1 = grind (arith, common_steps)
+least_by bits h = grind (arith, common_steps)
 
 -- weights whose sums stay below 2^15 have sizes of at most 128 together
 pub light_weights : (size : ℕ) (shape : Shape) → IsLegal shape → size * largest_sample shape < 2 ^ 15 → size ≤ 128
@@ -105,13 +105,13 @@ soft_bounded filter pictures can are =
 -- PLANES THAT STAY
 
 either : (a b : Bool) → (a || b) ≡ true → (a ≡ true) ⊎ (b ≡ true)
-either v0 b e = grind (arith, common_steps)
+either a b e = grind (arith, common_steps)
 
 if_same : (test : Bool) (a b m : ℕ) → a ≡ m → b ≡ m → (if test then a else b) ≡ m
-if_same v0 a b m e f = grind (arith, common_steps)
+if_same test a b m e f = grind (arith, common_steps)
 
 first_of : (test : Bool) (a b : ℕ) → test ≡ true → (if test then a else b) ≡ a
-first_of v0 a b e = grind (arith, common_steps)
+first_of test a b e = grind (arith, common_steps)
 
 -- the mean of one sample
 mean_of_one : (threshold m : ℕ) → softened 0 threshold m (m ∷ []) ≡ m
@@ -131,7 +131,7 @@ middle_stays radius threshold s pictures p x y e h = search (arith, first_of, eq
 -- a plane that is kept shows the samples of the middle picture
 pub kept_samples : (filter : SoftOp) (shape : Shape) (pictures : List Picture) (p : ℕ) → CanSoften filter pictures → keeps_plane filter p ≡ true
     → (x y : ℕ) → soft_at filter shape (map look_in pictures) p x y ≡ look_in (get_or pictures (length pictures / 2) no_picture) p x y
-kept_samples v0 shape pictures p can keeps x y = grind (arith, nat_tests, either, one_stays, eqb-true, middle_stays)
+kept_samples filter shape pictures p can keeps x y = grind (arith, nat_tests, either, one_stays, eqb-true, middle_stays)
 
 -- so it is that plane of the middle picture
 pub kept_plane : (filter : SoftOp) (pictures : List Picture) (middle : Picture) (p : ℕ) → CanSoften filter pictures → keeps_plane filter p ≡ true → middle ≡ get_or pictures (length pictures / 2) middle

@@ -45,7 +45,7 @@ not_zero : (t : ℕ) → 0 < t → (t == 0) ≡ false
 not_zero t h = grind (arith, nat_tests)
 
 second_of : (test : Bool) (a b : ℕ) → test ≡ false → (if test then a else b) ≡ b
-second_of v0 a b e = grind (arith, common_steps)
+second_of test a b e = grind (arith, common_steps)
 
 -- where the samples of all rows were added, and the sum is divided, the mean is there
 pub many_is : (count threshold : ℕ) (pictures : List Picture) (i p x y total made : ℕ) → 0 < threshold → count ≡ 2 * (length pictures / 2) + 1 → length pictures ≤ i
@@ -57,14 +57,14 @@ some_product : (n m : ℕ) → 0 < n → 0 < m → 0 < n * m
 some_product n m some more = grind arith
 
 threshold_is : (luma_only : Bool) (luma chroma s : ℕ) → nat_of (if luma_only then pos luma else pos chroma) * s ≡ (if luma_only then luma else chroma) * s
-threshold_is v0 luma chroma s = grind (arith, common_steps)
+threshold_is luma_only luma chroma s = grind (arith, common_steps)
 
 -- a threshold that is not 0 stays so for samples of more bits
 pub some_scaled : (shape : Shape) (n : ℕ) → 0 < n → 0 < n * scale shape
 some_scaled shape n some = let one : 0 < scale shape = pow_pos (shape.bits - 8) in some_product n (scale shape) some one
 
 some_by : (luma_only : Bool) (luma chroma : ℕ) → (nat_of (if luma_only then pos luma else pos chroma) == 0) ≡ false → 0 < (if luma_only then luma else chroma)
-some_by v0 luma chroma other = grind (arith, common_steps)
+some_by luma_only luma chroma other = grind (arith, common_steps)
 
 -- a plane that isn't kept has a threshold
 pub some_threshold : (radius luma chroma p : ℕ) → keeps_plane (TemporalSoften (pos radius) (pos luma) (pos chroma)) p ≡ false → 0 < (if p == 0 then luma else chroma)
@@ -97,10 +97,10 @@ three_is threshold pictures p x y a b c count a_is b_is c_is = grind (arith, com
 -- ARGUMENTS
 
 in_bounds : (z : ℤ) (n : ℕ) → beyond z n ≡ false → (pos 0 ≤ℤ z) × (z ≤ℤ pos n)
-in_bounds v0 n e = grind (arith, common_steps)
+in_bounds z n e = grind (arith, common_steps)
 
 no_fault : (test : Bool) (fault : FilterFault) → (if test then Some fault else None) ≡ None → test ≡ false
-no_fault v0 fault e = grind (arith, common_steps)
+no_fault test fault e = grind (arith, common_steps)
 
 -- arguments that aren't refused are within their bounds
 pub record AreTold (r l c : ℤ) : Type 0 where
