@@ -1,10 +1,11 @@
 -- A block of 16 rows of 16 samples, transposed by four steps.
 use Rattle.std.proofs.Common.{◌≡◌, ◌∙◌, ℕ, ◌+◌, ◌*◌, ◌-◌, ◌/◌, ◌%◌, ◌<◌, ◌≤◌, List, [], ◌∷◌, ◌++◌, length, take, drop, get_or, get_or-take, length-append, length-take-le, length-drop, ap, sym, refl, arith, ⊎_elim}
 use Rattle.std.proofs.lemmas.Bool.{cases_lt}
-use Rattle.std.proofs.lemmas.List.{get_or_append_left, get_or-append_right, get_or-drop, take_all}
+use Rattle.std.proofs.lemmas.List.{get_or_append_left, get_or-append_right, take_all}
 use Rattle.std.proofs.lemmas.Nat.{mul-le}
 use Rattle.std.proofs.lemmas.Simd.{put_chunk_whole}
 use Rattle.std.proofs.Math.Nat.{suc-mul}
+use Rattle.std.proofs.lemmas.Grind.{common_steps}
 use borrow.Author.Count.{below_none, below_more}
 use borrow.Rule.Slice.PartMut.{put_mid}
 use lib.Lanes.{put_chunk}
@@ -151,24 +152,16 @@ module _ (a k : ℕ) (xs ys : List ℕ) (long : length ys ≡ k) (fits : a + k �
       omega (arith, length-append (take a xs) (ys ++ drop k (drop a xs)), length-append ys (drop k (drop a xs)), length-take-le a xs (omega arith), length-drop k (drop a xs), length-drop a xs)
 
   pub written_before : (n : ℕ) → n < a → get_or (put_mid a k xs ys) n 0 ≡ get_or xs n 0
-  written_before n before =
-      get_or_append_left (take a xs) (ys ++ drop k (drop a xs)) 0 n (omega (arith, length-take-le a xs (omega arith))) ∙ get_or-take a xs n 0 before
+  written_before n before = grind (arith, common_steps)
 
   after_taken : (n j : ℕ) → n ≡ a + j → get_or (put_mid a k xs ys) n 0 ≡ get_or (ys ++ drop k (drop a xs)) j 0
-  after_taken n j place =
-      let at : n - a ≡ j = omega arith in
-      get_or-append_right (take a xs) (ys ++ drop k (drop a xs)) a n 0 (length-take-le a xs (omega arith)) (omega arith) ∙ ap (λ m. get_or (ys ++ drop k (drop a xs)) m 0) at
+  after_taken n j place = search (arith, get_or-append_right, length-take-le)
 
   pub written_at : (n j : ℕ) → n ≡ a + j → j < k → get_or (put_mid a k xs ys) n 0 ≡ get_or ys j 0
   written_at n j place inside = after_taken n j place ∙ get_or_append_left ys (drop k (drop a xs)) 0 j (omega arith)
 
   pub written_past : (n : ℕ) → a + k ≤ n → get_or (put_mid a k xs ys) n 0 ≡ get_or xs n 0
-  written_past n past =
-      let at : k + (n - a - k) ≡ n - a = omega arith in
-      let of : a + (n - a) ≡ n = omega arith in
-      after_taken n (n - a) (omega arith)
-      ∙ get_or-append_right ys (drop k (drop a xs)) k (n - a) 0 long (omega arith)
-      ∙ get_or-drop k (drop a xs) (n - a - k) 0 ∙ ap (λ m. get_or (drop a xs) m 0) at ∙ get_or-drop a xs (n - a) 0 ∙ ap (λ m. get_or xs m 0) of
+  written_past n past = grind (arith, common_steps)
 
 -- 16 more samples of a half of a block, each of which goes to its spot of two
 pub woven_more : (out part : List ℕ) (want spot : ℕ → ℕ) (k a n : ℕ) → length out ≡ 256 → k < 8 → a ≡ 32 * k → n ≡ 32 → length part ≡ n
@@ -189,12 +182,7 @@ pub block_more : (block part : List ℕ) (want : ℕ → ℕ → ℕ) (i a k : �
     → ((n : ℕ) → n < 16 → get_or part n 0 ≡ want n i)
     → ((n j : ℕ) → n < 16 → j < i → get_or block (16 * j + n) 0 ≡ want n j)
     → (n j : ℕ) → n < 16 → j < i + 1 → get_or (put_mid a k block part) (16 * j + n) 0 ≡ want n j
-block_more block part want i a k size below at whole long here before n j less there = ⊎_elim
-    (λ (l : j < i). written_before a k block part long (omega arith) (16 * j + n) (omega arith) ∙ before n j less l)
-    (λ (l : i ≤ j).
-    let same : j ≡ i = omega arith in
-    written_at a k block part long (omega arith) (16 * j + n) n (omega arith) (omega arith) ∙ here n less ∙ ap (want n) (sym same))
-    (cases_lt j i)
+block_more block part want i a k size below at whole long here before n j less there = grind (arith, common_steps)
 
 -- 16 more samples of one of the rows that lie side by side
 pub place_fits : (count h x k a n size : ℕ) → k < count → x + 16 ≤ h → a ≡ k * h + x → n ≡ 16 → size ≡ count * h → a + n ≤ size

@@ -1,8 +1,7 @@
 -- The samples of bytes of which a part is written.
-use Rattle.std.proofs.Common.{◌≡◌, ◌∙◌, ℕ, zero, suc, ◌+◌, ◌-◌, ◌*◌, ◌<◌, ◌≤◌, ◌==◌, Bool, true, false, if◌then◌else◌, List, [], ◌∷◌, ◌++◌, length, take, drop, get_or, set, length-take-le, refl, ap, sym, arith, inl, inr}
+use Rattle.std.proofs.Common.{◌≡◌, ◌∙◌, ℕ, zero, suc, ◌+◌, ◌-◌, ◌*◌, ◌<◌, ◌≤◌, ◌==◌, Bool, true, false, if◌then◌else◌, List, [], ◌∷◌, ◌++◌, length, get_or, set, length-take-le, refl, ap, sym, arith, inl, inr}
 use Rattle.std.proofs.lemmas.Bool.{cases_lt}
-use Rattle.std.proofs.lemmas.Nat.{mul-le}
-use Rattle.std.proofs.Math.Nat.{add-mul}
+use Rattle.std.proofs.lemmas.Grind.{common_steps}
 use borrow.Rule.Slice.PartMut.{put_mid}
 use Rattle.fv_plane.specs.declared.format.Shape.{Shape}
 use Rattle.fv_plane.specs.Format.{plane_width, plane_height, row_bytes, sample_bytes}
@@ -10,7 +9,7 @@ use Rattle.fv_plane.specs.Picture.{Picture, sample_of, row_of_bytes, wide_sample
 use Rattle.fv_plane.proofs.BytesLemmas.{length-row_of_bytes, row_of_bytes-take, row_of_bytes-drop}
 use Rattle.fv_plane.proofs.CallerLemmas.{narrow_of_bytes, wide_of_bytes}
 use Rattle.fv_plane.proofs.WideLemmas.{wide_samples-append}
-use Rattle.flt_turn.proofs.BlockLemmas.{length_written, place_fits, row_done, row_left}
+use Rattle.flt_turn.proofs.BlockLemmas.{length_written, row_done, row_left}
 use Rattle.flt_turn.specs.Rows.{HasMoreAbove, HasColumns, size_of_rows, turned_at}
 use Rattle.flt_turn.proofs.TurnLemmas.{column_done, fits_in, samples_count, times_three, turn_step}
 
@@ -31,14 +30,7 @@ row_of_bytes-append shape n front rest long = append_by (shape.bits == 8) n fron
 -- where the bytes of whole samples are written, these samples are
 pub row_of_bytes-put : (shape : Shape) (a k : ℕ) (bytes part : List ℕ) → a * sample_bytes shape ≤ length bytes → length part ≡ k * sample_bytes shape
     → row_of_bytes shape (put_mid (a * sample_bytes shape) (k * sample_bytes shape) bytes part) ≡ put_mid a k (row_of_bytes shape bytes) (row_of_bytes shape part)
-row_of_bytes-put shape a k bytes part inside long =
-    let start : ℕ = a * sample_bytes shape in
-    let size : ℕ = k * sample_bytes shape in
-    let rest : List ℕ = drop size (drop start bytes) in
-    row_of_bytes-append shape a (take start bytes) (part ++ rest) (length-take-le start bytes inside)
-    ∙ ap (λ l. l ++ row_of_bytes shape (part ++ rest)) (row_of_bytes-take shape a bytes)
-    ∙ ap (λ l. take a (row_of_bytes shape bytes) ++ l) (row_of_bytes-append shape k part rest long
-    ∙ ap (λ l. row_of_bytes shape part ++ l) (row_of_bytes-drop shape k (drop start bytes) ∙ ap (drop k) (row_of_bytes-drop shape a bytes)))
+row_of_bytes-put shape a k bytes part inside long = search (arith, row_of_bytes-append, length-take-le, row_of_bytes-take, row_of_bytes-drop)
 
 -- where two bytes are written, one sample is
 wide_samples-set : (x low high : ℕ) (bytes : List ℕ) → 2 * x + 1 < length bytes → wide_samples (set (set bytes (2 * x) low) (2 * x + 1) high) ≡ set (wide_samples bytes) x (low + 256 * high)
@@ -55,9 +47,7 @@ wide_samples-set (suc x) low high (a ∷ b ∷ bytes) inside =
 
 pub wide-set : (shape : Shape) (x low high : ℕ) (bytes : List ℕ) → (shape.bits == 8) ≡ false → 2 * x + 1 < length bytes
     → row_of_bytes shape (set (set bytes (2 * x) low) (2 * x + 1) high) ≡ set (row_of_bytes shape bytes) x (low + 256 * high)
-wide-set shape x low high bytes wide inside =
-    wide_of_bytes shape (set (set bytes (2 * x) low) (2 * x + 1) high) wide ∙ wide_samples-set x low high bytes inside
-    ∙ ap (λ l. set l x (low + 256 * high)) (sym (wide_of_bytes shape bytes wide))
+wide-set shape x low high bytes wide inside = search (arith, wide_of_bytes, wide_samples-set)
 
 pub narrow-set : (shape : Shape) (x sample : ℕ) (bytes : List ℕ) → shape.bits ≡ 8 → row_of_bytes shape (set bytes x sample) ≡ set (row_of_bytes shape bytes) x sample
 narrow-set shape x sample bytes narrow = narrow_of_bytes shape (set bytes x sample) narrow ∙ ap (λ l. set l x sample) (sym (narrow_of_bytes shape bytes narrow))
@@ -67,14 +57,10 @@ pub one_byte : (shape : Shape) → shape.bits ≡ 8 → sample_bytes shape ≡ 1
 one_byte shape narrow = rw narrow refl
 
 pub narrow_place : (shape : Shape) (row high h x : ℕ) → sample_bytes shape ≡ 1 → high ≡ h → row * high + x ≡ (row * h + x) * sample_bytes shape
-narrow_place shape row high h x one same =
-    let place : row * h + x ≡ (row * h + x) * 1 = omega arith in
-    ap (λ n. row * n + x) same ∙ place ∙ ap (λ n. (row * h + x) * n) (sym one)
+narrow_place shape row high h x one same = grind (arith, common_steps)
 
 pub wide_place : (shape : Shape) (row high h x : ℕ) → sample_bytes shape ≡ 2 → high ≡ h → 2 * (row * high + x) ≡ (row * h + x) * sample_bytes shape
-wide_place shape row high h x two same =
-    let place : 2 * (row * h + x) ≡ (row * h + x) * 2 = omega arith in
-    ap (λ n. 2 * (row * n + x)) same ∙ place ∙ ap (λ n. (row * h + x) * n) (sym two)
+wide_place shape row high h x two same = grind (arith, common_steps)
 
 pub pair_inside : (shape : Shape) (count high h p size : ℕ) → sample_bytes shape ≡ 2 → high ≡ h → p < count * high → size ≡ count * (h * sample_bytes shape) → 2 * p + 1 < size
 pair_inside shape count high h p size two same inside is =
@@ -121,19 +107,12 @@ module _ (row column : ℕ → ℕ → ℕ) (input : Picture) (p y count x k : �
 
   -- all samples of the column are put
   pub column_made : count ≤ k → ColumnsMade row column input p y count (x + 1) out
-  column_made all = record {
-    long = begun.long;
-    before = column_done (row_of_bytes input.shape out) (λ j z. turned_at row column input p z (y + j)) count (plane_height input.shape p) x begun.before (λ j few. begun.here j (omega (arith, few, all)));
-  }
+  column_made all = search (arith, column_done)
 
 -- ---- 16 more samples of one of the rows that lie side by side
 
 pub part_fits : (shape : Shape) (count h x k a n size : ℕ) → size ≡ count * (h * sample_bytes shape) → k < count → x + 16 ≤ h → a ≡ (k * h + x) * sample_bytes shape → n ≡ 16 * sample_bytes shape → a + n ≤ size
-part_fits shape count h x k a n size is below right at whole =
-    let bytes : ℕ = sample_bytes shape in
-    let inside : k * h + x + 16 ≤ count * h = place_fits count h x k (k * h + x) 16 (count * h) below right refl refl refl in
-    let less : (k * h + x + 16) * bytes ≤ count * h * bytes = mul-le (k * h + x + 16) bytes (count * h) bytes inside (omega arith) in
-    omega (arith, less, add-mul (k * h + x) 16 bytes, times_three count h bytes)
+part_fits shape count h x k a n size is below right at whole = grind (arith, common_steps)
 
 module _ (shape : Shape) (out part : List ℕ) (want : ℕ → ℕ → ℕ) (count h x k a n : ℕ) (size : length out ≡ count * (h * sample_bytes shape)) (below : k < count) (right : x + 16 ≤ h)
     (at : a ≡ (k * h + x) * sample_bytes shape) (whole : n ≡ 16 * sample_bytes shape) (long : length part ≡ n) where

@@ -1,12 +1,12 @@
 -- Planes turned on their side.
-use Rattle.std.proofs.Common.{◌≡◌, ◌≢◌, ◌∙◌, ℕ, ◌+◌, ◌*◌, ◌/◌, ◌%◌, ◌<◌, ◌≤◌, None, refl, sym, ap, arith, List, [], ◌++◌, zero, suc, length, map, take, drop, get_or, set, length-take-le, length-drop, get_or-take, get_or-set_other, get_or-set_same, length-set, ⊎_elim, inl, inr}
+use Rattle.std.proofs.Common.{◌≡◌, ◌≢◌, ◌∙◌, ℕ, ◌+◌, ◌*◌, ◌/◌, ◌%◌, ◌<◌, ◌≤◌, None, refl, sym, ap, arith, List, [], ◌++◌, zero, suc, length, map, take, drop, get_or, set, get_or-take, get_or-set_other, get_or-set_same, length-set, ⊎_elim, inl, inr}
 use Rattle.std.proofs.lemmas.Nat.{div-mul-add, mod-mul-add, div_below}
 use Rattle.std.proofs.Math.Nat.{suc-mul, mul_comm, div-add-mod, mod-lt}
 use Rattle.std.proofs.Math.Seq.{take-append_seam}
 use Rattle.std.proofs.lemmas.List.{drop-drop, get_or-drop, get_or_past}
 use Rattle.std.proofs.lemmas.Bool.{cases_lt}
+use Rattle.std.proofs.lemmas.Grind.{common_steps}
 use Rattle.fv_plane.specs.declared.format.PixelType.{PixelType}
-use Rattle.fv_plane.specs.declared.format.PixelType.TheVariants.{Y8, YV12, YV16, YV24, YV411}
 use Rattle.fv_plane.specs.Format.{plane_width, plane_height, sample_bytes}
 use Rattle.fv_plane.specs.Picture.{row_of_bytes, rows_of_bytes, wide_bytes, Look, row_from}
 use Rattle.fv_plane.specs.declared.format.Shape.{Shape}
@@ -22,11 +22,7 @@ use Rattle.flt_turn.specs.Rows.{HasRows}
 -- a plane of a picture that may be turned is as wide afterwards as it was high
 pub turned_width : (kind : PixelType) (bits w h p : ℕ) → first_fault (space_refusals TurnLeft (record { kind = kind; bits = bits; width = w; height = h })) ≡ None
     → plane_width (record { kind = kind; bits = bits; width = h; height = w }) p ≡ plane_height (record { kind = kind; bits = bits; width = w; height = h }) p
-turned_width Y8 bits w h p told = refl
-turned_width YV12 bits w h p told = refl
-turned_width YV24 bits w h p told = refl
-turned_width YV16 bits w h p told = cc
-turned_width YV411 bits w h p told = cc
+turned_width kind bits w h p told = grind (arith, common_steps)
 
 -- ---- places of columns in rows that lie side by side
 
@@ -64,13 +60,7 @@ turn_step out want count h x y p v size long ly lx is inside value before here =
 -- and then column x is done
 pub column_done : (out : List ℕ) (want : ℕ → ℕ → ℕ) (count h x : ℕ) → ((b a : ℕ) → b < count → a < x → get_or out (b * h + a) 0 ≡ want b a) → ((b : ℕ) → b < count → get_or out (b * h + x) 0 ≡ want b x)
     → (b a : ℕ) → b < count → a < x + 1 → get_or out (b * h + a) 0 ≡ want b a
-column_done out want count h x before here b a few within =
-    ⊎_elim
-    (λ (l : a < x). before b a few l)
-    (λ (l : x ≤ a).
-    let same : a ≡ x = omega arith in
-    ap (λ z. get_or out (b * h + z) 0) same ∙ here b few ∙ ap (want b) (sym same))
-    (cases_lt a x)
+column_done out want count h x before here b a few within = grind (arith, common_steps)
 
 -- the whole of a vector is written
 pub whole_put : (new old : List ℕ) (n : ℕ) → length new ≡ n → take n (new ++ drop (length new) old) ≡ new
@@ -78,9 +68,7 @@ whole_put new old n long = ap (λ m. take m (new ++ drop (length new) old)) (sym
 
 -- a sample of a row's bytes
 pub wide_value : (samples bytes : List ℕ) (x : ℕ) → bytes ≡ wide_bytes samples → get_or bytes (2 * x) 0 + 256 * get_or bytes (2 * x + 1) 0 ≡ get_or samples x 0
-wide_value samples bytes x are =
-    let at = wide_bytes-at samples x in
-    rw are (omega (arith, at.0, at.1))
+wide_value samples bytes x are = search (arith, wide_bytes-at)
 
 -- a row of those that lie side by side
 part_at : (samples : List ℕ) (w n k : ℕ) → k < n → get_or (rows_of samples w w n) k [] ≡ take w (drop (k * w) samples)
@@ -97,10 +85,7 @@ fits_in w (suc n) (suc k) x less within =
     let below : k * w + x < n * w = fits_in w n k x (omega (arith, less)) within in omega (arith, below, suc-mul n w, suc-mul k w)
 
 row_length : (bytes : List ℕ) (w n k : ℕ) → length bytes ≡ n * w → k < n → length (take w (drop (k * w) bytes)) ≡ w
-row_length bytes zero n k long less = refl
-row_length bytes (suc w) n k long less =
-    let last : k * suc w + w < n * suc w = fits_in (suc w) n k w less (omega arith) in
-    length-take-le (suc w) (drop (k * suc w) bytes) (omega (arith, last, long, length-drop (k * suc w) bytes))
+row_length bytes w n k long less = grind (arith, common_steps)
 
 -- the rows that were made are those that are listed
 pub rows_are : (shape : Shape) (at : Look) (p plane y n h k : ℕ) (bytes samples : List ℕ) → plane_width shape plane ≡ h → row_of_bytes shape bytes ≡ samples → length samples ≡ n * h → HasRows at p y n h samples → k < n
