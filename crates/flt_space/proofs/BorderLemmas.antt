@@ -21,7 +21,7 @@ covered left right value row = padded left value (take (length row - right - lef
 
 between_by : (luma : Bool) (kind : PixelType) (w l r : ℕ)
     → (if luma then l else l / sub_w kind) + (if luma then w else w / sub_w kind) ≤ (if luma then w + l + r else (w + l + r) / sub_w kind)
-between_by v0 kind w l r = grind (arith, common_steps)
+between_by luma kind w l r = grind (arith, common_steps)
 
 -- borders leave room for the row
 pub fits_between : (shape : Shape) (p l r h : ℕ) → across shape p l + plane_width shape p ≤ plane_width (sized shape (shape.width + l + r) h) p
@@ -29,11 +29,11 @@ fits_between shape p l r h = between_by (p == 0) shape.kind shape.width l r
 
 across_by : (luma : Bool) (kind : PixelType) (w l r : ℕ) → l + r ≤ w
     → (if luma then l else l / sub_w kind) + (if luma then r else r / sub_w kind) ≤ (if luma then w else w / sub_w kind)
-across_by v0 kind w l r h = grind (arith, common_steps)
+across_by luma kind w l r h = grind (arith, common_steps)
 
 pad_by : (from within : Bool) (row : List ℕ) (before value width x : ℕ) → nat_le before x ≡ from → nat_lt x (before + length row) ≡ within → before + length row ≤ width → x < width
     → get_or (padded before value row width) x 0 ≡ (if from && within then get_or row (x - before) 0 else value)
-pad_by v0 within row before value width x e f room inside = grind (arith, common_steps)
+pad_by from within row before value width x e f room inside = grind (arith, common_steps)
 
 -- the row stands between the borders
 pub padded_at : (row : List ℕ) (before value width x : ℕ) → before + length row ≤ width → x < width
@@ -45,11 +45,11 @@ length-padded row before value width room = grind (arith, common_steps)
 
 -- in a row between the borders above and below, a column decides
 in_row : (column row : Bool) (a b : ℕ) → row ≡ true → (if column then a else b) ≡ (if column && row then a else b)
-in_row v0 row a b e = grind (arith, common_steps)
+in_row column row a b e = grind (arith, common_steps)
 
 -- another row has the colour
 out_of_row : (column row : Bool) (a b : ℕ) → row ≡ false → b ≡ (if column && row then a else b)
-out_of_row v0 row a b e = grind (arith, common_steps)
+out_of_row column row a b e = grind (arith, common_steps)
 
 -- what a test of a place between others says
 pub inside_of : (start end at : ℕ) → is_within start end at ≡ true → (start ≤ at) × (at < end)

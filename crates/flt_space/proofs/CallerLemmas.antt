@@ -10,7 +10,7 @@ use Rattle.clip_term.specs.Space.{space_refusals, space_shape, check_space}
 use Rattle.clip_term.proofs.PassedLemmas.{passed, limits_shape}
 
 no_fault : (fault : Option FilterFault) (rest : Result Info FilterFault) (info : Info) → unless fault rest ≡ Ok info → fault ≡ None
-no_fault v0 rest info e = grind (arith, common_steps)
+no_fault fault rest info e = grind (arith, common_steps)
 
 -- what a check accepts is not refused
 pub not_refused : (op : SpaceOp) (infos : List Info) (info : Info) → check_space op infos ≡ Ok info → first_fault (space_refusals op (info_at infos 0).shape) ≡ None

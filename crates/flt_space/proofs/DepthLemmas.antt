@@ -27,7 +27,7 @@ pub record IsDepth (bits : ℕ) : Type 0 where
   pub most : bits ≤ 16
 
 of_five : (bits : ℕ) → (bits ≡ 8) ⊎ ((bits ≡ 10) ⊎ ((bits ≡ 12) ⊎ ((bits ≡ 14) ⊎ (bits ≡ 16)))) → IsDepth bits
-of_five bits v1 = grind (arith, common_steps)
+of_five bits h = grind (arith, common_steps)
 
 pub depth_of : (shape : Shape) → IsLegal shape → IsDepth shape.bits
 depth_of shape legal = of_five shape.bits (five_depths shape.kind shape.bits legal.depth)

@@ -10,13 +10,13 @@ use Rattle.clip_term.proofs.SpaceFacts.{space_facts}
 use Rattle.flt_space.specs.Kept.{keeps_plane}
 
 pub first_of : {A : Type 0} (test : Bool) (a b : A) → test ≡ true → (if test then a else b) ≡ a
-first_of v0 a b e = grind (arith, common_steps)
+first_of test a b e = grind (arith, common_steps)
 
 pub second_of : {A : Type 0} (test : Bool) (a b : A) → test ≡ false → (if test then a else b) ≡ b
-second_of v0 a b e = grind (arith, common_steps)
+second_of test a b e = grind (arith, common_steps)
 
 pub negated : (test other : Bool) → not test ≡ not other → test ≡ other
-negated v0 v1 e = grind (arith, common_steps)
+negated test other e = grind (arith, common_steps)
 
 -- the size stays
 pub kept_shape : (filter : SpaceOp) (shape : Shape) (p : ℕ) → keeps_plane filter p ≡ true → space_shape filter shape ≡ shape

@@ -8,13 +8,13 @@ use Rattle.clip_term.specs.Space.{swapped}
 
 -- the other plane is there
 pub swapped_there : (kind : PixelType) (p : ℕ) → p < planes kind → swapped p < planes kind
-swapped_there v0 p h = grind (arith, common_steps)
+swapped_there kind p h = grind (arith, common_steps)
 
 same_among : (shape : Shape) (p : ℕ) → p < 3 → HasSamePlane shape p shape (swapped p)
-same_among shape v1 h = grind (arith, common_steps)
+same_among shape p h = grind (arith, common_steps)
 
 few : (kind : PixelType) (p : ℕ) → p < planes kind → p < 3
-few v0 p h = grind (arith, common_steps)
+few kind p h = grind (arith, common_steps)
 
 -- and has the same sizes
 pub swapped_same : (shape : Shape) (p : ℕ) → p < planes shape.kind → HasSamePlane shape p shape (swapped p)
