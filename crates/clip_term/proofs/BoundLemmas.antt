@@ -1,6 +1,7 @@
 -- Samples that are no greater than the largest one of a shape.
-use Rattle.std.proofs.Common.{ℕ, zero, suc, ◌*◌, ◌≤◌, List, [], ◌∷◌, arith, Bool, true, false}
+use Rattle.std.proofs.Common.{ℕ, zero, suc, ◌*◌, ◌≤◌, List, [], ◌∷◌, arith, Bool}
 use Rattle.std.specs.Prelude.{if◌then◌else◌}
+use Rattle.std.proofs.lemmas.Grind.{common_steps}
 use Rattle.fv_plane.specs.declared.format.Shape.{Shape}
 use Rattle.fv_plane.specs.Format.{IsLegal, largest_sample, scale}
 use Rattle.fv_plane.specs.Picture.{Look, look_at}
@@ -23,5 +24,4 @@ pub scaled : (shape : Shape) (n : ℕ) → IsLegal shape → n ≤ 255 → n * s
 scaled shape n legal h = plane.scaled shape n legal.depth h
 
 pub if_few : (t : Bool) (a b m : ℕ) → a ≤ m → b ≤ m → (if t then a else b) ≤ m
-if_few true a b m h g = h
-if_few false a b m h g = g
+if_few t a b m h g = grind (arith, common_steps)

@@ -1,6 +1,7 @@
 -- What each filter on fields owes to the laws.
 use Rattle.std.proofs.Common.{◌≡◌, ℕ, ◌+◌, ◌-◌, ◌*◌, ◌/◌, ◌%◌, ◌<◌, List, [], ◌∷◌, map, refl, arith, Bool, true, false}
 use Rattle.std.specs.Prelude.{if◌then◌else◌, ◌==◌, not}
+use Rattle.std.proofs.lemmas.Grind.{common_steps}
 use Rattle.fv_plane.specs.declared.format.Field.{Field}
 use Rattle.fv_plane.specs.declared.format.Info.{Info}
 use Rattle.fv_plane.specs.declared.format.Shape.{Shape}
@@ -38,20 +39,11 @@ pub record FieldFacts (row : FieldRow) : Type 0 where
 whole_of : (shape : Shape) → not (has_fields shape) ≡ false → shape.height % (2 * sub_h shape.kind) ≡ 0
 whole_of shape e = same_number (shape.height % (2 * sub_h shape.kind)) 0 (not_false (has_fields shape) e)
 
-odd_line : (b : Bool) {s : ℕ} → IsRatio s → (y h : ℕ) → h % (2 * s) ≡ 0 → y < (if b then h / 2 else h / 2 / s) → 2 * y + 1 < (if b then h else h / s)
-odd_line true same y h e i = omega arith
-odd_line true _ y h e i = omega arith
-odd_line false same y h e i = omega arith
-odd_line false _ y h e i = omega arith
-
 line_of_two : (b : Bool) {s : ℕ} → IsRatio s → (y h : ℕ) (c : Bool) → h % (2 * s) ≡ 0 → y < (if b then h / 2 else h / 2 / s) → 2 * y + (if c then 0 else 1) < (if b then h else h / s)
-line_of_two b is y h true e i = let more = odd_line b is y h e i in omega arith
-line_of_two b is y h false e i = odd_line b is y h e i
+line_of_two b is y h c e i = grind (arith, common_steps)
 
 pub half_line : (b : Bool) {s : ℕ} → IsRatio s → (y h : ℕ) → h % s ≡ 0 → y < (if b then 2 * h else 2 * h / s) → y / 2 < (if b then h else h / s)
-half_line true is y h e i = omega arith
-half_line false same y h e i = omega arith
-half_line false _ y h e i = omega arith
+half_line b is y h e i = grind (arith, common_steps)
 
 next_line : (b : Bool) {s : ℕ} → IsRatio s → (y h : ℕ) → y % 2 ≡ 0 → h % (2 * s) ≡ 0 → y < (if b then h else h / s) → y + 1 < (if b then h else h / s)
 next_line true same y h g e i = omega arith
@@ -60,8 +52,7 @@ next_line false same y h g e i = omega arith
 next_line false _ y h g e i = omega arith
 
 pub other_line : (b : Bool) {s : ℕ} → IsRatio s → (y h : ℕ) (t : Bool) → is_even y ≡ t → h % (2 * s) ≡ 0 → y < (if b then h else h / s) → (if t then y + 1 else y - 1) < (if b then h else h / s)
-other_line b is y h true f e i = next_line b is y h (same_number (y % 2) 0 f) e i
-other_line b is y h false f e i = omega arith
+other_line b is y h t f e i = grind (arith, common_steps)
 
 half_whole : {s : ℕ} → IsRatio s → (h : ℕ) → 0 < h → h % (2 * s) ≡ 0 → (0 < h / 2) × (h / 2 % s ≡ 0)
 half_whole same h g e = (omega arith, omega arith)

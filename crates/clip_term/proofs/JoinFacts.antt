@@ -1,12 +1,14 @@
 -- What each filter of the group Join owes to the laws.
-use Rattle.std.proofs.Common.{◌≡◌, ℕ, suc, ◌+◌, ◌-◌, ◌*◌, ◌/◌, ◌%◌, ◌<◌, ◌≤◌, List, [], ◌∷◌, length, refl, ap, sym, ◌∙◌, arith, Bool, true, false, cond}
-use Rattle.std.specs.Prelude.{not, ◌||◌, ◌==◌, nat_lt, if◌then◌else◌, Option, Some, None, is_none}
+use Rattle.std.proofs.Common.{◌≡◌, ℕ, suc, ◌+◌, ◌-◌, ◌*◌, ◌/◌, ◌%◌, ◌<◌, ◌≤◌, List, [], ◌∷◌, length, refl, ap, arith, Bool, true, false, cond}
+use Rattle.std.specs.Prelude.{not, ◌||◌, ◌==◌, nat_lt, if◌then◌else◌, Option, Some, is_none}
 use Rattle.std.specs.Option.{unwrap_or}
 use Rattle.std.specs.List.{list_all, find, fold, sum_by}
+use Rattle.std.proofs.lemmas.Bool.Decides.{nat_tests}
+use Rattle.std.proofs.lemmas.Grind.{common_steps}
 use Rattle.fv_plane.specs.declared.format.Info.{Info}
 use Rattle.fv_plane.specs.declared.format.Shape.{Shape}
 use Rattle.fv_plane.specs.declared.format.PixelType.{PixelType}
-use Rattle.fv_plane.specs.declared.format.PixelType.TheVariants.{Y8, YV12, YV16, YV24, YV411}
+use Rattle.fv_plane.specs.declared.format.PixelType.TheVariants.{Y8}
 use Rattle.fv_plane.specs.Format.{has_depth, planes, sub_w, sub_h, largest_sample, plane_width, plane_height}
 use Rattle.fv_plane.specs.Picture.{Look, look_at}
 use Rattle.fv_plane.proofs.LookLemmas.{Agree}
@@ -14,12 +16,12 @@ use Rattle.clip_term.specs.declared.filter.Filter.{Filter}
 use Rattle.clip_term.specs.declared.op.JoinOp.{JoinOp}
 use Rattle.clip_term.specs.declared.op.JoinOp.TheVariants as op
 use Rattle.clip_term.specs.Refusals.{info_at, same_format, same_size, disagreements}
-use Rattle.clip_term.specs.Join.{JoinRow, join_row, beside, beneath, has_sizes, kind_of, luma_source}
+use Rattle.clip_term.specs.Join.{JoinRow, join_row, beside, beneath, kind_of, luma_source}
 use Rattle.clip_term.specs.Terms.{AreLawful}
 use Rattle.clip_term.proofs.BoundLemmas.{IsBounded, AllBounded, none, more, bounded_at, if_few}
 use Rattle.clip_term.proofs.LimitLemmas.{IsSized, sized_of}
 use Rattle.clip_term.proofs.PartLemmas.{IsRatio, across_ratio, down_ratio, whole_sum, multiple, some_planes}
-use Rattle.clip_term.proofs.PassedLemmas.{each, below_of, first_of, first_of_many, Passed, agreed, or_false, both, not_false, if_same, all_at, same_format_is, same_number}
+use Rattle.clip_term.proofs.PassedLemmas.{each, below_of, first_of, first_of_many, Passed, agreed, not_false, if_same, all_at, same_format_is, same_number}
 use Rattle.clip_term.proofs.SeenLemmas.{Agrees, EachSeen, no_more, one_more, each_at, each_like, agree_at}
 
 -- What a row owes: it takes a clip; what it makes inside its picture needs the inputs only inside theirs; its size is that of a
@@ -78,13 +80,8 @@ sum_whole : {k : ℕ} → IsRatio k → (f : Info → ℕ) (ds : List Info) (a :
 sum_whole is f [] a e whole = e
 sum_whole is f (d ∷ ds) a e whole = sum_whole is f ds (a + f d) (whole_sum is a (f d) e (whole 0 (omega arith))) (λ i h. whole (suc i) (omega arith))
 
-no_less : (f : Info → ℕ) (ds : List Info) (a : ℕ) → a ≤ fold (λ n (d : Info). n + f d) a ds
-no_less f [] a = omega arith
-no_less f (d ∷ ds) a = let later = no_less f ds (a + f d) in omega arith
-
 some_sum : (f : Info → ℕ) (infos : List Info) → 0 < length infos → 0 < f (info_at infos 0) → 0 < sum_by f infos
-some_sum f [] h g = absurd (omega arith)
-some_sum f (d ∷ ds) h g = let later = no_less f ds (0 + f d) in omega arith
+some_sum f infos h g = grind (arith, common_steps)
 
 beside_few : (shape : Shape) (ds : List Info) {looks : List Look} → AllBounded shape looks → (p x y : ℕ) → beside ds looks p x y ≤ largest_sample shape
 beside_few shape [] all p x y = omega arith
@@ -99,16 +96,14 @@ beneath_few shape (d ∷ ds) (more first rest) p x y = if_few _ _ _ _ (first.at 
 -- YTOUV
 
 found_by : {X : Type 0} (test : X → Bool) (t : Bool) (x : X) (xs : List X) (k : X) → test x ≡ t → (find test xs ≡ Some k → test k ≡ true) → cond t (Some x) (find test xs) ≡ Some k → test k ≡ true
-found_by test true x xs k e later f = let g : x ≡ k = cc in ap test (sym g) ∙ e
-found_by test false x xs k e later f = later f
+found_by test t x xs k e later f = grind (arith, common_steps)
 
 pub found : {X : Type 0} (test : X → Bool) (xs : List X) (k : X) → find test xs ≡ Some k → test k ≡ true
 found test [] k e = cc
 found test (x ∷ xs) k e = found_by test (test x) x xs k refl (found test xs k) e
 
 pub some_kind : (o : Option PixelType) → is_none o ≡ false → o ≡ Some (unwrap_or o Y8)
-some_kind None e = cc
-some_kind (Some k) e = refl
+some_kind o e = grind (arith, common_steps)
 
 -- the sizes of y over u and v that are accepted
 record HasSizes (u v y : Shape) : Type 0 where
@@ -118,28 +113,17 @@ record HasSizes (u v y : Shape) : Type 0 where
   same_height : u.height ≡ v.height
 
 has_all : (u v y : Shape) → not (same_size u v) || is_none (kind_of u y) ≡ false → HasSizes u v y
-has_all u v y told =
-    let k = unwrap_or (kind_of u y) Y8 in
-    let tests = or_false (not (same_size u v)) (is_none (kind_of u y)) told in
-    let one = both (u.width == v.width) (u.height == v.height) (not_false (same_size u v) tests.0) in
-    let other = both (y.width == u.width * sub_w k) (y.height == u.height * sub_h k) (found (has_sizes u y) (YV24 ∷ YV16 ∷ YV12 ∷ YV411 ∷ []) k (some_kind (kind_of u y) tests.1)) in
-    record { width = same_number y.width (u.width * sub_w k) other.0; height = same_number y.height (u.height * sub_h k) other.1; same_width = same_number u.width v.width one.0; same_height = same_number u.height v.height one.1 }
+has_all u v y told = grind (arith, common_steps)
 
 by_chroma : (c : Bool) (ls ms : List Look) (x z : ℕ) → look_at ls 0 0 x z ≡ look_at ms 0 0 x z → look_at ls 1 0 x z ≡ look_at ms 1 0 x z
     → look_at ls (if c then 0 else 1) 0 x z ≡ look_at ms (if c then 0 else 1) 0 x z
-by_chroma true ls ms x z e f = e
-by_chroma false ls ms x z e f = f
+by_chroma c ls ms x z e f = grind (arith, common_steps)
 
 -- a place on luma of the result is one of y, a place on its chroma is one of u and of v
 picked : (b c : Bool) (ls ms : List Look) (u v y : Shape) (x z : ℕ) → HasSizes u v y → Agree u (look_at ls 0) (look_at ms 0) → Agree v (look_at ls 1) (look_at ms 1) → Agree y (look_at ls 2) (look_at ms 2)
     → x < (if b then y.width else y.width / sub_w (unwrap_or (kind_of u y) Y8)) → z < (if b then y.height else y.height / sub_h (unwrap_or (kind_of u y) Y8))
     → look_at ls (if b then 2 else if c then 0 else 1) 0 x z ≡ look_at ms (if b then 2 else if c then 0 else 1) 0 x z
-picked true c ls ms u v y x z sizes at_u at_v at_y h g = at_y.same 0 x z (record { plane = some_planes y.kind; across = h; down = g })
-picked false c ls ms u v y x z sizes at_u at_v at_y h g =
-    let wide = (multiple (across_ratio (unwrap_or (kind_of u y) Y8)) y.width u.width sizes.width).1 in
-    let high = (multiple (down_ratio (unwrap_or (kind_of u y) Y8)) y.height u.height sizes.height).1 in
-    by_chroma c ls ms x z (at_u.same 0 x z (record { plane = some_planes u.kind; across = rw wide at h; down = rw high at g }))
-    (at_v.same 0 x z (record { plane = some_planes v.kind; across = rw (wide, sizes.same_width) at h; down = rw (high, sizes.same_height) at g }))
+picked b c ls ms u v y x z sizes at_u at_v at_y h g = grind (arith, nat_tests, some_planes, multiple, across_ratio, down_ratio, by_chroma)
 
 -- EACH FILTER
 

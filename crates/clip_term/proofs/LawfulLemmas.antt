@@ -1,6 +1,6 @@
 -- What a check accepts is lawful, where the op is sound and its clips are lawful.
 use Rattle.std.proofs.Common.{◌≡◌, ℕ, length, arith, Ok, true, subst}
-use Rattle.std.specs.Prelude.{◌||◌, ◌==◌}
+use Rattle.std.proofs.lemmas.Grind.{common_steps}
 use Rattle.fv_plane.specs.declared.format.Info.{Info}
 use Rattle.fv_plane.specs.declared.format.Shape.{Shape}
 use Rattle.fv_plane.specs.Format.{has_depth}
@@ -12,14 +12,14 @@ use Rattle.clip_term.specs.Choice.{run_base, run_refusals}
 use Rattle.clip_term.specs.Terms.{source, plain, time, space, joined, soft, fields, choice, ChecksLawful}
 use Rattle.clip_term.specs.Time.{field_length, field_order, field_rate, field_refusals, field_shape, time_inputs, time_length, time_lists, time_rate, time_refusals}
 use Rattle.clip_term.specs.Join.{join_length, join_refusals, join_shape}
-use Rattle.clip_term.specs.Refusals.{info_at, is_whole, limits, rate_of, unless}
+use Rattle.clip_term.specs.Refusals.{info_at, limits, rate_of, unless}
 use Rattle.clip_term.specs.Soft.{soft_refusals}
 use Rattle.clip_term.specs.Space.{space_refusals, space_shape}
 use Rattle.clip_term.proofs.ChoiceFacts.{run_facts}
 use Rattle.clip_term.proofs.FieldFacts.{field_facts}
 use Rattle.clip_term.proofs.JoinFacts.{join_facts}
-use Rattle.clip_term.proofs.LimitLemmas.{IsSized, IsSome, limits_lawful, own, sized_of, some_number, whole_parts}
-use Rattle.clip_term.proofs.PassedLemmas.{Passed, both, not_false, or_false, passed}
+use Rattle.clip_term.proofs.LimitLemmas.{IsSized, IsSome, limits_lawful, own, sized_of}
+use Rattle.clip_term.proofs.PassedLemmas.{Passed, both, passed}
 use Rattle.clip_term.proofs.SpaceFacts.{space_facts}
 use Rattle.clip_term.proofs.TimeFacts.{time_facts}
 
@@ -32,15 +32,7 @@ made_lawful refusals c frames rate shape info par left e =
     limits_lawful c frames rate shape info told.1 par is.1.num is.1.den is.0
 
 plain_sized : (info : Info) → has_depth info.shape.kind info.shape.bits ≡ true → Passed (plain_refusals info) → IsSized info.shape × IsSome (rate_of info)
-plain_sized info depth told =
-    let shape = info.shape in
-    let dens = or_false (shape.width == 0 || shape.height == 0 || info.num == 0) (info.den == 0) told.0 in
-    let nums = or_false (shape.width == 0 || shape.height == 0) (info.num == 0) dens.0 in
-    let sides = or_false (shape.width == 0) (shape.height == 0) nums.0 in
-    let whole = whole_parts shape shape.width shape.height (not_false (is_whole shape shape.width shape.height) told.1.0) in (
-      record { depth = depth; some_width = some_number shape.width sides.0; some_height = some_number shape.height sides.1; whole_width = whole.0; whole_height = whole.1 },
-      record { num = some_number info.num nums.1; den = some_number info.den dens.1 },
-    )
+plain_sized info depth told = grind (arith, common_steps)
 
 pub checks_lawful : ChecksLawful
 checks_lawful (source name number told) infos info sound lawful e = let same : told ≡ info = cc in subst (λ (i : Info). IsLawful i) same sound.1

@@ -1,38 +1,25 @@
 -- A lawful clip passes every limit, and nothing of it changes; and what passes is lawful.
-use Rattle.std.proofs.Common.{◌≡◌, ℕ, ◌+◌, ◌*◌, ◌%◌, ◌<◌, ◌≤◌, Ok, true, false, refl, subst, arith}
+use Rattle.std.proofs.Common.{◌≡◌, ℕ, ◌+◌, ◌*◌, ◌%◌, ◌<◌, ◌≤◌, Ok, true, false, subst, arith}
 use Rattle.std.specs.Prelude.{ℤ, nat_lt, ◌==◌, ◌||◌}
 use Rattle.std.proofs.Math.Nat.{div-one}
 use Rattle.std.proofs.lemmas.Bool.Decides.{nat_tests}
 use Rattle.std.proofs.lemmas.Int.{ints}
+use Rattle.std.proofs.lemmas.Grind.{common_steps}
 use Rattle.fv_plane.specs.declared.format.TheConstants.Info.{MAX_FRAMES, MAX_RATE}
 use Rattle.fv_plane.specs.declared.format.TheConstants.Shape.{MAX_SIDE, MAX_BYTES}
 use Rattle.fv_plane.specs.declared.format.Info.{Info}
 use Rattle.fv_plane.specs.declared.format.Shape.{Shape}
 use Rattle.fv_plane.specs.Format.{has_depth, sub_w, sub_h, frame_bytes, IsLegal}
-use Rattle.fv_plane.specs.Info.{IsLawful, IsPar, Rate, gcd, lowest}
+use Rattle.fv_plane.specs.Info.{IsLawful, IsPar, Rate, lowest}
 use Rattle.fv_plane.proofs.GcdLemmas.{gcd_found, lowest_terms}
 use Rattle.clip_term.specs.Refusals.{rate_of, nat_of, below, limit_refusals, limits, is_whole}
-use Rattle.clip_term.proofs.PassedLemmas.{passed, or_false, both, same_number}
+use Rattle.clip_term.proofs.PassedLemmas.{passed, or_false}
 
 less_false : (a b : ℕ) → b < a + 1 → nat_lt a b ≡ false
 less_false a b few = grind (arith, nat_tests, few)
 
 pub lawful_passes : (c : Info) → IsLawful c → limits c c.frames (rate_of c) c.shape ≡ Ok c
-lawful_passes c is =
-    let g : gcd c.num c.den ≡ 1 = gcd_found c.num c.den 1 is.rate.lowest is.rate.some_num is.rate.some_den in
-    let some : c.frames == 0 ≡ false = (let more = is.some in grind (arith, nat_tests)) in
-    rw (
-      g,
-      div-one c.num,
-      div-one c.den,
-      some,
-      less_false MAX_FRAMES c.frames (omega (arith, is.most)),
-      less_false MAX_RATE c.num (omega (arith, is.rate.most_num)),
-      less_false MAX_RATE c.den (omega (arith, is.rate.most_den)),
-      less_false MAX_SIDE c.shape.width (omega (arith, is.shape.most_width)),
-      less_false MAX_SIDE c.shape.height (omega (arith, is.shape.most_height)),
-      less_false MAX_BYTES (frame_bytes c.shape) (omega (arith, is.shape.most_bytes)),
-    ) refl
+lawful_passes c is = search (arith, gcd_found, nat_tests, div-one, less_false)
 
 -- SIZES AND RATES
 
@@ -40,9 +27,7 @@ pub at_least_one : (z : ℤ) → below z 1 ≡ false → 0 < nat_of z
 at_least_one z e = grind (arith, ints, nat_tests)
 
 pub whole_parts : (shape : Shape) (w h : ℕ) → is_whole shape w h ≡ true → (w % sub_w shape.kind ≡ 0) × (h % sub_h shape.kind ≡ 0)
-whole_parts shape w h e =
-    let two = both ((w % sub_w shape.kind) == 0) ((h % sub_h shape.kind) == 0) e in
-    (same_number (w % sub_w shape.kind) 0 two.0, same_number (h % sub_h shape.kind) 0 two.1)
+whole_parts shape w h e = grind (arith, common_steps)
 
 pub record IsSome (rate : Rate) : Type 0 where
   pub num : 0 < rate.num

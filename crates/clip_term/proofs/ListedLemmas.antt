@@ -3,10 +3,10 @@ use Rattle.std.proofs.Common.{◌≡◌, ℕ, zero, suc, ◌+◌, ◌*◌, [], �
 use Rattle.std.specs.Prelude.{if◌then◌else◌, ◌==◌}
 use Rattle.std.specs.List.{range_with_len}
 use Rattle.std.proofs.lemmas.List.FromFn.{fill_by_all}
+use Rattle.std.proofs.lemmas.Bool.Decides.{nat_tests}
 use Rattle.fv_plane.specs.Format.{planes, scale, plane_width, plane_height}
 use Rattle.fv_plane.specs.declared.format.Colour.{Colour}
 use Rattle.fv_plane.specs.declared.format.PixelType.{PixelType}
-use Rattle.fv_plane.specs.declared.format.PixelType.TheVariants.{Y8}
 use Rattle.fv_plane.specs.declared.format.Shape.{Shape}
 use Rattle.fv_plane.specs.Picture.{Picture, IsPicture, row_of, blank, plain_plane, look_in, picture_from, plane_from, row_from}
 use Rattle.clip_term.specs.Blank.{colour_at}
@@ -44,8 +44,7 @@ three colour shape =
 blank_planes : (colour : Colour) (kind : PixelType) (shape : Shape)
     → map (λ p. plane_from (colour_at colour shape) p (plane_width shape p) (plane_height shape p)) (range_with_len 0 (planes kind))
     ≡ plain_plane shape 0 colour.y ∷ (if planes kind == 1 then [] else plain_plane shape 1 colour.u ∷ plain_plane shape 2 colour.v ∷ [])
-blank_planes colour Y8 shape = ap (λ l. l ∷ []) (luma colour shape)
-blank_planes colour _ shape = three colour shape
+blank_planes colour kind shape = grind (arith, nat_tests, luma, three)
 
 -- a frame of one colour is the listing of the colour
 pub blank_listed : (shape : Shape) (colour : Colour) → blank shape colour ≡ picture_from shape (colour_at colour shape)

@@ -1,6 +1,7 @@
 -- Sizes on planes: one on chroma is a part of one on luma.
-use Rattle.std.proofs.Common.{◌≡◌, ℕ, ◌+◌, ◌*◌, ◌/◌, ◌%◌, ◌<◌, ◌≤◌, arith, Bool, true, false}
+use Rattle.std.proofs.Common.{◌≡◌, ℕ, ◌+◌, ◌*◌, ◌/◌, ◌%◌, ◌<◌, ◌≤◌, arith, Bool}
 use Rattle.std.specs.Prelude.{if◌then◌else◌}
+use Rattle.std.proofs.lemmas.Grind.{common_steps}
 use Rattle.fv_plane.specs.declared.format.PixelType.{PixelType}
 use Rattle.fv_plane.specs.declared.format.PixelType.TheVariants.{Y8, YV12, YV16, YV24, YV411}
 use Rattle.fv_plane.specs.Format.{planes, sub_w, sub_h}
@@ -27,9 +28,7 @@ down_ratio YV411 = same
 
 -- an offset and a size that fit on luma fit on each plane
 pub part_fits : (b : Bool) {s : ℕ} → IsRatio s → (x l w W : ℕ) → x < (if b then w else w / s) → l + w ≤ W → x + (if b then l else l / s) < (if b then W else W / s)
-part_fits true is x l w W h g = omega arith
-part_fits false same x l w W h g = omega arith
-part_fits false _ x l w W h g = omega arith
+part_fits b is x l w W h g = grind (arith, common_steps)
 
 pub whole_sum : {s : ℕ} → IsRatio s → (a b : ℕ) → a % s ≡ 0 → b % s ≡ 0 → (a + b) % s ≡ 0
 whole_sum same a b e f = omega arith
@@ -46,5 +45,4 @@ multiple _ w u e = (omega arith, omega arith)
 
 -- a picture has luma
 pub some_planes : (k : PixelType) → 0 < planes k
-some_planes Y8 = omega arith
-some_planes _ = omega arith
+some_planes k = grind (arith, common_steps)

@@ -1,19 +1,18 @@
 -- What follows where a row refuses nothing.
-use Rattle.std.proofs.Common.{◌≡◌, ℕ, suc, ◌*◌, ◌<◌, List, [], ◌∷◌, length, refl, ap, arith, Result, Ok, Bool, true, false, Err}
+use Rattle.std.proofs.Common.{◌≡◌, ℕ, suc, ◌*◌, ◌<◌, List, [], ◌∷◌, length, refl, ap, arith, Result, Ok, Bool, true, false}
 use Rattle.std.specs.Prelude.{not, ◌==◌, nat_lt, nat_le, if◌then◌else◌}
 use Rattle.std.specs.List.{list_all}
 pub use Rattle.std.proofs.lemmas.Bool.{and_parts as both, or_parts as or_false}
 use Rattle.std.proofs.lemmas.Bool.Decides.{nat_tests}
 use Rattle.std.proofs.lemmas.List.Sums.{AllPass-from_list_all}
+use Rattle.std.proofs.lemmas.Grind.{common_steps}
 use Rattle.fv_plane.specs.declared.format.Info.{Info}
 use Rattle.fv_plane.specs.declared.format.Shape.{Shape}
-use Rattle.fv_plane.specs.declared.format.PixelType.{PixelType}
-use Rattle.fv_plane.specs.declared.format.PixelType.TheVariants.{Y8, YV12, YV16, YV24, YV411}
 use Rattle.clip_term.specs.declared.fault.FilterFault.{FilterFault}
 use Rattle.clip_term.specs.Terms.{with_first}
 use Rattle.fv_plane.specs.Refusals.{Refusals, first_fault}
 use Rattle.fv_plane.specs.Info.{Rate, lowest}
-use Rattle.clip_term.specs.Refusals.{limit_refusals, unless, limits, disagreements, info_at, no_info, same_kind, same_format, same_size}
+use Rattle.clip_term.specs.Refusals.{unless, limits, disagreements, info_at, no_info, same_format}
 
 -- no test is true
 abbrev pub Passed : Refusals FilterFault → Type 0
@@ -27,10 +26,7 @@ passed ((fault, false) ∷ more) rest info e = let later = passed more rest info
 
 pub limits_told : (c : Info) (frames : ℕ) (rate : Rate) (shape : Shape) (info : Info) → limits c frames rate shape ≡ Ok info
     → record c { frames = frames; num = (lowest rate).num; den = (lowest rate).den; shape = shape } ≡ info
-limits_told c frames rate shape info e =
-    let made = lowest rate in
-    let told = (passed (limit_refusals frames made shape) (Ok (record c { frames = frames; num = made.num; den = made.den; shape = shape })) info e).1 in
-    cc
+limits_told c frames rate shape info e = grind (arith, common_steps)
 
 pub limits_shape : (c : Info) (frames : ℕ) (rate : Rate) (shape : Shape) (info : Info) → limits c frames rate shape ≡ Ok info → shape ≡ info.shape
 limits_shape c frames rate shape info e = ap (λ (i : Info). i.shape) (limits_told c frames rate shape info e)
@@ -38,12 +34,10 @@ limits_shape c frames rate shape info e = ap (λ (i : Info). i.shape) (limits_to
 -- TESTS
 
 pub not_false : (a : Bool) → not a ≡ false → a ≡ true
-not_false true e = refl
-not_false false e = cc
+not_false a e = grind (arith, common_steps)
 
 pub if_same : {A : Type 0} (t : Bool) (u v w z : A) → (t ≡ true → u ≡ v) → w ≡ z → (if t then u else w) ≡ (if t then v else z)
-if_same true u v w z e f = e refl
-if_same false u v w z e f = f
+if_same t u v w z e f = grind (arith, common_steps)
 
 pub all_at : {X : Type 0} (test : X → Bool) (x : X) (xs : List X) → list_all test (x ∷ xs) ≡ true → (test x ≡ true) × (list_all test xs ≡ true)
 all_at test x xs e = both (test x) (list_all test xs) e
@@ -66,33 +60,16 @@ product a b h g = grind arith
 
 -- SHAPES
 
-pub same_kind_is : (a b : PixelType) → same_kind a b ≡ true → a ≡ b
-same_kind_is Y8 Y8 e = refl
-same_kind_is YV12 YV12 e = refl
-same_kind_is YV16 YV16 e = refl
-same_kind_is YV24 YV24 e = refl
-same_kind_is YV411 YV411 e = refl
-same_kind_is _ _ e = cc
-
 pub same_number : (a b : ℕ) → a == b ≡ true → a ≡ b
 same_number a b e = grind (arith, nat_tests)
 
 -- shapes of one format have one kind and as many bits
 pub same_format_is : (a b : Shape) → same_format a b ≡ true → (a.kind ≡ b.kind) × (a.bits ≡ b.bits)
-same_format_is a b e =
-    let two = both (same_kind a.kind b.kind) (a.bits == b.bits) e in
-    (same_kind_is a.kind b.kind two.0, same_number a.bits b.bits two.1)
-
-pub same_shape : (a b : Shape) → a.kind ≡ b.kind → a.bits ≡ b.bits → a.width ≡ b.width → a.height ≡ b.height → a ≡ b
-same_shape a b e d f g = let same : record { kind = a.kind; bits = a.bits; width = a.width; height = a.height } ≡ b = rw (e, d, f, g) refl in same
+same_format_is a b e = grind (arith, common_steps)
 
 -- clips that agree have the shape of the first
 pub agreed : (infos : List Info) → Passed (disagreements infos) → (i : ℕ) → i < length infos → (info_at infos i).shape ≡ (info_at infos 0).shape
-agreed infos told i h =
-    let shape = (info_at infos 0).shape in
-    let format = same_format_is (info_at infos i).shape shape (each (λ (d : Info). same_format d.shape shape) infos told.0 i h) in
-    let sides = both ((info_at infos i).shape.width == shape.width) ((info_at infos i).shape.height == shape.height) (each (λ (d : Info). same_size d.shape shape) infos told.1.0 i h) in
-    same_shape (info_at infos i).shape shape format.0 format.1 (same_number _ _ sides.0) (same_number _ _ sides.1)
+agreed infos told i h = grind (arith, common_steps)
 
 -- INPUTS
 
@@ -105,6 +82,4 @@ pub record Both (a : Result Info FilterFault) (b : Result (List Info) FilterFaul
   pub whole : first ∷ others ≡ infos
 
 pub both_ok : (a : Result Info FilterFault) (b : Result (List Info) FilterFault) (infos : List Info) → with_first a b ≡ Ok infos → Both a b infos
-both_ok (Ok i) (Ok is) infos e = record { first = i; others = is; first_is = refl; others_are = refl; whole = cc }
-both_ok (Ok i) (Err fault) infos e = cc
-both_ok (Err fault) b infos e = cc
+both_ok a b infos e = grind (arith, common_steps)

@@ -1,5 +1,6 @@
 -- The info of a sound clip is lawful.
-use Rattle.std.proofs.Common.{◌≡◌, ℕ, zero, suc, List, [], ◌∷◌, length, refl, ap, sym, arith, Result, Ok, Err, subst}
+use Rattle.std.proofs.Common.{◌≡◌, ℕ, List, [], ◌∷◌, length, refl, ap, sym, arith, Result, Ok, Err, subst}
+use Rattle.std.proofs.lemmas.Grind.{common_steps}
 use Rattle.fv_plane.specs.declared.format.Info.{Info}
 use Rattle.fv_plane.specs.Info.{IsLawful}
 use Rattle.clip_term.specs.declared.fault.FilterFault.{FilterFault}
@@ -25,8 +26,7 @@ none_lawful : (infos : List Info) → infos ≡ [] → AreLawful infos
 none_lawful infos e i h = absurd (let few = ap length e in omega arith)
 
 more_lawful : (first : Info) (others infos : List Info) → first ∷ others ≡ infos → IsLawful first → AreLawful others → AreLawful infos
-more_lawful first others infos e here later zero h = rw (← e) here
-more_lawful first others infos e here later (suc i) h = rw (← e) (later i (let long = ap length e in omega arith))
+more_lawful first others infos e here later g h = grind (arith, common_steps)
 
 mutual
   unfolding info_of infos_of IsSoundTerm AreSoundTerms

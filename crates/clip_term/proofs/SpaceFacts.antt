@@ -1,12 +1,13 @@
 -- What each filter of the group Space owes to the laws.
-use Rattle.std.proofs.Common.{◌≡◌, ℕ, ◌+◌, ◌-◌, ◌*◌, ◌/◌, ◌%◌, ◌^◌, ◌<◌, ◌≤◌, refl, ap, arith, Bool, true, false, subst}
-use Rattle.std.specs.Prelude.{ℤ, pos, ◌+ℤ◌, ◌-ℤ◌, int_lt, ◌&&◌, ◌||◌, not, min, if◌then◌else◌, ◌==◌, nat_le}
+use Rattle.std.proofs.Common.{◌≡◌, ℕ, ◌+◌, ◌-◌, ◌*◌, ◌/◌, ◌%◌, ◌^◌, ◌<◌, ◌≤◌, refl, ap, arith, Bool, true, false}
+use Rattle.std.specs.Prelude.{ℤ, ◌&&◌, ◌||◌, not, min, if◌then◌else◌, ◌==◌, nat_le}
 use Rattle.std.proofs.lemmas.Nat.{shl_below, pow_pos}
 use Rattle.std.proofs.lemmas.Bool.Decides.{nat_tests}
 use Rattle.std.proofs.lemmas.Int.{ints}
+use Rattle.std.proofs.lemmas.Grind.{common_steps}
 use Rattle.fv_plane.specs.declared.format.Shape.{Shape}
 use Rattle.fv_plane.specs.declared.format.PixelType.{PixelType}
-use Rattle.fv_plane.specs.declared.format.PixelType.TheVariants.{Y8, YV12, YV16, YV24, YV411}
+use Rattle.fv_plane.specs.declared.format.PixelType.TheVariants.{Y8, YV16, YV411}
 use Rattle.fv_plane.specs.Format.{IsLegal, planes, has_depth, sub_w, sub_h, largest_sample, scale, plane_width, plane_height}
 use Rattle.fv_plane.specs.Picture.{Look, across, down}
 use Rattle.fv_plane.proofs.LookLemmas.{Inside, Agree}
@@ -15,12 +16,12 @@ use Rattle.clip_term.specs.declared.fault.FilterFault.{FilterFault}
 use Rattle.clip_term.specs.declared.filter.Filter.{Filter}
 use Rattle.clip_term.specs.declared.op.SpaceOp.{SpaceOp}
 use Rattle.clip_term.specs.declared.op.SpaceOp.TheVariants as op
-use Rattle.clip_term.specs.Refusals.{nat_of, below, above, same_kind, sized, is_whole, part_of, paint}
-use Rattle.clip_term.specs.Space.{SpaceRow, space_row, size_from, is_no_part, cut_refusals, turn_refusals, is_within, is_among, bad_bounds, limited, converted, luma_of}
-use Rattle.clip_term.proofs.PassedLemmas.{Passed, or_false, both, not_false, if_same, same_number}
+use Rattle.clip_term.specs.Refusals.{nat_of, below, same_kind, sized, is_whole, part_of, paint}
+use Rattle.clip_term.specs.Space.{SpaceRow, space_row, size_from, cut_refusals, turn_refusals, is_within, is_among, bad_bounds, limited, converted, luma_of}
+use Rattle.clip_term.proofs.PassedLemmas.{Passed, or_false, both, not_false, if_same}
 use Rattle.clip_term.proofs.BoundLemmas.{IsBounded, scaled, if_few}
-use Rattle.clip_term.proofs.PartLemmas.{across_ratio, down_ratio, part_fits, whole_sum, whole_part, some_planes}
-use Rattle.clip_term.proofs.LimitLemmas.{IsSized, at_least_one, whole_parts}
+use Rattle.clip_term.proofs.PartLemmas.{across_ratio, down_ratio, part_fits, whole_sum, some_planes}
+use Rattle.clip_term.proofs.LimitLemmas.{IsSized, whole_parts}
 
 -- the size stays, and so do the samples of a plane
 pub record IsKept (row : SpaceRow) (shape : Shape) (p : ℕ) : Type 0 where
@@ -41,17 +42,9 @@ moved : {filter : Filter} {refusals : Shape → Refusals FilterFault} {size : Sh
     → ((shape : Shape) → Passed (refusals shape) → IsSized shape → IsSized (size shape))
     → ((shape : Shape) → largest_sample shape ≡ largest_sample (size shape))
     → SpaceFacts (record { filter = filter; refusals = refusals; shape = size; at = λ shape from p x y. from (plane shape p x y) (column shape p x y) (line shape p x y); keeps = λ p. false })
-moved inside sized bits = record {
-  local = λ shape a b told agree. record { same = λ p x y i. agree.same _ _ _ (inside shape p x y told i) };
-  sized = sized;
-  bounded = λ shape from told legal few. record { at = λ p x y. rw (← bits shape) (few.at _ _ _) };
-  kept = λ shape p e. cc;
-}
+moved inside sized bits = grind (arith, common_steps)
 
 -- CUTS: the signed sizes fit
-
-sizes_fit : (start size : ℤ) (whole : ℕ) → int_lt start (pos 0) ≡ false → int_lt size (pos 1) ≡ false → int_lt (pos whole) (start +ℤ size) ≡ false → nat_of start + nat_of size ≤ whole
-sizes_fit start size whole a b c = grind (arith, ints, nat_tests)
 
 -- a part that is cut lies inside the picture, and is the size of a clip
 record IsCut (shape : Shape) (left top width height : ℤ) : Type 0 where
@@ -59,20 +52,10 @@ record IsCut (shape : Shape) (left top width height : ℤ) : Type 0 where
   high : nat_of top + nat_of height ≤ shape.height
 
 cut_inside : (shape : Shape) (left top width height : ℤ) → below left 0 ≡ false → below top 0 ≡ false → Passed (cut_refusals shape left top width height) → IsCut shape left top width height
-cut_inside shape left top width height a b told =
-    let two = or_false (is_no_part shape.width left width) (is_no_part shape.height top height) told.0 in
-    let wide = or_false (below width 1) (above (left +ℤ width) shape.width) two.0 in
-    let high = or_false (below height 1) (above (top +ℤ height) shape.height) two.1 in
-    record { wide = sizes_fit left width shape.width a wide.0 wide.1; high = sizes_fit top height shape.height b high.0 high.1 }
+cut_inside shape left top width height a b told = grind (arith, common_steps)
 
 cut_sized : (shape : Shape) (left top width height : ℤ) → has_depth shape.kind shape.bits ≡ true → Passed (cut_refusals shape left top width height) → IsSized (sized shape (nat_of width) (nat_of height))
-cut_sized shape left top width height depth told =
-    let two = or_false (is_no_part shape.width left width) (is_no_part shape.height top height) told.0 in
-    let wide = or_false (below width 1) (above (left +ℤ width) shape.width) two.0 in
-    let high = or_false (below height 1) (above (top +ℤ height) shape.height) two.1 in
-    let whole = both (is_whole shape (nat_of left) (nat_of top)) (is_whole shape (nat_of width) (nat_of height)) (not_false _ told.1.0) in
-    let parts = whole_parts shape (nat_of width) (nat_of height) whole.1 in
-    record { depth = depth; some_width = at_least_one width wide.0; some_height = at_least_one height high.0; whole_width = parts.0; whole_height = parts.1 }
+cut_sized shape left top width height depth told = grind (arith, common_steps)
 
 crop : (left top width height : ℤ) → SpaceFacts (space_row (op.Crop left top width height))
 crop left top width height = moved
@@ -87,21 +70,8 @@ crop left top width height = moved
     (λ shape told fits. cut_sized shape left top (size_from left width shape.width) (size_from top height shape.height) fits.depth told.1)
     (λ shape. refl)
 
-cropped_height : (n : ℤ) (height : ℕ) → below n 0 ≡ false → below (pos height -ℤ n) 1 ≡ false → nat_of (pos height -ℤ n) ≡ height - nat_of n
-cropped_height n height e f = grind (arith, ints, nat_tests)
-
 crop_bottom : (n : ℤ) → SpaceFacts (space_row (op.CropBottom n))
-crop_bottom n = moved
-    (λ shape p x y told i.
-    let more = part_fits (p == 0) (down_ratio shape.kind) y 0 (shape.height - nat_of n) shape.height i.down (omega arith) in
-    record { plane = i.plane; across = i.across; down = omega arith })
-    (λ shape told fits.
-    let h = pos shape.height -ℤ n in
-    let two = or_false (is_no_part shape.width (pos 0) (pos shape.width)) (is_no_part shape.height (pos 0) h) told.1.0 in
-    let high = or_false (below h 1) (above (pos 0 +ℤ h) shape.height) two.1 in
-    subst (λ (m : ℕ). IsSized (sized shape shape.width m)) (cropped_height n shape.height told.0 high.0)
-    (cut_sized shape (pos 0) (pos 0) (pos shape.width) h fits.depth told.1))
-    (λ shape. refl)
+crop_bottom n = grind (arith, common_steps)
 
 -- BORDERS: a place inside them is one of the picture
 
@@ -148,66 +118,34 @@ add_borders left top right bottom color_yuv = record {
 -- TURNS: both sizes of a plane are parts alike
 
 square : (k : PixelType) → same_kind k YV16 || same_kind k YV411 ≡ false → sub_w k ≡ sub_h k
-square Y8 e = refl
-square YV12 e = refl
-square YV16 e = cc
-square YV24 e = refl
-square YV411 e = cc
+square k e = grind (arith, common_steps)
 
 turn_sized : (shape : Shape) → Passed (turn_refusals shape) → IsSized shape → IsSized (sized shape shape.height shape.width)
-turn_sized shape told fits =
-    let same = square shape.kind told.0 in
-    record { depth = fits.depth; some_width = fits.some_height; some_height = fits.some_width; whole_width = rw same fits.whole_height; whole_height = rw (← same) fits.whole_width }
+turn_sized shape told fits = grind (arith, common_steps)
 
 turn_inside : (shape : Shape) (p x y : ℕ) → Passed (turn_refusals shape) → Inside (sized shape shape.height shape.width) p x y → (y < plane_width shape p) × (x < plane_height shape p)
-turn_inside shape p x y told i =
-    let same = square shape.kind told.0 in
-    (rw same i.down, rw (← same) i.across)
+turn_inside shape p x y told i = grind (arith, common_steps)
 
 -- SWAPUV
 
 three_planes : (k : PixelType) → 1 < planes k → 2 < planes k
-three_planes Y8 h = absurd (omega arith)
-three_planes _ h = omega arith
+three_planes k h = grind (arith, common_steps)
 
 swap_by : (a b : Bool) (shape : Shape) (p x y : ℕ) → (p == 1) ≡ a → (p == 2) ≡ b → Inside shape p x y → Inside shape (if a then 2 else if b then 1 else p) x y
-swap_by true b shape p x y e f i =
-    let j = rw (same_number p 1 e) at i in
-    record { plane = three_planes shape.kind j.plane; across = j.across; down = j.down }
-swap_by false true shape p x y e f i =
-    let j = rw (same_number p 2 f) at i in
-    record { plane = (let h = j.plane in omega arith); across = j.across; down = j.down }
-swap_by false false shape p x y e f i = i
+swap_by a b shape p x y e f i = grind (arith, common_steps)
 
 -- PLANES AS PICTURES
 
 chroma_planes : (k : PixelType) → same_kind k Y8 ≡ false → 2 < planes k
-chroma_planes Y8 e = cc
-chroma_planes YV12 e = omega arith
-chroma_planes _ e = omega arith
+chroma_planes k e = grind (arith, common_steps)
 
 luma_inside : (shape : Shape) (q p x y : ℕ) → q < planes shape.kind → Inside (luma_of shape q) p x y → Inside shape q x y
-luma_inside shape q p x y h i =
-    let e : p ≡ 0 = (let g = i.plane in omega arith) in
-    let j = rw e at i in
-    record { plane = h; across = j.across; down = j.down }
-
--- luma alone may have the bits of each format
-luma_depth : (k : PixelType) (n : ℕ) → has_depth k n ≡ true → has_depth Y8 n ≡ true
-luma_depth YV411 n e = (let is = same_number n 8 e in rw is refl)
-luma_depth _ n e = e
+luma_inside shape q p x y h i = grind (arith, common_steps)
 
 -- and so has each plane the size of a clip
 luma_sized : (shape : Shape) (b : Bool) → IsSized shape
     → IsSized (record shape { kind = Y8; width = (if b then shape.width else shape.width / sub_w shape.kind); height = (if b then shape.height else shape.height / sub_h shape.kind) })
-luma_sized shape true fits = record { depth = luma_depth shape.kind shape.bits fits.depth; some_width = fits.some_width; some_height = fits.some_height; whole_width = omega arith; whole_height = omega arith }
-luma_sized shape false fits = record {
-  depth = luma_depth shape.kind shape.bits fits.depth;
-  some_width = whole_part (across_ratio shape.kind) shape.width fits.some_width fits.whole_width;
-  some_height = whole_part (down_ratio shape.kind) shape.height fits.some_height fits.whole_height;
-  whole_width = omega arith;
-  whole_height = omega arith;
-}
+luma_sized shape b fits = grind (arith, common_steps)
 
 -- LIMITER, CONVERTBITS
 
@@ -224,16 +162,14 @@ raised_few old new n e few =
 
 converted_by : (t : Bool) (old new n : ℕ) → nat_le old new ≡ t → n ≤ 2 ^ old - 1
     → (if t then n * 2 ^ (new - old) else min (2 ^ new - 1) ((n + 2 ^ (old - new - 1)) / 2 ^ (old - new))) ≤ 2 ^ new - 1
-converted_by true old new n e few = raised_few old new n e few
-converted_by false old new n e few = omega arith
+converted_by t old new n e few = grind (arith, nat_tests, raised_few)
 
 -- no sample of other bits is over the greatest one of these
 pub converted_few : (old new n : ℕ) → n ≤ 2 ^ old - 1 → converted old new n ≤ 2 ^ new - 1
 converted_few old new n few = converted_by (nat_le old new) old new n refl few
 
 second_of : (test : Bool) (a b : ℕ) → not test ≡ true → (if test then a else b) ≡ b
-second_of true a b e = cc
-second_of false a b e = refl
+second_of test a b e = grind (arith, common_steps)
 
 -- EACH FILTER
 

@@ -1,24 +1,23 @@
 -- Fields that are separated and woven again are the clip.
-use Rattle.std.proofs.Common.{◌≡◌, ℕ, zero, suc, ◌+◌, ◌-◌, ◌*◌, ◌/◌, ◌%◌, ◌<◌, [], ◌∷◌, Bool, true, false, inl, inr, Result, Ok, refl, sym, ap, ◌∙◌, arith, subst}
+use Rattle.std.proofs.Common.{◌≡◌, ℕ, zero, suc, ◌+◌, ◌-◌, ◌*◌, ◌/◌, ◌%◌, ◌<◌, [], ◌∷◌, Bool, inl, inr, Result, Ok, sym, ap, ◌∙◌, arith, subst}
 use Rattle.std.specs.Prelude.{if◌then◌else◌, min}
 use Rattle.std.specs.Int.{◌∣◌, IsGcd}
 use Rattle.std.proofs.lemmas.Nat.Gcd.{IsGcd-from_zero, IsGcd-from_mod, dvd_trans}
 use Rattle.std.proofs.Math.Nat.{mul-div_cancel', mul-div-mul_left, dvd-mul_right, mul-dvd-mul_left, dvd_of_mul-dvd-mul_left, div-one}
 use Rattle.std.proofs.lemmas.Bool.{cases_lt}
-use Rattle.std.proofs.lemmas.Bool.Decides.{nat_tests}
+use Rattle.std.proofs.lemmas.Grind.{common_steps}
 use Rattle.fv_plane.specs.declared.format.Info.{Info}
 use Rattle.fv_plane.specs.declared.format.Shape.{Shape}
-use Rattle.fv_plane.specs.Format.{sub_h}
 use Rattle.fv_plane.specs.Info.{IsLawful, Rate, lowest}
 use Rattle.fv_plane.specs.Picture.{Look}
 use Rattle.fv_plane.specs.Refusals.{first_fault}
 use Rattle.fv_plane.proofs.GcdLemmas.{gcd_found}
-use Rattle.clip_term.specs.Refusals.{rate_of, limits, limit_refusals, unless}
+use Rattle.clip_term.specs.Refusals.{limits, limit_refusals, unless}
 use Rattle.clip_term.proofs.LimitLemmas.{lawful_passes}
 use Rattle.clip_term.proofs.PartLemmas.{IsRatio, same, down_ratio}
 use Rattle.clip_term.proofs.PassedLemmas.{Passed, limits_told, product, passed, not_false, same_number}
 use Rattle.clip_term.specs.declared.field.FieldOp.TheVariants as op
-use Rattle.clip_term.specs.Time.{is_even, is_top_first, is_upper, same_bool, has_fields, field_refusals, field_rate, field_shape, check_field, field_frames, WeavesAgain}
+use Rattle.clip_term.specs.Time.{is_even, same_bool, field_refusals, field_rate, field_shape, check_field, field_frames, WeavesAgain}
 
 -- RATES: doubled and halved again
 
@@ -45,9 +44,7 @@ scaled_is k a b g some is =
     (mul-dvd-mul_left g k is.0, mul-dvd-mul_left g k is.1, λ f one other. dvd_trans f (d.is.2 f one other) whole)
 
 some_factors : (g x n : ℕ) → g * x ≡ n → 0 < n → (0 < g) × (0 < x)
-some_factors zero x n e h = absurd (omega arith)
-some_factors (suc g) zero n e h = absurd (omega arith)
-some_factors (suc g) (suc x) n e h = (omega arith, omega arith)
+some_factors g x n e h = grind (arith, common_steps)
 
 abbrev rate : ℕ → ℕ → Rate
 rate num den = record { num = num; den = den }
@@ -98,66 +95,23 @@ whole_height _ h e = omega arith
 info_again : (c separated : Info) → IsLawful c → Passed (field_refusals op.SeparateFields c.shape)
     → record c { frames = 2 * c.frames; num = (lowest (field_rate op.SeparateFields c)).num; den = (lowest (field_rate op.SeparateFields c)).den; shape = field_shape op.SeparateFields c.shape } ≡ separated
     → check_field op.Weave (separated ∷ []) ≡ Ok c
-info_again c separated lawful told is =
-    let high : 2 * (c.shape.height / 2) ≡ c.shape.height = whole_height (down_ratio c.shape.kind) c.shape.height
-    (same_number (c.shape.height % (2 * sub_h c.shape.kind)) 0 (not_false (has_fields c.shape) told.0)) in
-    let long : 2 * c.frames / 2 ≡ c.frames = omega arith in
-    let again = rate_again c.num c.den lawful.rate.some_num lawful.rate.some_den lawful.rate.lowest in
-    let own : lowest (rate_of c) ≡ rate_of c = lowest_by c.num c.den 1 lawful.rate.some_num lawful.rate.some_den lawful.rate.lowest ∙ rate_pair (c.num / 1) (c.den / 1) c.num c.den (div-one c.num) (div-one c.den) in
-    subst (λ (s : Info). check_field op.Weave (s ∷ []) ≡ Ok c) is
-    (ap (λ frames. limits_by c frames (lowest (halved_again c.num c.den)) (record c.shape { height = 2 * (c.shape.height / 2) })) long
-    ∙ ap (λ made. limits_by c c.frames made (record c.shape { height = 2 * (c.shape.height / 2) })) (again ∙ sym own)
-    ∙ ap (λ height. limits_by c c.frames (lowest (rate_of c)) (record c.shape { height = height })) high
-    ∙ lawful_passes c lawful)
+info_again c separated lawful told is = search (arith, whole_height, down_ratio, same_number, not_false, rate_again, lowest_by, rate_pair, div-one, lawful_passes)
 
 -- SAMPLES
 
-even_twice : (n : ℕ) → is_even (2 * n) ≡ true
-even_twice n = let e : 2 * n % 2 ≡ 0 = omega arith in rw e refl
-
-odd_more : (n : ℕ) → is_even (2 * n + 1) ≡ false
-odd_more n = let e : (2 * n + 1) % 2 ≡ 1 = omega arith in rw e refl
-
-odd_parts : (y : ℕ) → is_even y ≡ false → y % 2 ≡ 1
-odd_parts y e = grind (arith, nat_tests)
-
 -- the row of the frame that both ways lead to
 row_again : (even top : Bool) (y : ℕ) → is_even y ≡ even → 2 * (y / 2) + (if same_bool (same_bool even top) top then 0 else 1) ≡ y
-row_again true true y e = let h = same_number (y % 2) 0 e in omega arith
-row_again true false y e = let h = same_number (y % 2) 0 e in omega arith
-row_again false true y e = let h = odd_parts y e in omega arith
-row_again false false y e = let h = odd_parts y e in omega arith
-
--- frame 2n of the separated clip has the first field, and the next one the second
-upper_is : (top first : Bool) (n : ℕ) → same_bool (is_even (if first then 2 * n else 2 * n + 1)) top ≡ same_bool first top
-upper_is top true n = ap (λ b. same_bool b top) (even_twice n)
-upper_is top false n = ap (λ b. same_bool b top) (odd_more n)
+row_again even top y e = grind (arith, common_steps)
 
 two_frames : (first : Bool) (frames : ℕ → Look) (a b p x y : ℕ) → Rattle.fv_plane.specs.Picture.look_at (frames a ∷ frames b ∷ []) (if first then 0 else 1) p x y ≡ frames (if first then a else b) p x y
-two_frames true frames a b p x y = refl
-two_frames false frames a b p x y = refl
-
-asked_is : (first : Bool) (n many : ℕ) → n < many → (if first then min (2 * n) (2 * many - 1) else min (2 * n + 1) (2 * many - 1)) ≡ (if first then 2 * n else 2 * n + 1)
-asked_is true n many h = omega arith
-asked_is false n many h = omega arith
+two_frames first frames a b p x y = grind (arith, common_steps)
 
 half_is : (first : Bool) (n many : ℕ) → n < many → min ((if first then 2 * n else 2 * n + 1) / 2) (many - 1) ≡ n
-half_is true n many h = omega arith
-half_is false n many h = omega arith
+half_is first n many h = grind (arith, common_steps)
 
 samples_again : (c separated : Info) (frames : ℕ → Look) (n p x y : ℕ) → separated.frames ≡ 2 * c.frames → separated.field ≡ c.field → n < c.frames
     → field_frames op.Weave separated (field_frames op.SeparateFields c frames) n p x y ≡ frames n p x y
-samples_again c separated frames n p x y long field h =
-    let first : Bool = same_bool (is_even y) (is_top_first c.field) in
-    let parts : ℕ → Look = field_frames op.SeparateFields c frames in
-    let m : ℕ = if first then 2 * n else 2 * n + 1 in
-    ap (λ f. field_frames op.Weave (record separated { field = f }) parts n p x y) field
-    ∙ ap (λ k. field_frames op.Weave (record separated { field = c.field; frames = k }) parts n p x y) long
-    ∙ two_frames first parts (min (2 * n) (2 * c.frames - 1)) (min (2 * n + 1) (2 * c.frames - 1)) p x (y / 2)
-    ∙ ap (λ k. parts k p x (y / 2)) (asked_is first n c.frames h)
-    ∙ ap (λ k. frames k p x (2 * (y / 2) + (if is_upper c.field m then 0 else 1))) (half_is first n c.frames h)
-    ∙ ap (λ (u : Bool). frames n p x (2 * (y / 2) + (if u then 0 else 1))) (upper_is (is_top_first c.field) first n)
-    ∙ ap (λ z. frames n p x z) (row_again (is_even y) (is_top_first c.field) y refl)
+samples_again c separated frames n p x y long field h = grind (arith, common_steps)
 
 pub weaves_again : WeavesAgain
 weaves_again c separated lawful e =
