@@ -21,5 +21,5 @@ calls_from-returns-in_err-value-clause-told g t c = λ told.
 
 pub joined-returns-clause-work : goal.joined-returns-clause-work
 joined-returns-clause-work g t c =
-    let asks = (c.combined.ensures (g.C.Calls.here c.args.self.now.calls.now)).asks in
+    let asks = (c.combined.ensures.runs (g.C.Calls.here c.args.self.now.calls.now)).asks in
     omega (arith, asks.work, c.in_ok-second-in_default.ensures.work)
