@@ -1,15 +1,15 @@
 // The weights of GeneralConvolution, read from a text.
-ghost use Rattle.std.specs.Prelude.{◌≡◌, ◌≤◌, IsTrue, IfSome, ◌&&◌, ◌||◌, ◌==◌, min, None, Some, Err, IfOk};
+ghost use Rattle.std.specs.Prelude.{◌≡◌, ◌≤◌, IsTrue, IfSome, ◌&&◌, ◌||◌, ◌==◌, min, true, is_some, None, Some, Err, IfOk};
 ghost use Rattle.std.specs.Char.{is_ascii_digit};
 ghost use Rattle.std.specs.List.{list_all};
 ghost use Rattle.clip_term.specs.Filters.{digits_of, entry_of, is_gap, matrix_named, weight_of};
 ghost use Rattle.clip_term.specs.Refusals.{is_matrix, is_weight};
-ghost use Rattle.clip_term.specs.declared.matrix.MatrixFault.TheVariants.{BadText};
+ghost use Rattle.clip_term.specs.declared.matrix.MatrixFault.TheVariants.{BadText, Memory};
 
 use crate::arguments::is_weight;
 use crate::numbers::Numbers;
 use crate::op::Matrix;
-use fv_io::Text;
+use arrayvec::ArrayVec;
 use std::alloc::Global;
 
 /// Why a text gives no matrix.
@@ -81,27 +81,30 @@ fn is_square(are_entries: bool, count: usize) -> bool
     are_entries && (count == 9 || count == 25)
 }
 
-/// The matrix that a text writes: 9 or 25 whole numbers between spaces, tabs and newlines.
-pub fn read_matrix(alloc: Global, text: &Text) -> Result<Matrix, MatrixFault>
+/// The matrix that a text writes: 9 or 25 whole numbers between spaces, tabs and newlines. Memory runs out only where it writes
+/// one.
+pub fn read_matrix(alloc: Global, text: &str) -> Result<Matrix, MatrixFault>
     ensures read { IfOk result (λ matrix. matrix_named text.now ≡ Some matrix.entries) }
     ensures sound { IfOk result (λ matrix. IsTrue (is_matrix matrix.entries)) }
     ensures bad_text { result ≡ Err BadText → matrix_named text.now ≡ None }
+    ensures memory { result ≡ Err Memory → is_some (matrix_named text.now) ≡ true }
 {
-    let mut entries = Numbers::new(alloc);
+    let mut entries = ArrayVec::<i32, 25>::new();
     let mut are_entries = true;
-    for word in text.as_str().as_bytes().split(|byte| is_gap(*byte)) {
+    for word in text.as_bytes().split(|byte| is_gap(*byte)) {
         match entry_of(word) {
-            Some(entry) => match entries.push(entry) {
-                Ok(()) => {}
-                Err(_) => return Err(MatrixFault::Memory),
-            },
+            Some(entry) => are_entries &= entries.try_push(entry).is_ok(),
             None => are_entries &= word.is_empty(),
         }
     }
-    let count = entries.as_slice().len();
-    if is_square(are_entries, count) {
-        Ok(Matrix { entries })
-    } else {
-        Err(MatrixFault::BadText)
+    let count = entries.len();
+    if !is_square(are_entries, count) {
+        return Err(MatrixFault::BadText);
+    }
+    match entries.as_slice().to_vec(alloc) {
+        Ok(items) => Ok(Matrix {
+            entries: Numbers::from_vec(items),
+        }),
+        Err(_) => Err(MatrixFault::Memory),
     }
 }

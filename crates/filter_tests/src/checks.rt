@@ -4,7 +4,6 @@ use clip_check::{
 };
 use clip_term::{FieldOp, JoinOp, RunExpr, RunOp, SoftOp, SpaceOp, TimeOp};
 use flt_soft::{MatrixFault, read_matrix};
-use fv_io::Text;
 use fv_plane::{Field, Info, Par, PixelType, Shape, Tag};
 use std::test::Fail;
 
@@ -52,10 +51,13 @@ fn reads_matrices(rt: HostRuntime) -> Result<(), Fail> {
     for (text, fault) in [
         (" 0 -1\n0 0\t1024 0 0 0 -1024", None),
         ("1 2 3", Some(MatrixFault::BadText)),
-    ] as [(&str, Option<MatrixFault>); 2]
+        (
+            "1 1 1 1 1 1 1 1 1 1 1 1 1 1 1 1 1 1 1 1 1 1 1 1 1 1",
+            Some(MatrixFault::BadText),
+        ),
+    ] as [(&str, Option<MatrixFault>); 3]
     {
-        let text = Text::from_str(alloc, text)?;
-        assert_eq!(rt; read_matrix(alloc, &text).err(), fault);
+        assert_eq!(rt; read_matrix(alloc, text).err(), fault);
     }
     Ok(())
 }

@@ -7,7 +7,6 @@ use clip_term::{
     FieldOp, JoinOp, Op, PlaneStat, RunExpr, RunOp, SoftOp, SpaceOp, TimeOp, TrimBound,
 };
 use flt_soft::read_matrix;
-use fv_io::Text;
 use std::alloc::Global;
 use std::test::Fail;
 
@@ -85,8 +84,7 @@ fn convolution(alloc: Global, weights: &str) -> Result<Op, Fail>
     ensures filter { IfOk result (λ op. IsFilter (act_of op)) }
     ensures sound { IfOk result (λ op. IsSound (act_of op) 1) }
 {
-    let weights = Text::from_str(alloc, weights)?;
-    let matrix = read_matrix(alloc, &weights)?;
+    let matrix = read_matrix(alloc, weights)?;
     Ok(Op::Soft(SoftOp::GeneralConvolution { bias: 3, matrix }))
 }
 
