@@ -78,14 +78,12 @@ pub(crate) fn combined(
 {
     match (op, left, right) {
         (Operator::Plus, Value::Clip(i), Value::Clip(j)) => state.make(
-            alloc,
             Filter::UnalignedSplice,
             Op::Time(TimeOp::UnalignedSplice),
             &[*i, *j],
             line,
         ),
         (Operator::PlusPlus, Value::Clip(i), Value::Clip(j)) => state.make(
-            alloc,
             Filter::AlignedSplice,
             Op::Time(TimeOp::AlignedSplice),
             &[*i, *j],

@@ -7,6 +7,7 @@ ghost use Rattle.avs_tree.specs.View.{function_view};
 ghost use Rattle.avs_values.specs.Values.{Text as Name};
 ghost use Rattle.clip_term.specs.Terms.{act_of, IsSound, check};
 ghost use Rattle.clip_term.specs.Filters.{IsMode};
+ghost use Rattle.clip_check.specs.Summaries.{TellsAll};
 ghost use Rattle.clip_graph.specs.Plan.{IsCounted, infos_among, sources_in};
 ghost use Rattle.mt_modes.specs.Modes.{mode_in};
 ghost use Rattle.avs_meaning.specs.Filters as f;
@@ -16,8 +17,6 @@ ghost use Rattle.avs_state.specs.Answers.{Gives};
 ghost use Rattle.avs_state.specs.Stops.{in_text, TakesNone, HidesNone};
 ghost use Rattle.avs_state.specs.Sources.{source_of, sources_of, Lists};
 ghost use Rattle.avs_state.specs.Walks.{Runs};
-ghost use Rattle.avs_state.specs.declared.stop.Stop.TheVariants as s;
-ghost use Rattle.avs_meaning.specs.declared.fault.ScriptKind.TheVariants as k;
 ghost use Rattle.avs_state.specs.States.{state_of, defined_view, AsksNothing};
 ghost use Rattle.avs_state.specs.Steps.{Works, Pays, Counted, work};
 ghost use Rattle.avs_state.specs.Units.{steps_a_unit};
@@ -27,7 +26,7 @@ use crate::{ByName, Definition, Stop};
 use avs_meaning::{Crew, EvalError, ScriptKind, SourceClip, Variable};
 use avs_tree::Function;
 use avs_values::Value;
-use clip_check::check;
+use clip_check::{Summary, check_summary};
 use clip_graph::{Graph, GraphFault};
 use clip_term::{Filter, FilterFault, Op};
 use fv_io::Text;
@@ -64,35 +63,24 @@ fn are_places(plan: &Graph, inputs: &[u32]) -> bool
     inputs.iter().all(|i| *i < count)
 }
 
-// The infos of places. An `Err` is out of memory.
-fn infos_among(alloc: Global, plan: &Graph, inputs: &[u32]) -> Result<Vec<Info>, AllocError>
+// What there is to tell of the infos of places.
+fn summary_of(plan: &Graph, inputs: &[u32]) -> Summary
     requires { All (λ i. i < length plan.now) inputs.now }
-    ensures { IfOk result (λ infos. infos.items ≡ infos_among plan.now inputs.now) }
+    ensures { TellsAll result (infos_among plan.now inputs.now) }
 {
-    let mut infos = Vec::new(alloc);
+    let mut summary = Summary::new(inputs.len());
     for i in inputs {
-        infos.push(plan.node(*i).info)?;
+        summary = summary.with(plan.node(*i).info);
     }
-    Ok(infos)
+    summary
 }
 
-// The info of a filter over places, or why it refuses them. For two at most it takes no memory.
-fn checked(
-    alloc: Global,
-    plan: &Graph,
-    op: &Op,
-    inputs: &[u32],
-) -> Result<Result<Info, FilterFault>, AllocError>
+// The info of a filter over places, or why it refuses them.
+fn checked(plan: &Graph, op: &Op, inputs: &[u32]) -> Result<Info, FilterFault>
     requires { All (λ i. i < length plan.now) inputs.now }
-    ensures checked { IfOk result (λ found. found ≡ check (act_of op.now) (infos_among plan.now inputs.now)) }
-    ensures memory { OnErr result (2 < length inputs.now) }
+    ensures { result ≡ check (act_of op.now) (infos_among plan.now inputs.now) }
 {
-    match inputs {
-        [] => Ok(check(op, &[])),
-        [i] => Ok(check(op, &[plan.node(*i).info])),
-        [i, j] => Ok(check(op, &[plan.node(*i).info, plan.node(*j).info])),
-        _ => Ok(check(op, &infos_among(alloc, plan, inputs)?)),
-    }
+    check_summary(op, &summary_of(plan, inputs))
 }
 
 impl RunState {
@@ -366,22 +354,14 @@ impl RunState {
 
     /// Applies a filter to clips, at a line.
     #[tactic(auto, unfolding(crate::specs::States::state_of, crate::specs::Steps::work))]
-    pub fn make(
-        &mut self,
-        alloc: Global,
-        filter: Filter,
-        op: Op,
-        inputs: &[u32],
-        line: u32,
-    ) -> Result<Value, Stop>
+    pub fn make(&mut self, filter: Filter, op: Op, inputs: &[u32], line: u32) -> Result<Value, Stop>
         requires sound { IsSound (act_of op) (length inputs.now) }
         requires counted { IsCounted (act_of op) (sources_in (state_of self.old).plan)
             (mode_in (state_of self.old).modes filter) }
         ensures gives { (here : Name) → Gives (λ v. v) (f.made here filter (act_of op) inputs.now line
             (state_of self.old)) (in_text here result) (state_of self.new) }
-        ensures memory { (here : Name) → length inputs.now ≤ 2 → HidesNone (f.made here filter (act_of op) inputs.now line
-            (state_of self.old)) result }
-        ensures places { f.are_places inputs.now (state_of self.old).plan ≡ false → result ≡ Err (s.Fault k.TypeFault line) }
+        ensures memory { (here : Name) → HidesNone (f.made here filter (act_of op) inputs.now line (state_of self.old))
+            result }
         ensures asks { AsksNothing self.old self.new }
         ensures sources { OnOk result (sources_of (state_of self.new).plan
             ≡ sources_of (state_of self.old).plan ++ source_of (act_of op)) }
@@ -389,7 +369,7 @@ impl RunState {
         if !are_places(&self.plan, inputs) {
             return Err(Stop::Fault(ScriptKind::TypeFault, line));
         }
-        match checked(alloc, &self.plan, &op, inputs)? {
+        match checked(&self.plan, &op, inputs) {
             Ok(info) => {
                 let mode = self.modes.mode_for(filter);
                 self.add(op, inputs, info, mode, line)
@@ -467,7 +447,7 @@ impl RunState {
         self.list(alloc, &name, info)?;
         let number = self.sources();
         let op = Op::Source { name, number, info };
-        self.make(alloc, Filter::Y4MSource, op, &[], line)
+        self.make(Filter::Y4MSource, op, &[], line)
     }
 
     // How many sources the graph has.

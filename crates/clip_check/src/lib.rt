@@ -23,5 +23,6 @@ pub use join::check_join;
 pub use run::check_choice;
 pub use soft::check_soft;
 pub use space::check_space;
-pub use term::{check, info};
+pub use summary::Summary;
+pub use term::{check, check_summary, info};
 pub use time::check_time;

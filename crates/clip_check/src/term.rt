@@ -16,8 +16,8 @@ use crate::time::time_info;
 use clip_term::{FilterFault, Op, Term};
 use fv_plane::Info;
 
-// The check over the summary of the op's clips.
-fn op_info(op: &Op, summary: &Summary) -> Result<Info, FilterFault>
+/// The info of a clip of any op over the clips of a summary, or the first refusal.
+pub fn check_summary(op: &Op, summary: &Summary) -> Result<Info, FilterFault>
     ensures { (infos : List Info) → TellsAll summary.now infos → result ≡ check (act_of op.now) infos }
 {
     match op {
@@ -38,7 +38,7 @@ pub fn check(op: &Op, infos: &[Info]) -> Result<Info, FilterFault>
     ensures lawful { IsSound (act_of op.now) (length infos.now) → AreLawful infos.now →
         IfOk result (λ info. IsLawful info) }
 {
-    op_info(op, &Summary::of(infos))
+    check_summary(op, &Summary::of(infos))
 }
 
 /// The info of a term, or its first refusal: that of the first input that has one comes before the term's own.
@@ -53,5 +53,5 @@ pub fn info(term: &Term) -> Result<Info, FilterFault>
             Err(fault) => return Err(fault),
         }
     }
-    op_info(&term.op, &summary)
+    check_summary(&term.op, &summary)
 }

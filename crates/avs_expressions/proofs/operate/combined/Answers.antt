@@ -1,4 +1,4 @@
-use Rattle.std.proofs.Common.{rules, arith, ◌≡◌}
+use Rattle.std.proofs.Common.{rules, ◌≡◌}
 use Rattle.avs_values.specs.Operators as v
 use Rattle.avs_meaning.specs.Expressions as m
 use Rattle.avs_meaning.specs.State.{lifted}
@@ -8,12 +8,12 @@ use Rattle.avs_expressions.proofs.operate.combined.Goals as goal
 
 pub returns-in-Plus-Clip-Clip-clause-memory : goal.returns-in-Plus-Clip-Clip-clause-memory
 returns-in-Plus-Clip-Clip-clause-memory c = λ here.
-    rw (c.in-Plus-Clip-Clip.is-0, c.in-Plus-Clip-Clip.is-1, c.in-Plus-Clip-Clip.is-2) (c.make.ensures.memory here (omega arith))
+    rw (c.in-Plus-Clip-Clip.is-0, c.in-Plus-Clip-Clip.is-1, c.in-Plus-Clip-Clip.is-2) (c.make.ensures.memory here)
 
 pub returns-in-PlusPlus-Clip-Clip-clause-memory : goal.returns-in-PlusPlus-Clip-Clip-clause-memory
 returns-in-PlusPlus-Clip-Clip-clause-memory c = λ here.
     rw (c.in-PlusPlus-Clip-Clip.is-0, c.in-PlusPlus-Clip-Clip.is-1, c.in-PlusPlus-Clip-Clip.is-2)
-    (c.make-in-PlusPlus-Clip-Clip.ensures.memory here (omega arith))
+    (c.make-in-PlusPlus-Clip-Clip.ensures.memory here)
 
 pub returns-in_default-clause-memory : goal.returns-in_default-clause-memory
 returns-in_default-clause-memory c = λ here.

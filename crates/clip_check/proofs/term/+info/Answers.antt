@@ -28,6 +28,6 @@ returns t c =
     let inputs = c.deref-input-items.result.now in
     let i = c.loop-input.input-index in
     let whole = all_there inputs i c.loop-input.summary.total c.loop-input-test.false c.loop-input.auto.input-index-end c.loop-input.invariant.1 in
-    let checked = c.op_info.ensures (map told_by (take i inputs)) (record { told = c.loop-input.invariant.0; whole = whole }) in
+    let checked = c.check_summary.ensures (map told_by (take i inputs)) (record { told = c.loop-input.invariant.0; whole = whole }) in
     let exact = checked ∙ told c.args.term.now inputs i c.deref-input-items.ensures.value c.loop-input-test.false c.loop-input.invariant.2 in
-    record { exact = exact; lawful = term_lawful c.op_info.result (term_of c.args.term.now) exact }
+    record { exact = exact; lawful = term_lawful c.check_summary.result (term_of c.args.term.now) exact }

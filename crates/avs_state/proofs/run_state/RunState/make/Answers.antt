@@ -18,7 +18,7 @@ returns-in-Err-clause-gives c = λ here.
 
 pub returns-in-Ok-clause-memory : goal.returns-in-Ok-clause-memory
 unfolding state_of
-returns-in-Ok-clause-memory c = λ here few.
+returns-in-Ok-clause-memory c = λ here.
     let plan = c.args.self.now.plan in
     let inputs = c.args.inputs.now in
     let act = act_of c.args.op in
