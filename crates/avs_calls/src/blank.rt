@@ -19,7 +19,6 @@ use avs_values::Value;
 use clip_term::{BLACK, Filter, FilterFault, Op, colour_of, is_colour};
 use fv_io::Text;
 use fv_plane::{Field, Format, Info, Par, PixelType, Shape, Tag, format_named};
-use std::alloc::Global;
 
 /// The arguments of `BlankClip` beside its clip. `None` is one that isn't given.
 #[derive(Clone, Copy)]
@@ -171,7 +170,6 @@ fn default_clip() -> Info
 
 // A blank clip. What isn't given is that of the base.
 fn blank_like(
-    alloc: Global,
     state: &mut RunState,
     base: &Info,
     args: &BlankArgs<'_>,
@@ -189,18 +187,11 @@ fn blank_like(
     }
     let info = blank_info(base, args);
     let colour = colour_of(colour_given(args));
-    state.make(
-        alloc,
-        Filter::BlankClip,
-        Op::Blank { info, colour },
-        &[],
-        line,
-    )
+    state.make(Filter::BlankClip, Op::Blank { info, colour }, &[], line)
 }
 
 // A blank clip. What isn't given is that of the clip, if there is one.
 fn blank_of(
-    alloc: Global,
     state: &mut RunState,
     clip: Option<&Value>,
     args: &BlankArgs<'_>,
@@ -214,9 +205,9 @@ fn blank_of(
     match clip {
         Some(Value::Clip(i)) => {
             let info = state.info_of(*i, line)?;
-            blank_like(alloc, state, &info, args, line)
+            blank_like(state, &info, args, line)
         }
-        _ => blank_like(alloc, state, &default_clip(), args, line),
+        _ => blank_like(state, &default_clip(), args, line),
     }
 }
 
@@ -229,7 +220,6 @@ fn value_at(values: &[Value], place: usize) -> Option<&Value>
 /// A blank clip of arguments that are bound by the signature of this number: the clip comes last by that of number 0, and
 /// first by the other one.
 pub(crate) fn blank(
-    alloc: Global,
     state: &mut RunState,
     signature: usize,
     values: &[Value],
@@ -241,8 +231,8 @@ pub(crate) fn blank(
 {
     if signature == 0 {
         let args = BlankArgs::of(values, 0);
-        return blank_of(alloc, state, value_at(values, 7), &args, line);
+        return blank_of(state, value_at(values, 7), &args, line);
     }
     let args = BlankArgs::of(values, 1);
-    blank_of(alloc, state, value_at(values, 0), &args, line)
+    blank_of(state, value_at(values, 0), &args, line)
 }

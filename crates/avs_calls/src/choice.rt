@@ -5,7 +5,7 @@ ghost use Rattle.avs_meaning.specs.Arguments as a;
 ghost use Rattle.avs_parse.specs.Load.{script_of};
 ghost use Rattle.avs_runtime.specs.Read as r;
 ghost use Rattle.avs_tree.specs.Lexeme.{meaning_in};
-ghost use Rattle.avs_calls.specs.Arguments.{Reads};
+ghost use Rattle.avs_calls.specs.Arguments.{MayRead};
 
 use crate::arguments::text_at;
 use crate::refused::Refused;
@@ -49,7 +49,7 @@ fn expression_at(
 
 /// What `ConditionalSelect` does with its arguments, where the test clip has this info.
 pub(crate) fn choose(alloc: Global, values: &[Value], test: &Info) -> Result<Op, Refused>
-    ensures { Reads (a.chooses (a.expression_at values.now script_of test.now 1)) result }
+    ensures { MayRead (a.chooses (a.expression_at values.now script_of test.now 1)) result }
 {
     let expr = expression_at(alloc, values, test, 1)?;
     Ok(Op::Run(RunOp::Select { expr }))
@@ -57,7 +57,7 @@ pub(crate) fn choose(alloc: Global, values: &[Value], test: &Info) -> Result<Op,
 
 /// What `ConditionalFilter` does with its arguments, where the test clip has this info.
 pub(crate) fn decide(alloc: Global, values: &[Value], test: &Info) -> Result<Op, Refused>
-    ensures { Reads (a.decides (a.expression_at values.now script_of test.now 3) (a.expression_at values.now script_of test.now 5)
+    ensures { MayRead (a.decides (a.expression_at values.now script_of test.now 3) (a.expression_at values.now script_of test.now 5)
         (meaning_in a.comparisons (unwrap_or (a.text_at values.now 4) []))) result }
 {
     let left = expression_at(alloc, values, test, 3)?;

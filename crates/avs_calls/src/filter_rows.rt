@@ -7,7 +7,7 @@ ghost use Rattle.avs_meaning.specs.Table as r;
 ghost use Rattle.avs_parse.specs.Load.{script_of};
 ghost use Rattle.clip_term.specs.Blank.{default_colour};
 ghost use Rattle.clip_term.specs.Filters.{channels_named};
-ghost use Rattle.avs_calls.specs.Arguments.{Reads};
+ghost use Rattle.avs_calls.specs.Arguments.{MayRead, Reads};
 
 use crate::arguments::{number, number_at, numbers_among, or_number, text_at};
 use crate::choice::{choose, decide};
@@ -22,7 +22,6 @@ use clip_term::{
     BLACK, Channels, FieldOp, Filter, FilterFault, JoinOp, MatrixFault, Op, SoftOp, SpaceOp,
     TimeOp, TrimBound, is_bias, read_matrix,
 };
-use fv_io::Text;
 use fv_plane::Info;
 use std::alloc::{AllocError, Global};
 
@@ -62,7 +61,9 @@ pub(crate) fn filter_signatures(alloc: Global, filter: Filter) -> Result<Vec<Sig
     }
 }
 
-/// What a filter makes of its arguments, where its first clip has this info. Filters take each number among them.
+/// What a filter makes of its arguments, where its first clip has this info. Filters take each number among them. Memory runs
+/// out only where they can be read, but for expressions.
+#[tactic(auto, using(crate::proofs::ReadLemmas::may_read))]
 pub(crate) fn op_of(
     alloc: Global,
     given: &Bound,
@@ -72,7 +73,9 @@ pub(crate) fn op_of(
     requires few { clip.now.frames ≤ 1000000 }
     requires values { IsTrue (a.all_fit_filters given.now.values.items) }
     requires rest { IsTrue (a.all_fit_filters given.now.rest.items) }
-    ensures { Reads (r.read (r.args_of script_of (bound_view given.now) clip.now) filter) result }
+    ensures told { MayRead (r.read (r.args_of script_of (bound_view given.now) clip.now) filter) result }
+    ensures reads { (filter ≡ Filter.ConditionalSelect → ⊥) → (filter ≡ Filter.ConditionalFilter → ⊥)
+        → Reads (r.read (r.args_of script_of (bound_view given.now) clip.now) filter) result }
 {
     let values = given.values.as_slice();
     match filter {
@@ -125,7 +128,7 @@ pub(crate) fn op_of(
         Filter::MergeChroma => Ok(Op::Join(JoinOp::MergeChroma)),
         Filter::YToUV => Ok(Op::Join(JoinOp::YToUV)),
         Filter::TemporalSoften => Ok(Op::Soft(soften(values))),
-        Filter::GeneralConvolution => convolve_given(alloc, values),
+        Filter::GeneralConvolution => convolve(alloc, values),
         Filter::SeparateFields => Ok(Op::Field(FieldOp::SeparateFields)),
         Filter::Weave => Ok(Op::Field(FieldOp::Weave)),
         Filter::SwapFields => Ok(Op::Field(FieldOp::SwapFields)),
@@ -361,26 +364,20 @@ fn convolve_takes(alloc: Global) -> Result<Vec<Signature>, AllocError>
 }
 
 // What `GeneralConvolution` does with its bias and the text of its matrix.
-fn convolve(alloc: Global, bias: i32, matrix: &str) -> Result<Op, Refused>
-    ensures { Reads (a.convolves bias matrix.now) result }
+fn convolve(alloc: Global, values: &[Value]) -> Result<Op, Refused>
+    requires fit { IsTrue (a.all_fit_filters values.now) }
+    ensures { Reads (a.convolves (a.number values.now 1) (unwrap_or (a.text_at values.now 2) a.middle_alone)) result }
 {
+    let bias = number(values, 1);
     if !is_bias(bias) {
         return Err(Refused::Fault(ScriptKind::Filter(FilterFault::BadRange)));
     }
-    let matrix = Text::from_str(alloc, matrix)?;
-    match read_matrix(alloc, &matrix) {
+    let matrix = text_at(values, 2).unwrap_or(MIDDLE_ALONE);
+    match read_matrix(alloc, matrix) {
         Ok(matrix) => Ok(Op::Soft(SoftOp::GeneralConvolution { bias, matrix })),
         Err(MatrixFault::BadText) => {
             Err(Refused::Fault(ScriptKind::Filter(FilterFault::BadText)))
         }
         Err(MatrixFault::Memory) => Err(Refused::Memory),
     }
-}
-
-fn convolve_given(alloc: Global, values: &[Value]) -> Result<Op, Refused>
-    requires fit { IsTrue (a.all_fit_filters values.now) }
-    ensures { Reads (a.convolves (a.number values.now 1) (unwrap_or (a.text_at values.now 2) a.middle_alone)) result }
-{
-    let matrix = text_at(values, 2).unwrap_or(MIDDLE_ALONE);
-    convolve(alloc, number(values, 1), matrix)
 }

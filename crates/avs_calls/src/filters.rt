@@ -48,7 +48,7 @@ fn with_info(
     if !takes(&op, inputs.len()) {
         return Err(Stop::Fault(ScriptKind::NoMatch, line));
     }
-    state.make(alloc, filter, op, inputs, line)
+    state.make(filter, op, inputs, line)
 }
 
 // Applies a filter but a source to the clips among its arguments.
@@ -92,14 +92,13 @@ pub fn apply_filter(
         if !all_fit_filters(&given.values) {
             return Err(Stop::Fault(ScriptKind::Filter(FilterFault::BadRange), line));
         }
-        return blank(alloc, state, signature, &given.values, line);
+        return blank(state, signature, &given.values, line);
     }
     on_clips(alloc, state, filter, given, line)
 }
 
 /// What `ApplyRange` makes of a clip and of what its function gave: that in a range of frames, and the clip elsewhere.
 pub fn ranged(
-    alloc: Global,
     state: &mut RunState,
     clip: u32,
     first: i32,
@@ -113,7 +112,6 @@ pub fn ranged(
 {
     match shown {
         Value::Clip(shown) => state.make(
-            alloc,
             Filter::ApplyRange,
             Op::Time(TimeOp::ApplyRange { first, last }),
             &[clip, *shown],

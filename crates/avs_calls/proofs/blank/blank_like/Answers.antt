@@ -1,4 +1,4 @@
-use Rattle.std.proofs.Common.{rules, arith, ◌≡◌, []}
+use Rattle.std.proofs.Common.{rules, ◌≡◌, []}
 use Rattle.clip_term.specs.Terms.{plain}
 use Rattle.clip_term.specs.declared.filter.Filter.TheVariants.{BlankClip}
 use Rattle.avs_meaning.specs.Filters as f
@@ -11,4 +11,4 @@ returns-clause-memory c = λ here.
     let state = state_of c.args.state.now in
     let made : f.blank_like here c.args.base.now (args_view c.args.args.now) c.args.line state
     ≡ f.made here BlankClip (plain c.blank_info-info.result c.colour_of-colour.result) [] c.args.line state = search rules in
-    rw made (c.make.ensures.memory here (omega arith))
+    rw made (c.make.ensures.memory here)
