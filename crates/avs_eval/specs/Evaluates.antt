@@ -1,9 +1,11 @@
 -- What is answered of a script.
-use Rattle.std.specs.Prelude.{◌≡◌, ◌<◌, ◌+◌, ℕ, List, length, Result, Ok, Err}
+use Rattle.std.specs.Prelude.{◌≡◌, ◌<◌, ◌+◌, ◌-◌, ℕ, List, length, Result, Ok, Err}
 use Rattle.fv_io.specs.Faults.{HasRisen}
 use Rattle.clip_graph.specs.Plan.{IsPlan}
 use Rattle.avs_meaning.specs.Faults.{script, input}
-use Rattle.avs_meaning.specs.Meaning.{Meaning, clip, wrong, text_imports}
+use Rattle.avs_values.specs.Values.{Text}
+use Rattle.avs_meaning.specs.Meaning.{Meaning, clip, wrong, executed, start, step_limit, text_imports}
+use Rattle.avs_meaning.specs.State.{Outcome, Outside}
 use Rattle.avs_meaning.specs.declared.state.SourceClip.{SourceClip}
 use Rattle.avs_meaning.specs.declared.stop.EvalError.{EvalError}
 use Rattle.avs_meaning.specs.declared.stop.EvalError.TheVariants as s
@@ -35,3 +37,11 @@ CountsFaults _ before now = now ≡ before
 abbrev pub FetchesAll : {H : Type 0} → Ghosts H → List ℕ → List ℕ → H → H → Type 0
 FetchesAll host name text old new = host.fetched new
     ≡ host.fetched old + (length (host.opened new) + text_imports (outside_by host.clips host.scripts) name text)
+
+abbrev pub units_by : Outcome ℕ → ℕ
+units_by (Ok ended) = step_limit - ended.1.units
+units_by (Err fault) = 0
+
+-- how many units a text pays, as the script of this name, where it has a clip
+abbrev pub text_units : Outside → Text → Text → ℕ
+text_units outside here text = units_by (executed outside here text start)

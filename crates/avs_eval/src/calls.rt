@@ -234,15 +234,7 @@ impl<
             Ok(shown) => shown,
             Err(stop) => return Err(stop),
         };
-        ranged(
-            self.alloc,
-            state,
-            range.clip,
-            range.first,
-            range.last,
-            &shown,
-            line,
-        )
+        ranged(state, range.clip, range.first, range.last, &shown, line)
     }
 
     // A call of a built-in function.

@@ -8,7 +8,7 @@ ghost use Rattle.avs_state.specs.Answers.{Gives};
 ghost use Rattle.avs_state.specs.Hosts.{Told};
 ghost use Rattle.avs_eval.specs.OutsideBy.{outside_by};
 ghost use Rattle.avs_state.specs.States.{state_of};
-ghost use Rattle.avs_eval.specs.Evaluates.{Evaluates, Opens, CountsFaults, FetchesAll};
+ghost use Rattle.avs_eval.specs.Evaluates.{Evaluates, Opens, CountsFaults, FetchesAll, text_units};
 ghost use Rattle.avs_state.specs.Stops.{in_text, TakesNone};
 ghost use Rattle.avs_state.specs.Steps.{Works};
 ghost use Rattle.avs_state.specs.Units.{steps_a_unit};
@@ -130,9 +130,11 @@ pub fn eval_in_steps<H: Host>(alloc: Global, host: &mut H, name: &Text, text: &T
     ensures later { H.faults host.old ≤ H.faults host.new }
     ensures more { H.fetched host.old ≤ H.fetched host.new }
     ensures faults { CountsFaults result.answer (H.faults host.old) (H.faults host.new) }
-    // A unit pays for at most so many steps, and at most so many units are paid.
+    // A unit pays for at most so many steps, and at most so many units are paid: as many as the script's meaning pays.
     ensures steps { result.steps ≤ 1048576 * result.units }
     ensures units { result.units ≤ 1000000 }
+    ensures paid { IsTrue H.told → OnOk result.answer (result.units ≡ text_units (outside_by H.clips H.scripts)
+        name.now text.now) }
 {
     let mut state = RunState::new(alloc);
     let root = root_of(alloc, &mut state, host, name, text);

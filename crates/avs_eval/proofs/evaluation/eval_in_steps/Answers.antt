@@ -6,6 +6,7 @@ use Rattle.avs_state.specs.States.{state_of}
 use Rattle.avs_state.proofs.Kept.{all_fetched}
 use Rattle.avs_state.proofs.StepLemmas.{all_paid}
 use Rattle.avs_state.specs.Answers.{Fails}
+use Rattle.avs_eval.specs.Evaluates.{units_by}
 use Rattle.avs_eval.specs.OutsideBy.{outside_by}
 use Rattle.avs_eval.proofs.RunLemmas.{stop_shows}
 use Rattle.avs_eval.proofs.evaluation.eval_in_steps.Goals as goal
@@ -33,3 +34,9 @@ returns-in-Ok-clause-fetched g c = λ told.
     let counted = ap imports_by (sym (ap (executed outside c.args.name.now c.args.text.now) c.new-state.ensures.start) ∙ run) in
     all_fetched (g.H.Host.fetched c.args.host.now) (g.H.Host.fetched c.root_of-root.new.host) _ first last (g.H.Host.opened c.root_of-root.new.host) c.new-state.ensures.start
     (kept.given (ap (λ (s : State). s.opened) c.new-state.ensures.start ∙ sym c.requires.none)) counted kept.fetched
+
+pub returns-in-Ok-clause-paid : goal.returns-in-Ok-clause-paid
+returns-in-Ok-clause-paid g c = λ told.
+    let outside = outside_by g.H.Host.clips g.H.Host.scripts in
+    let run : executed outside c.args.name.now c.args.text.now (state_of c.new-state.result) ≡ Ok (c.in-Ok.root, state_of c.root_of-root.new.state) = c.in-Ok.ensures.told told in
+    c.paid-units.ensures ∙ sym (ap units_by (sym (ap (executed outside c.args.name.now c.args.text.now) c.new-state.ensures.start) ∙ run))
