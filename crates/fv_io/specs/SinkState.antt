@@ -1,5 +1,5 @@
 -- A sink in memory.
-use Rattle.std.specs.Prelude.{ℕ, ◌+◌, ◌-◌, ◌≤◌, List, [], ◌++◌, length, take}
+use Rattle.std.specs.Prelude.{◌≡◌, ℕ, ◌+◌, ◌-◌, ◌≤◌, List, [], ◌++◌, length, take}
 use Rattle.fv_io.specs.Faults.{risen}
 
 pub record SinkState : Type 0 where
@@ -11,8 +11,9 @@ pub record SinkState : Type 0 where
 abbrev pub empty : ℕ → SinkState
 empty limit = record { bytes = []; limit = limit; faults = 0 }
 
+-- no put failed before, and the piece passes no limit
 abbrev pub Fits : SinkState → List ℕ → Type 0
-Fits state piece = length state.bytes + length piece ≤ state.limit
+Fits state piece = (state.faults ≡ 0) × (length state.bytes + length piece ≤ state.limit)
 
 abbrev pub with_all : SinkState → List ℕ → SinkState
 with_all state piece = record state { bytes = state.bytes ++ piece }

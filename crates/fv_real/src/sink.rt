@@ -16,7 +16,7 @@ fn write_parts<W: Write>(stream: &mut W, piece: &[u8]) -> io::Result<()> {
     stream.flush()
 }
 
-/// A standard stream. Each piece is flushed.
+/// A standard stream. Each piece is flushed. After a fault nothing is written.
 #[derive(Drop)]
 pub struct RealSink<W: Write + Drop> {
     stream: W,
@@ -38,7 +38,7 @@ impl<W: Write + Drop> Sink for RealSink<W> {
     ghost faults = { λ s. s.faults };
 
     fn put(&mut self, piece: &[u8]) -> Result<(), Failed> {
-        if write_parts(&mut self.stream, piece).is_ok() {
+        if self.faults == 0 && write_parts(&mut self.stream, piece).is_ok() {
             Ok(())
         } else {
             self.faults = self.faults.saturating_add(1);

@@ -6,6 +6,7 @@ use Rattle.std.proofs.lemmas.List.{append_assoc, append-nil}
 use Rattle.std.proofs.lemmas.List.Concat.{flat_map-append}
 use Rattle.fv_io.specs.declared.source.Source as of_source
 use Rattle.fv_io.specs.declared.sink.Sink.{Ghosts}
+use Rattle.fv_io.specs.Faults.{risen}
 use Rattle.fv_io.specs.Sink.{Puts, PutsPrefix, IsLater, SinkFailed}
 use Rattle.fv_io.proofs.CallerLemmas.{gets_none}
 use Rattle.fv_plane.specs.Picture.{Picture}
@@ -218,8 +219,7 @@ module _ {S L K : Type 0} (of : of_source.Ghosts S) (list : of_source.Ghosts L) 
       write_ends : (told : SessionStop) → Why (played of) sink mid q part.here new (frame_asked frames request) of_play.Write → told ≡ Stopped of_stop.Write → Ended told
       write_ends told why is = subst (λ x. Ended x) (sym is)
           (let both = why_write (frame_asked frames request) why in
-          let later : IsLater sink old part.here = part.later in
-          let failed : SinkFailed sink old new = omega (arith, later, both.0) in
+          let failed : SinkFailed sink old new = both.0 ∙ ap risen part.steady in
           unstopped (Stopped of_stop.Write) (frame_asked frames request) both.1 (first_with request asked) failed (inr (inl refl)))
 
       memory_ends : (told : SessionStop) → Why (played of) sink mid q part.here new (frame_asked frames request) of_play.Memory → told ≡ Stopped of_stop.Memory → Ended told

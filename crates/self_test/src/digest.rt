@@ -68,13 +68,17 @@ impl Sink for DigestSink {
     ghost faults = { λ s. s.faults };
 
     fn put(&mut self, piece: &[u8]) -> Result<(), Failed> {
-        let Some(size) = self.size.checked_add(piece.len() as u64) else {
-            self.faults = self.faults.saturating_add(1);
-            return Err(Failed);
-        };
-        self.hasher.update(piece);
-        self.size = size;
-        self.log = self.log.and(&Piece { bytes: piece });
-        Ok(())
+        match self.size.checked_add(piece.len() as u64) {
+            Some(size) if self.faults == 0 => {
+                self.hasher.update(piece);
+                self.size = size;
+                self.log = self.log.and(&Piece { bytes: piece });
+                Ok(())
+            }
+            _ => {
+                self.faults = self.faults.saturating_add(1);
+                Err(Failed)
+            }
+        }
     }
 }

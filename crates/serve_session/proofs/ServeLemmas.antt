@@ -3,7 +3,7 @@ use Rattle.std.proofs.Common.{◌≡◌, ℕ, ◌+◌, List, [], ◌∷◌, ◌+
 use Rattle.std.proofs.lemmas.List.{append_assoc, append-nil}
 use Rattle.std.proofs.lemmas.List.Concat.{flat_map-append}
 use Rattle.fv_io.specs.declared.sink.Sink.{Ghosts}
-use Rattle.fv_io.specs.Sink.{PutsPrefix, IsLater}
+use Rattle.fv_io.specs.Sink.{PutsPrefix}
 use Rattle.fv_io.specs.declared.source.Source as of_source
 use Rattle.fv_io.specs.Faults.{HasRisen}
 use Rattle.fv_io.specs.Source.{IsSteady, SourceFailed}
@@ -162,7 +162,7 @@ module _ {P K S : Type 0} (player : of_player.Ghosts P) (sink : Ghosts K) (sourc
   pub nothing_yet : (reader : ReaderState) (p : P) (s : S) (old : K) → SoFar player sink source reader p p s s old old reader
   nothing_yet reader p s old = record { asks = []; served = none_served player sink p old; begins = λ told is. refl }
 
-  module _ (reader now : ReaderState) (p q : P) (s t t' : S) (old here : K) (so_far : SoFar player sink source reader p q s t old here now) (same : source.bytes t ≡ source.bytes s) (steady : IsSteady source s t) (later : IsLater sink old here) where
+  module _ (reader now : ReaderState) (p q : P) (s t t' : S) (old here : K) (so_far : SoFar player sink source reader p q s t old here now) (same : source.bytes t ≡ source.bytes s) (steady : IsSteady source s t) (unwritten : sink.faults here ≡ sink.faults old) where
     abbrev all : List ℕ → Asked
     all told = requests_after reader.count (lines (left_of reader.held told (source.place s)))
 
@@ -182,7 +182,7 @@ module _ {P K S : Type 0} (player : of_player.Ghosts P) (sink : Ghosts K) (sourc
       here = here;
       asks = so_far.asks;
       served = so_far.served;
-      later = later;
+      steady = unwritten;
       ended = (refl, refl, refuses fault failed next);
       prefix = λ told is at st. prefix_whole player sink p q old here so_far.asks so_far.served (all told) (requests_after now.count (lines (left told))) (so_far.begins told is) at st;
     }
@@ -197,7 +197,7 @@ module _ {P K S : Type 0} (player : of_player.Ghosts P) (sink : Ghosts K) (sourc
         here = here;
         asks = so_far.asks;
         served = so_far.served;
-        later = later;
+        steady = unwritten;
         ended = (request, un, some_more);
         prefix = λ told is at st.
             let some = some_more told is in

@@ -3,7 +3,7 @@ use Rattle.std.specs.Prelude.{◌≡◌, ℕ, Bool, true, false, List, [], ◌�
 use Rattle.std.specs.Option.{ForSome}
 use Rattle.fv_io.specs.declared.sink.Sink.{Ghosts}
 use Rattle.fv_io.specs.declared.source.Source as of_source
-use Rattle.fv_io.specs.Sink.{Puts, PutsPrefix, IsLater, SinkFailed}
+use Rattle.fv_io.specs.Sink.{Puts, PutsPrefix, SinkFailed}
 use Rattle.fv_io.specs.Source.{IsSteady, SourceFailed}
 use Rattle.fv_session.specs.Answers.{answer_to, answers, frame_asked, frames_asked}
 use Rattle.fv_session.specs.Next.{ReaderState, left_of}
@@ -116,7 +116,7 @@ module _ {P : Type 0} (player : of_player.Ghosts P) where
         pub here : K
         pub asks : List Request
         pub served : Served p mid old here asks
-        pub later : IsLater sink old here
+        pub steady : sink.faults here ≡ sink.faults old
         pub ended : Ends mid here asks stop
         -- what is on the sink is in any case a prefix of the answers of all
         pub prefix : InAll (λ asked. (at : ℕ → List ℕ) → player.stands_for p at

@@ -1,6 +1,6 @@
 // A sink in memory with a limit.
 ghost use Rattle.std.specs.Prelude.{◌≡◌, ◌≤◌, ◌↔◌, IfOk, IsOk, OnOk, OnErr, Some};
-ghost use Rattle.fv_io.specs.Faults.{HasRisen};
+ghost use Rattle.fv_io.specs.Faults.{risen};
 ghost use Rattle.fv_io.specs.Told.{with_piece, GetsPrefix};
 ghost use Rattle.fv_io.specs.SinkState.{empty, Fits, with_all, with_part};
 
@@ -8,7 +8,7 @@ use crate::{Failed, Sink};
 use std::alloc::{AllocError, Global};
 use std::marker::Model;
 
-/// A sink in memory that holds up to a limit of bytes, and fails at a put that would pass it.
+/// A sink in memory that holds up to a limit of bytes, and fails at a put that would pass it, and at each one after that.
 #[derive(Drop)]
 pub struct MemSink {
     bytes: Vec<u8>,
@@ -62,24 +62,28 @@ impl Sink for MemSink {
     fn put(&mut self, piece: &[u8]) -> Result<(), Failed>
         ensures put { OnOk result (Some self.new.bytes ≡ with_piece (Some self.old.bytes) piece.now) }
         ensures cut { OnErr result (GetsPrefix (Some self.old.bytes) (Some self.new.bytes) piece.now) }
+        ensures first { OnOk result (self.old.faults ≡ 0) }
         ensures steady { OnOk result (self.new.faults ≡ self.old.faults) }
         ensures later { self.old.faults ≤ self.new.faults }
-        ensures failed { OnErr result (HasRisen self.old.faults self.new.faults) }
+        ensures failed { OnErr result (self.new.faults ≡ risen self.old.faults) }
 
-        // A put fails exactly where it would pass the limit, and then fills the sink up to it.
+        // A put fails exactly where one failed before or it would pass the limit, and then fills the sink up to it.
         ensures fits { IsOk result ↔ Fits self.old piece.now }
         ensures all { OnOk result (self.new ≡ with_all self.old piece.now) }
         ensures part { OnErr result (self.new ≡ with_part self.old piece.now) }
     {
         let room = self.limit - self.bytes.len();
-        if piece.len() <= room {
+        if self.faults == 0 && piece.len() <= room {
             match self.bytes.extend_from_slice(piece) {
                 Ok(()) => Ok(()),
                 Err(_) => unreachable!(),
             }
         } else {
             self.faults = self.faults.saturating_add(1);
-            match self.bytes.extend_from_slice(&piece[..room]) {
+            match self
+                .bytes
+                .extend_from_slice(&piece[..room.min(piece.len())])
+            {
                 Ok(()) => Err(Failed),
                 Err(_) => unreachable!(),
             }

@@ -20,7 +20,7 @@ requests-preserved g c =
     let one = c.in-Ok-answer.ensures in
     record {
       unfailed = next.failed;
-      so_far = more_answered g.P.Player g.K.Sink g.S.Source c.args.reader.now c.requests.reader c.args.player.now c.requests.player c.args.source.now c.requests.source c.next.new.source c.args.out.now c.requests.out i.so_far i.keeps.told i.steady i.later
+      so_far = more_answered g.P.Player g.K.Sink g.S.Source c.args.reader.now c.requests.reader c.args.player.now c.requests.player c.args.source.now c.requests.source c.next.new.source c.args.out.now c.requests.out i.so_far i.keeps.told i.steady i.unwritten
           c.answer.new.player c.answer.new.out c.in-Ok.request (next.told (λ e. (let no : ⊥ = cc e in no))) c.next.new.self one.ok (sym c.ends.ensures ∙ c.if-ends.false) next.counted next.rest;
       keeps = record { told = next.keeps.told ∙ i.keeps.told; rewinds = next.keeps.rewinds ∙ i.keeps.rewinds; later = omega (arith, next.keeps.later, i.keeps.later) };
       steady = next.steady (λ e. (let no : ⊥ = cc e in no)) ∙ i.steady;
@@ -32,21 +32,21 @@ pub returns-in-Err-clause-stop : goal.returns-in-Err-clause-stop
 returns-in-Err-clause-stop g c =
     let i = c.requests.invariant in
     let next = c.in-Err.ensures in
-    part_refused g.P.Player g.K.Sink g.S.Source c.args.reader.now c.requests.reader c.args.player.now c.requests.player c.args.source.now c.requests.source c.next.new.source c.args.out.now c.requests.out i.so_far i.keeps.told i.steady i.later
+    part_refused g.P.Player g.K.Sink g.S.Source c.args.reader.now c.requests.reader c.args.player.now c.requests.player c.args.source.now c.requests.source c.next.new.source c.args.out.now c.requests.out i.so_far i.keeps.told i.steady i.unwritten
     c.in-Err.fault next.cause next.told
 
 pub returns-in-Err-answer-clause-stop : goal.returns-in-Err-answer-clause-stop
 returns-in-Err-answer-clause-stop g c =
     let i = c.requests.invariant in
     let next = c.in-Ok.ensures in
-    part_unanswered g.P.Player g.K.Sink g.S.Source c.args.reader.now c.requests.reader c.args.player.now c.requests.player c.args.source.now c.requests.source c.next.new.source c.args.out.now c.requests.out i.so_far i.keeps.told i.steady i.later
+    part_unanswered g.P.Player g.K.Sink g.S.Source c.args.reader.now c.requests.reader c.args.player.now c.requests.player c.args.source.now c.requests.source c.next.new.source c.args.out.now c.requests.out i.so_far i.keeps.told i.steady i.unwritten
     c.answer.new.player c.answer.new.out c.in-Ok.request (next.told (λ e. (let no : ⊥ = cc e in no))) c.in-Err-answer.stop c.in-Err-answer.ensures.err
 
 pub returns-then-ends-clause-ok : goal.returns-then-ends-clause-ok
 returns-then-ends-clause-ok g c =
     let i = c.requests.invariant in
     let next = c.in-Ok.ensures in
-    all_answered g.P.Player g.K.Sink g.S.Source c.args.reader.now c.requests.reader c.args.player.now c.requests.player c.args.source.now c.requests.source c.next.new.source c.args.out.now c.requests.out i.so_far i.keeps.told i.steady i.later
+    all_answered g.P.Player g.K.Sink g.S.Source c.args.reader.now c.requests.reader c.args.player.now c.requests.player c.args.source.now c.requests.source c.next.new.source c.args.out.now c.requests.out i.so_far i.keeps.told i.steady i.unwritten
     c.answer.new.player c.answer.new.out c.in-Ok.request (next.told (λ e. (let no : ⊥ = cc e in no))) c.in-Ok-answer.ensures.ok (sym c.ends.ensures ∙ c.if-ends.true) (next.steady (λ e. (let no : ⊥ = cc e in no)))
 
 pub requests-smaller : goal.requests-smaller
