@@ -150,8 +150,8 @@ def says(err, line):
     return err.endswith(line) and all(" made " in it or it.split(" ")[0] in EVENTS or it is told[-1] for it in told)
 
 
-def fault_of(ended, whole, statuses, ends):
-    """What is wrong with a run, or None."""
+def fault_of(ended, whole, statuses, ends, quiet):
+    """What is wrong with a run, or None. Nothing comes on standard error after a write to it that failed, where it is to be quiet."""
     status, out, err, counts = ended
     if status not in statuses:
         return f"status {status}, {err!r}, not one of {sorted(statuses)}"
@@ -159,8 +159,10 @@ def fault_of(ended, whole, statuses, ends):
         return "status 0 without the whole stream"
     if status == 0 and not says(err, ""):
         return f"status 0 and a line {err!r}"
-    if status and counts["say"] and err and not says(err, LINES[status]):
+    if status and counts["say"] and err and not says(err, "" if quiet else LINES[status]):
         return f"status {status} and the line {err!r}"
+    if quiet and err.endswith(LINES[5]):
+        return f"the line {err!r} after a write that failed"
     if not whole.startswith(out):
         return f"{len(out)} bytes that are no beginning of the stream"
     if status != 5 and len(out) not in ends:
@@ -195,7 +197,7 @@ class Tally:
             for number, ended in zip(numbers, runs):
                 self.runs += 1
                 ways[ended[0]] += 1
-                fault = fault_of(ended, whole, statuses, ends)
+                fault = fault_of(ended, whole, statuses, ends, kind == "say" and not case.also)
                 if fault:
                     self.wrong += 1
                     print(f"in_turn: {case.said}: {kind} {number} refused: {fault}")

@@ -21,8 +21,8 @@ of_err (Err e) failed p = p
 
 -- where a put failed, the line is cut short
 pub says_cut : {X E : Type 0} (sink : Ghosts E) (text : X → List ℕ) (xs : List X) (i : ℕ) (d : X) (old mid new : E) → i < length xs → Puts sink old mid (flat_map text (take i xs)) → PutsPrefix sink mid new (text (get_or xs i d))
-    → IsLater sink old mid → IsLater sink mid new → SinkFailed sink mid new → Says sink old new (flat_map text xs)
-says_cut sink text xs i d old mid new within put cut before later failed = record {
+    → sink.faults mid ≡ sink.faults old → IsLater sink mid new → SinkFailed sink mid new → Says sink old new (flat_map text xs)
+says_cut sink text xs i d old mid new within put cut steady later failed = record {
   cut = put_cut text xs i 1 (sink.bytes old) (sink.bytes mid) (sink.bytes new) put (rw (one_more text xs i d within) cut);
   whole = λ none. absurd (none (omega arith));
   later = omega arith;

@@ -11,7 +11,6 @@ use Rattle.clip_term.specs.Terms.{filter_of}
 use Rattle.serve_machine.specs.declared.event.Event.TheVariants.{Hit, Enter, Evict, Publish}
 use Rattle.fv_io.specs.declared.sink.Sink.{Ghosts}
 use Rattle.fv_io.specs.Sink.{Puts, PutsPrefix, IsLater, SinkFailed}
-use Rattle.serve_text.specs.Lines.{Says, write_line}
 
 -- a frame of node i was made
 abbrev pub makes : ℕ → Event → Bool
@@ -108,12 +107,10 @@ pub record PutsUpTo {K : Type 0} (sink : Ghosts K) (old new : K) (text rest : Li
 -- ---- A report or a journal that is put on standard error.
 
 module _ {E : Type 0} (lines : Ghosts E) (err said : E) (text : List ℕ) where
-  -- a prefix of the text was put before the sink failed, and after it the line of a failed write, as far as it could be
+  -- a prefix of the text was put, and then the sink failed
   pub record CutsReport : Type 0 where
-    pub mid : E
-    pub cut : PutsPrefix lines err mid text
-    pub failed : SinkFailed lines err mid
-    pub line : Says lines mid said write_line
+    pub cut : PutsPrefix lines err said text
+    pub failed : SinkFailed lines err said
 
   -- the text was put, or cut short
   pub record Reports (status : ℕ) : Type 0 where
