@@ -1,7 +1,7 @@
 // A source of bytes that can be read again from its start.
 ghost use Rattle.std.specs.Prelude.{◌≡◌, ◌≤◌, ◌+◌, List, ℕ, length, Option, IfOk, OnOk, OnErr};
 ghost use Rattle.std.specs.Option.{ForSome};
-ghost use Rattle.fv_io.specs.Faults.{risen, HasRisen};
+ghost use Rattle.fv_io.specs.Faults.{risen};
 ghost use Rattle.fv_io.specs.Told.{Reads};
 ghost use Rattle.fv_io.specs.Reading.{Skips};
 
@@ -37,7 +37,7 @@ pub trait Source {
         ensures rewinds { rewinds self.new ≡ rewinds self.old }
         ensures later { faults self.old ≤ faults self.new }
         ensures steady { OnOk result (faults self.new ≡ faults self.old) }
-        ensures failed { OnErr result (HasRisen (faults self.old) (faults self.new)) };
+        ensures failed { OnErr result (faults self.new ≡ risen (faults self.old)) };
 
     /// Goes back to the first byte.
     fn rewind(&mut self) -> Result<(), Failed>
@@ -47,7 +47,7 @@ pub trait Source {
         ensures bytes { bytes self.new ≡ bytes self.old }
         ensures later { faults self.old ≤ faults self.new }
         ensures steady { OnOk result (faults self.new ≡ faults self.old) }
-        ensures failed { OnErr result (HasRisen (faults self.old) (faults self.new)) };
+        ensures failed { OnErr result (faults self.new ≡ risen (faults self.old)) };
 
     /// Goes past the next `size` bytes, and answers how many there were: fewer than `size` only at the end. Where a
     /// type doesn't do it in a way of its own, the bytes are read and dropped.
@@ -60,7 +60,7 @@ pub trait Source {
         ensures rewinds { rewinds self.new ≡ rewinds self.old }
         ensures later { faults self.old ≤ faults self.new }
         ensures steady { OnOk result (faults self.new ≡ faults self.old) }
-        ensures failed { OnErr result (HasRisen (faults self.old) (faults self.new)) }
+        ensures failed { OnErr result (faults self.new ≡ risen (faults self.old)) }
     {
         let mut scratch = [0; SKIP_PIECE];
         let mut passed = 0;

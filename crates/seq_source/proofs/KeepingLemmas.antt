@@ -1,7 +1,8 @@
 -- What two calls in a row keep, and what a fault of the second shows.
-use Rattle.std.proofs.Common.{◌≡◌, ℕ, ◌≤◌, length, List, Some, Result, Ok, Err, IfErr, inl, inr, ◌∙◌, arith}
+use Rattle.std.proofs.Common.{◌≡◌, ℕ, ◌≤◌, length, List, Some, Result, Ok, Err, IfErr, inl, inr, ◌∙◌, ap, arith}
 use Rattle.fv_io.specs.declared.source.Source.{Ghosts}
-use Rattle.fv_io.specs.Source.{KeepsSource}
+use Rattle.fv_io.specs.Faults.{risen}
+use Rattle.fv_io.specs.Source.{KeepsSource, IsSteady}
 use Rattle.seq_source.specs.declared.fault.SeqFault.{SeqFault}
 use Rattle.seq_source.specs.declared.fault.SeqFault.TheVariants.{Read, Changed, Memory}
 use Rattle.seq_source.specs.FrameSource.{RewindsOnce}
@@ -19,15 +20,15 @@ module _ {S : Type 0} (source : Ghosts S) where
   }
 
   -- a fault of the second call is one of both
-  pub shows_both : (old mid new : S) → RewindsOnce source old mid → (n past : ℕ) (fault : SeqFault) → FaultShows source mid new n past fault → FaultShows source old new n past fault
-  shows_both old mid new first n past Read shown = (let before = first.later in omega (arith, shown))
-  shows_both old mid new first n past (Changed frame want got) shown =
+  pub shows_both : (old mid new : S) → RewindsOnce source old mid → IsSteady source old mid → (n past : ℕ) (fault : SeqFault) → FaultShows source mid new n past fault → FaultShows source old new n past fault
+  shows_both old mid new first steady n past Read shown = shown ∙ ap risen steady
+  shows_both old mid new first steady n past (Changed frame want got) shown =
       record { frame_is = shown.frame_is; want_is = shown.want_is; early = shown.early; at = shown.at; ended = λ bytes is. shown.ended bytes (first.told ∙ is) }
-  shows_both old mid new first n past Memory shown = tt
+  shows_both old mid new first steady n past Memory shown = tt
 
-  pub answer_shows : {T : Type 0} (r : Result T SeqFault) (old mid new : S) → RewindsOnce source old mid → (n past : ℕ) → IfErr r (FaultShows source mid new n past) → IfErr r (FaultShows source old new n past)
-  answer_shows (Ok value) old mid new first n past shown = tt
-  answer_shows (Err fault) old mid new first n past shown = shows_both old mid new first n past fault shown
+  pub answer_shows : {T : Type 0} (r : Result T SeqFault) (old mid new : S) → RewindsOnce source old mid → IsSteady source old mid → (n past : ℕ) → IfErr r (FaultShows source mid new n past) → IfErr r (FaultShows source old new n past)
+  answer_shows (Ok value) old mid new first steady n past shown = tt
+  answer_shows (Err fault) old mid new first steady n past shown = shows_both old mid new first steady n past fault shown
 
 -- a fault over bytes that have all of the frame doesn't say that they changed
 pub no_change : {S : Type 0} (source : Ghosts S) (old new : S) (n past : ℕ) (told : List ℕ) → source.bytes old ≡ Some told → past ≤ length told → (fault : SeqFault) → FaultShows source old new n past fault → IsNoChange fault

@@ -4,7 +4,7 @@ use Rattle.std.specs.Prelude.{IsErrOf, drop}
 use Rattle.std.specs.FinMap.{get}
 use Rattle.std.proofs.lemmas.Bool.Decides.{nat_tests}
 use Rattle.std.proofs.lemmas.List.FromFn.{get_or-map-range_with_len}
-use Rattle.fv_io.specs.Faults.{HasRisen, with_faults}
+use Rattle.fv_io.specs.Faults.{risen, HasRisen, with_faults}
 use Rattle.fv_io.specs.World.{World, InWorld}
 use Rattle.fv_io.specs.declared.files.FetchFault.{FetchFault}
 use Rattle.fv_io.specs.declared.files.FetchFault.TheVariants as of_fetch
@@ -293,7 +293,7 @@ on_some None P is = tt
 -- ---- counts of faults
 
 -- a list that failed shows in the count of the files once it is closed
-pub list_rose : (before start mid now after faults : ℕ) → before ≤ start → mid ≡ with_faults start faults → mid ≤ now → now ≤ after → HasRisen 0 faults → HasRisen before after
+pub list_rose : (before start mid now after faults : ℕ) → before ≤ start → mid ≡ with_faults start faults → mid ≤ now → now ≤ after → faults ≡ risen 0 → HasRisen before after
 list_rose before start mid now after faults first closed more last failed = omega (arith, first, closed, more, last, failed)
 
 -- and one that didn't leaves it as it was

@@ -5,7 +5,7 @@ use Rattle.std.proofs.lemmas.List.Concat.{flat_map-append}
 use Rattle.fv_io.specs.declared.sink.Sink.{Ghosts}
 use Rattle.fv_io.specs.Sink.{PutsPrefix}
 use Rattle.fv_io.specs.declared.source.Source as of_source
-use Rattle.fv_io.specs.Faults.{HasRisen}
+use Rattle.fv_io.specs.Faults.{risen}
 use Rattle.fv_io.specs.Source.{IsSteady, SourceFailed}
 use Rattle.fv_io.specs.Told.{with_piece}
 use Rattle.fv_io.proofs.CallerLemmas.{with_piece_twice, with_no_piece, gets_all, gets_more, gets_after}
@@ -171,7 +171,7 @@ module _ {P K S : Type 0} (player : of_player.Ghosts P) (sink : Ghosts K) (sourc
 
     refuses : (fault : SessionFault) → (err fault ≡ err Read → SourceFailed source t t') → ((err fault ≡ err Read → ⊥) → (told : List ℕ) → source.bytes t ≡ Some told → err fault ≡ next_of now.count (left told))
         → Refuses player sink source reader p q s t' old here so_far.asks fault
-    refuses Read failed next = (subst (λ n. HasRisen n (source.faults t')) steady (failed refl), λ told is. (requests_after now.count (lines (left told)), so_far.begins told is))
+    refuses Read failed next = (failed refl ∙ ap risen steady, λ told is. (requests_after now.count (lines (left told)), so_far.begins told is))
     refuses LineTooLong failed next = λ told is. none_asked (all told) so_far.asks now.count (left told) (so_far.begins told is) LineTooLong (next (λ e. (let no : ⊥ = cc e in no)) told (same ∙ is))
     refuses TooManyLines failed next = λ told is. none_asked (all told) so_far.asks now.count (left told) (so_far.begins told is) TooManyLines (next (λ e. (let no : ⊥ = cc e in no)) told (same ∙ is))
 

@@ -62,7 +62,7 @@ impl Sink for MemSink {
     fn put(&mut self, piece: &[u8]) -> Result<(), Failed>
         ensures put { OnOk result (Some self.new.bytes ≡ with_piece (Some self.old.bytes) piece.now) }
         ensures cut { OnErr result (GetsPrefix (Some self.old.bytes) (Some self.new.bytes) piece.now) }
-        ensures first { OnOk result (self.old.faults ≡ 0) }
+        ensures unfailed { OnOk result (self.old.faults ≡ 0) }
         ensures steady { OnOk result (self.new.faults ≡ self.old.faults) }
         ensures later { self.old.faults ≤ self.new.faults }
         ensures failed { OnErr result (self.new.faults ≡ risen self.old.faults) }

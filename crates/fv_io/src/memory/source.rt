@@ -2,7 +2,7 @@
 ghost use Rattle.std.specs.Prelude.{◌≡◌, ◌<◌, ◌≤◌, ◌+◌, ◌++◌, List, [], ℕ, IfOk, IfSome, OnOk, OnErr, is_err, is_some, length, take, drop, Some, None, MatchOption};
 ghost use Rattle.fv_io.specs.Shared.{shared_bytes};
 ghost use Rattle.std.specs.Option.{option_map, ForSome};
-ghost use Rattle.fv_io.specs.Faults.{risen, HasRisen};
+ghost use Rattle.fv_io.specs.Faults.{risen};
 ghost use Rattle.fv_io.specs.Told.{Reads};
 ghost use Rattle.fv_io.specs.Trips.{reach as reach_of};
 ghost use Rattle.fv_io.specs.SourceState.{bytes_now, told_bytes, at_start, read_trip, rewind_trip, after_trip, read_amount, read_on, rewound};
@@ -169,7 +169,7 @@ impl Source for MemSource {
         ensures rewinds { self.new.rewinds ≡ self.old.rewinds }
         ensures later { self.old.faults ≤ self.new.faults }
         ensures steady { OnOk result (self.new.faults ≡ self.old.faults) }
-        ensures failed { OnErr result (HasRisen self.old.faults self.new.faults) }
+        ensures failed { OnErr result (self.new.faults ≡ risen self.old.faults) }
 
         // A read fails exactly at a trip, and removes it.
         ensures trips { is_err result ≡ is_some (read_trip self.old) }
@@ -196,7 +196,7 @@ impl Source for MemSource {
         ensures bytes { told_bytes self.new ≡ told_bytes self.old }
         ensures later { self.old.faults ≤ self.new.faults }
         ensures steady { OnOk result (self.new.faults ≡ self.old.faults) }
-        ensures failed { OnErr result (HasRisen self.old.faults self.new.faults) }
+        ensures failed { OnErr result (self.new.faults ≡ risen self.old.faults) }
 
         // A rewind fails exactly at a trip, and removes it.
         ensures trips { is_err result ≡ is_some (rewind_trip self.old) }
